@@ -1,0 +1,192 @@
+//! The data that a reader makes of a text.
+ghost use Rattle.std.specs.Prelude.{◌≡◌, IfOk, MatchOption};
+ghost use Rattle.lisp_data.specs.Datum.{Dats, nil, cons, length_of};
+ghost use Rattle.lisp_data.specs.DatumView.{datum_of, data_of};
+
+use crate::ids::MethodId;
+use crate::name::Name;
+use crate::text::Text;
+use std::alloc::{AllocError, Global};
+use std::marker::Model;
+use std::rc::Rc;
+
+/// A datum (HyperSpec 2). The empty list is the symbol NIL.
+#[cycle(datum)]
+#[derive(Drop)]
+pub enum Datum {
+    Int(i64),
+    Sym(Name),
+    Str(Text),
+    List(Data),
+    Dotted(Dot),
+    Method(MethodId),
+}
+
+/// The elements of a list, which shares its tails with other lists and knows its length. Contracts see the list.
+#[cycle(datum)]
+pub struct Data {
+    first: Link,
+    length: u64,
+}
+
+/// The elements of a list before its dot, and the atom after it. Contracts see both.
+#[cycle(datum)]
+#[derive(Drop)]
+pub struct Dot {
+    front: Data,
+    last: Rc<Datum>,
+}
+
+#[cycle(datum)]
+#[derive(Drop)]
+enum Link {
+    End,
+    More(Rc<Pair>),
+}
+
+#[cycle(datum)]
+#[derive(Drop)]
+struct Pair {
+    head: Datum,
+    tail: Data,
+}
+
+impl Model for Data {
+    ghost use Rattle.std.specs.Prelude.{◌≡◌};
+    ghost use Rattle.lisp_data.specs.Datum.{Dats, data_code, size_of_data, length_of};
+
+    ghost Value = { Dats };
+
+    ghost coded = { data_code };
+
+    ghost use Rattle.lisp_data.specs.DatumView.{data_of};
+
+    ghost view = { λ a. data_of a.first };
+
+    ghost invariant = { λ a. a.length ≡ length_of (data_of a.first) };
+
+    ghost size = { size_of_data };
+}
+
+impl Model for Dot {
+    ghost use Rattle.lisp_data.specs.Datum.{dot_code, size_of_dot};
+    ghost use Rattle.lisp_data.specs.Datum as of;
+
+    ghost Value = { of.Dot };
+
+    ghost coded = { dot_code };
+
+    ghost use Rattle.lisp_data.specs.DatumView.{datum_of};
+
+    ghost view = { λ a. record { front = a.front; last = datum_of a.last.value } };
+
+    ghost size = { size_of_dot };
+}
+
+impl Data {
+    /// The empty list.
+    pub fn new() -> Data
+        ensures { result ≡ nil }
+    {
+        Data {
+            first: Link::End,
+            length: 0,
+        }
+    }
+
+    /// The number of elements.
+    pub fn len(&self) -> u64
+        ensures { result ≡ length_of self.now }
+    {
+        self.length
+    }
+
+    /// The list with this element before the others.
+    pub fn cons(alloc: Global, head: Datum, tail: Data) -> Result<Data, AllocError>
+        ensures { IfOk result (λ r. r ≡ cons (datum_of head) tail) }
+    {
+        let length = tail.len();
+        if length == u64::MAX {
+            return Err(AllocError);
+        }
+        let pair = Rc::new(alloc, Pair { head, tail })?;
+        Ok(Data {
+            first: Link::More(pair),
+            length: length + 1,
+        })
+    }
+
+    /// The first element and the others, or None of the empty list.
+    pub fn split_first(&self) -> Option<(&Datum, &Data)>
+        ensures { MatchOption result (self.now ≡ nil) (λ p. self.now ≡ cons (datum_of p.0.now) p.1.now) }
+    {
+        match &self.first {
+            Link::End => None,
+            Link::More(pair) => Some((&pair.head, &pair.tail)),
+        }
+    }
+
+    /// The same list, in a few steps whatever its length.
+    pub fn copy(&self) -> Result<Data, AllocError>
+        ensures { IfOk result (λ r. r ≡ self.now) }
+    {
+        match &self.first {
+            Link::End => Ok(Data::new()),
+            Link::More(pair) => Ok(Data {
+                first: Link::More(pair.clone()?),
+                length: self.length,
+            }),
+        }
+    }
+
+    fn into_first(self) -> Link
+        ensures { data_of result ≡ self }
+    {
+        let Data { first, length: _ } = self;
+        first
+    }
+}
+
+impl Dot {
+    /// The list of these elements that ends in this atom.
+    pub fn new(alloc: Global, front: Data, last: Datum) -> Result<Dot, AllocError>
+        ensures { IfOk result (λ r. r ≡ record { front = front; last = datum_of last }) }
+    {
+        let last = Rc::new(alloc, last)?;
+        Ok(Dot { front, last })
+    }
+
+    /// The elements before the dot.
+    pub fn front(&self) -> &Data
+        ensures { result.now ≡ self.now.front }
+    {
+        &self.front
+    }
+
+    /// The atom after the dot.
+    pub fn last(&self) -> &Datum
+        ensures { datum_of result.now ≡ self.now.last }
+    {
+        &self.last
+    }
+}
+
+impl Drop for Data {
+    #[cycle(datum)]
+    fn drop(self) {
+        let Data { first, length: _ } = self;
+        let mut link = first;
+        loop {
+            match link {
+                Link::End => return,
+                Link::More(pair) => match Rc::into_inner(pair) {
+                    None => return,
+                    Some(Pair { head, tail }) => {
+                        drop(head);
+                        link = tail.into_first();
+                    }
+                },
+            }
+        }
+    }
+}

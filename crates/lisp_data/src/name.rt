@@ -1,0 +1,95 @@
+//! The names of symbols.
+ghost use Rattle.std.specs.Prelude.{◌≡◌, ◌↔◌, IfOk, IsTrue};
+
+use crate::text::Text;
+use std::alloc::AllocError;
+use std::marker::Model;
+
+/// Where the characters of a name lie.
+#[derive(Drop)]
+pub enum Spelling {
+    Fixed(&'static str),
+    Shared(Text),
+}
+
+/// The name of a symbol: its characters, in upper case, and whether it is a keyword (HyperSpec 11.1.2.3).
+#[derive(Drop)]
+pub struct Name {
+    spelling: Spelling,
+    keyword: bool,
+}
+
+impl Model for Name {
+    ghost use Rattle.lisp_data.specs.Name.{Nam, name_code};
+
+    ghost Value = { Nam };
+
+    ghost coded = { name_code };
+
+    ghost use Rattle.lisp_data.specs.NameView.{spelled};
+
+    ghost view = { λ a. record { text = spelled a.spelling; keyword = a.keyword } };
+}
+
+impl Name {
+    ghost use Rattle.lisp_data.specs.NameView.{spelled};
+    ghost use Rattle.std.specs.Prelude.{false};
+
+    /// A name of the program's own, which takes no memory. It is no keyword.
+    pub fn fixed(text: &'static str) -> Name
+        ensures { result ≡ record { text = text.now; keyword = false } }
+    {
+        Name {
+            spelling: Spelling::Fixed(text),
+            keyword: false,
+        }
+    }
+
+    /// The name of these characters.
+    pub fn new(text: Text, keyword: bool) -> Name
+        ensures { result ≡ record { text = text; keyword = keyword } }
+    {
+        Name {
+            spelling: Spelling::Shared(text),
+            keyword,
+        }
+    }
+
+    /// Its characters, a keyword's without the colon.
+    pub fn as_str(&self) -> &str
+        ensures { result.now ≡ self.now.text }
+    {
+        match &self.spelling {
+            Spelling::Fixed(text) => text,
+            Spelling::Shared(text) => text.as_str(),
+        }
+    }
+
+    /// Whether it is a keyword.
+    pub fn is_keyword(&self) -> bool
+        ensures { result ≡ self.now.keyword }
+    {
+        self.keyword
+    }
+
+    /// The same name, in a few steps whatever its length.
+    pub fn copy(&self) -> Result<Name, AllocError>
+        ensures { IfOk result (λ r. r ≡ self.now) }
+    {
+        let spelling = match &self.spelling {
+            Spelling::Fixed(text) => Spelling::Fixed(text),
+            Spelling::Shared(text) => Spelling::Shared(text.copy()?),
+        };
+        Ok(Name {
+            spelling,
+            keyword: self.keyword,
+        })
+    }
+
+    /// Whether both are one name.
+    pub fn is(&self, other: &Name) -> bool
+        ensures { IsTrue result ↔ (self.now ≡ other.now) }
+    {
+        self.keyword == other.keyword && self.as_str() == other.as_str()
+    }
+}
