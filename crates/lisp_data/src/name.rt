@@ -1,4 +1,5 @@
 //! The names of symbols.
+ghost use Rattle.lisp_data.specs.Name.{same_name};
 ghost use Rattle.std.specs.Prelude.{◌≡◌, ◌↔◌, IfOk, IsTrue};
 
 use crate::text::Text;
@@ -88,7 +89,8 @@ impl Name {
 
     /// Whether both are one name.
     pub fn is(&self, other: &Name) -> bool
-        ensures { IsTrue result ↔ (self.now ≡ other.now) }
+        ensures test { result ≡ same_name self.now other.now }
+        ensures only { IsTrue result ↔ (self.now ≡ other.now) }
     {
         self.keyword == other.keyword && self.as_str() == other.as_str()
     }

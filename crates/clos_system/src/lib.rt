@@ -1,0 +1,8 @@
+//! Sessions of the language: top-level forms, and runs of whole texts.
+#![tactic(auto)]
+
+pub mod arguments;
+pub mod class;
+pub mod effective;
+pub mod form;
+pub mod generic;
