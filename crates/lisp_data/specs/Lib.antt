@@ -4,3 +4,4 @@ pub mod Value
 pub mod ValueView
 pub mod Datum
 pub mod DatumView
+pub mod Print
