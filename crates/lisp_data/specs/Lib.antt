@@ -5,3 +5,5 @@ pub mod ValueView
 pub mod Datum
 pub mod DatumView
 pub mod Print
+pub mod PrintView
+pub mod Equality
