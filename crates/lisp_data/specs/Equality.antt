@@ -1,4 +1,4 @@
--- Where EQL does not decide (HyperSpec, functions EQL and EQUAL).
+-- Where EQL does not decide (HyperSpec 5.3, functions EQL and EQUAL).
 use Rattle.std.specs.Prelude.{Bool, true, false}
 use Rattle.lisp_data.specs.Value.{Val, string, list, cons}
 

@@ -1,6 +1,5 @@
-//! When two values are the same (HyperSpec, functions EQL and EQUAL).
+//! When two values are the same (HyperSpec 5.3, functions EQL and EQUAL).
 ghost use Rattle.std.specs.Prelude.{◌≡◌, ◌↔◌, IfOk, IsTrue, is_err};
-ghost use Rattle.lisp_data.specs.Value.{Vals};
 ghost use Rattle.lisp_data.specs.ValueView.{value_of};
 ghost use Rattle.lisp_data.specs.Equality.{is_by_object};
 

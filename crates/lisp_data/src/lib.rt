@@ -7,6 +7,8 @@ pub mod ids;
 pub mod name;
 pub mod naming;
 pub mod print;
+#[cfg(test)]
+mod tests;
 pub mod text;
 pub mod value;
 

@@ -29,7 +29,7 @@ pub fn princ<N: Naming>(alloc: Global, value: &Value, names: &N) -> Result<Vec<u
     Ok(out)
 }
 
-// Recurses into nesting alone.
+// Each function below appends to what is written already. They recurse into nested lists, never along one.
 #[cycle(print)]
 fn print_value<N: Naming>(
     out: &mut Vec<u8>,
@@ -37,7 +37,8 @@ fn print_value<N: Naming>(
     readably: bool,
     names: &N,
 ) -> Result<(), AllocError>
-    ensures { OnOk result (out.new.items ≡ out.old.items ++ text_of readably (N.names names.now) (value_of value.now)) }
+    ensures { OnOk result (out.new.items
+        ≡ out.old.items ++ text_of readably (N.names names.now) (value_of value.now)) }
 {
     match value {
         Value::Int(number) => out.extend_from_slice(Buffer::new().format(*number).as_bytes()),
@@ -58,7 +59,8 @@ fn print_list<N: Naming>(
     readably: bool,
     names: &N,
 ) -> Result<(), AllocError>
-    ensures { OnOk result (out.new.items ≡ out.old.items ++ list_text (texts_of readably (N.names names.now) items.now)) }
+    ensures { OnOk result (out.new.items
+        ≡ out.old.items ++ list_text (texts_of readably (N.names names.now) items.now)) }
 {
     let Some((first, mut rest)) = items.split_first() else {
         return out.extend_from_slice(b"NIL");
@@ -74,7 +76,8 @@ fn print_list<N: Naming>(
 }
 
 fn print_name(out: &mut Vec<u8>, name: &Name) -> Result<(), AllocError>
-    ensures { OnOk result (out.new.items ≡ out.old.items ++ name_text name.now) }
+    ensures { OnOk result (out.new.items
+        ≡ out.old.items ++ name_text name.now) }
 {
     if name.is_keyword() {
         out.extend_from_slice(b":")?;
@@ -83,7 +86,8 @@ fn print_name(out: &mut Vec<u8>, name: &Name) -> Result<(), AllocError>
 }
 
 fn print_known(out: &mut Vec<u8>, name: Option<&Name>) -> Result<(), AllocError>
-    ensures { OnOk result (out.new.items ≡ out.old.items ++ known_text (option_copied name.entry)) }
+    ensures { OnOk result (out.new.items
+        ≡ out.old.items ++ known_text (option_copied name.entry)) }
 {
     match name {
         Some(name) => print_name(out, name),
@@ -92,7 +96,8 @@ fn print_known(out: &mut Vec<u8>, name: Option<&Name>) -> Result<(), AllocError>
 }
 
 fn print_object(out: &mut Vec<u8>, start: &[u8], name: Option<&Name>) -> Result<(), AllocError>
-    ensures { OnOk result (out.new.items ≡ out.old.items ++ (start.now ++ (known_text (option_copied name.entry) ++ codes ">"))) }
+    ensures { OnOk result (out.new.items
+        ≡ out.old.items ++ (start.now ++ (known_text (option_copied name.entry) ++ codes ">"))) }
 {
     out.extend_from_slice(start)?;
     print_known(out, name)?;
@@ -100,7 +105,8 @@ fn print_object(out: &mut Vec<u8>, start: &[u8], name: Option<&Name>) -> Result<
 }
 
 fn print_string(out: &mut Vec<u8>, text: &str, readably: bool) -> Result<(), AllocError>
-    ensures { OnOk result (out.new.items ≡ out.old.items ++ string_text readably text.now) }
+    ensures { OnOk result (out.new.items
+        ≡ out.old.items ++ string_text readably text.now) }
 {
     if !readably {
         return out.extend_from_slice(text.as_bytes());
@@ -116,7 +122,8 @@ fn print_string(out: &mut Vec<u8>, text: &str, readably: bool) -> Result<(), All
 }
 
 fn print_method<N: Naming>(out: &mut Vec<u8>, id: MethodId, names: &N) -> Result<(), AllocError>
-    ensures { OnOk result (out.new.items ≡ out.old.items ++ method_text (N.names names.now) ((N.names names.now).method id.0)) }
+    ensures { OnOk result (out.new.items
+        ≡ out.old.items ++ method_text (N.names names.now) ((N.names names.now).method id.0)) }
 {
     let Some((generic, specializers)) = names.method_parts(id) else {
         return out.extend_from_slice(b"#<METHOD ?>");
@@ -133,7 +140,9 @@ fn print_classes<N: Naming>(
     classes: &[ClassId],
     names: &N,
 ) -> Result<(), AllocError>
-    ensures { OnOk result (out.new.items ≡ out.old.items ++ list_text (map (class_name_text (N.names names.now)) (map number_of_class classes.now))) }
+    ensures { OnOk result (out.new.items
+        ≡ out.old.items
+        ++ list_text (map (class_name_text (N.names names.now)) (map number_of_class classes.now))) }
 {
     let [first, rest @ ..] = classes else {
         return out.extend_from_slice(b"NIL");
@@ -148,7 +157,8 @@ fn print_classes<N: Naming>(
 }
 
 fn print_instance<N: Naming>(out: &mut Vec<u8>, id: InstanceId, names: &N) -> Result<(), AllocError>
-    ensures { OnOk result (out.new.items ≡ out.old.items ++ instance_text (N.names names.now) id.0) }
+    ensures { OnOk result (out.new.items
+        ≡ out.old.items ++ instance_text (N.names names.now) id.0) }
 {
     let class = names.class_of(id);
     out.extend_from_slice(b"#<")?;
