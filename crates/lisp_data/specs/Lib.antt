@@ -4,3 +4,6 @@ pub mod Value
 pub mod ValueView
 pub mod Datum
 pub mod DatumView
+pub mod Print
+pub mod PrintView
+pub mod Equality

@@ -1,7 +1,7 @@
 -- The values of the language (HyperSpec 4.2, 14.1): what a form can give.
 use Rattle.std.specs.Prelude.{◌≡◌, ◌⊎◌, ℕ, ℤ, ◌+◌, List, [], ◌∷◌, ◌++◌, refl}
-use Rattle.std.specs.Coded.{Coded, code_by, coded×, coded⊎, coded_list, coded_ℕ, coded_ℤ}
-use Rattle.std.proofs.Common.{inl, inr, ◌∙◌, ap, append_assoc}
+use Rattle.std.specs.Coded.{Coded, code_by, coded⊎, coded_list, coded_ℕ, coded_ℤ}
+use Rattle.std.proofs.Common.{inl, inr, ◌∙◌, ap}
 use base.Stored.{coded_unit}
 use Rattle.lisp_data.specs.Name.{Nam, name_code}
 

@@ -1,5 +1,4 @@
 -- The value that a `Value` stands for, and the list that a link does.
-use Rattle.std.specs.Prelude.{ℕ}
 use Rattle.lisp_data.specs.Value.{Val, integer, symbol, string, list, class, generic, method, instance, Vals, nil, cons}
 use Rattle.lisp_data.specs.declared.value.Value.{Value}
 use Rattle.lisp_data.specs.declared.value.Value.TheVariants.{Int, Sym, Str, List, Class, Generic, Method, Instance}

@@ -22,6 +22,22 @@ pub enum Datum {
     Method(MethodId),
 }
 
+impl Datum {
+    /// The same datum, in a few steps whatever its size.
+    pub fn copy(&self) -> Result<Datum, AllocError>
+        ensures { IfOk result (λ r. datum_of r ≡ datum_of self.now) }
+    {
+        match self {
+            Datum::Int(number) => Ok(Datum::Int(*number)),
+            Datum::Sym(name) => Ok(Datum::Sym(name.copy()?)),
+            Datum::Str(text) => Ok(Datum::Str(text.copy()?)),
+            Datum::List(items) => Ok(Datum::List(items.copy()?)),
+            Datum::Dotted(dot) => Ok(Datum::Dotted(dot.copy()?)),
+            Datum::Method(id) => Ok(Datum::Method(*id)),
+        }
+    }
+}
+
 /// The elements of a list, which shares its tails with other lists and knows its length. Contracts see the list.
 #[cycle(datum)]
 pub struct Data {
@@ -154,6 +170,16 @@ impl Dot {
     {
         let last = Rc::new(alloc, last)?;
         Ok(Dot { front, last })
+    }
+
+    /// The same elements and atom, in a few steps whatever their number.
+    pub fn copy(&self) -> Result<Dot, AllocError>
+        ensures { IfOk result (λ r. r ≡ self.now) }
+    {
+        Ok(Dot {
+            front: self.front.copy()?,
+            last: self.last.clone()?,
+        })
     }
 
     /// The elements before the dot.

@@ -24,6 +24,24 @@ pub enum Value {
     Instance(InstanceId),
 }
 
+impl Value {
+    /// The same value, in a few steps whatever its size.
+    pub fn copy(&self) -> Result<Value, AllocError>
+        ensures { IfOk result (λ r. value_of r ≡ value_of self.now) }
+    {
+        match self {
+            Value::Int(number) => Ok(Value::Int(*number)),
+            Value::Sym(name) => Ok(Value::Sym(name.copy()?)),
+            Value::Str(text) => Ok(Value::Str(text.copy()?)),
+            Value::List(items) => Ok(Value::List(items.copy()?)),
+            Value::Class(id) => Ok(Value::Class(*id)),
+            Value::Generic(id) => Ok(Value::Generic(*id)),
+            Value::Method(id) => Ok(Value::Method(*id)),
+            Value::Instance(id) => Ok(Value::Instance(*id)),
+        }
+    }
+}
+
 /// The elements of a list, which shares its tails with other lists and knows its length. Contracts see the list.
 #[cycle(value)]
 pub struct Items {
