@@ -5,9 +5,9 @@ use Rattle.std.proofs.Common.{inl, inr, ◌∙◌, ap}
 use base.Stored.{coded_unit}
 
 pub data Effective : Type 0 where
-  call_method : ℕ → List ℕ → Effective   -- the method, and its next methods
+  call_method : ℕ → List ℕ → Effective  -- the method, and its next methods
   progn : Effective → Effective
-  prog1 : Effective → Effective          -- multiple-value-prog1
+  prog1 : Effective → Effective  -- multiple-value-prog1
 
 -- The form for these methods, the most specific first, which are all primary.
 abbrev pub effective_form : ℕ → List ℕ → Effective

@@ -9,12 +9,12 @@ use Rattle.lisp_data.specs.Value as value
 
 mutual
   pub data Frm : Type 0 where
-    constant : Val → Frm                 -- a self-evaluating object, or what a quote form quotes
-    no_value : Frm                       -- a quote form of a datum that is no value
+    constant : Val → Frm  -- a self-evaluating object, or what a quote form quotes
+    no_value : Frm  -- a quote form of a datum that is no value
     variable : Nam → Frm
     princ : Frm → Frm
     make_instance : Frm → Frm
-    call : Nam → Frms → Frm              -- a function of the program's, with its arguments
+    call : Nam → Frms → Frm  -- a function of the program's, with its arguments
 
   pub data Frms : Type 0 where
     nil : Frms

@@ -5,3 +5,6 @@ pub mod Generic
 pub mod Arguments
 pub mod Effective
 pub mod EffectiveView
+pub mod ParametersView
+pub mod Condition
+pub mod World

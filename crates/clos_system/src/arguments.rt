@@ -4,13 +4,11 @@ ghost use Rattle.lisp_data.specs.Name.{same_name};
 ghost use Rattle.lisp_data.specs.ValueView.{value_of};
 ghost use Rattle.clos_system.specs.Arguments.{argument_named};
 
+use crate::generic::Parameters;
+use lisp_data::{Name, Value};
 use std::alloc::{AllocError, Global};
 use std::marker::Model;
 use std::rc::Rc;
-
-use lisp_data::{Name, Value};
-
-use crate::generic::Parameters;
 
 /// The values worked out so far, in order. Contracts see the list.
 #[derive(Drop)]

@@ -4,10 +4,9 @@ ghost use Rattle.std.specs.List.{list_any};
 ghost use Rattle.lisp_data.specs.Name.{same_name};
 ghost use Rattle.clos_system.specs.Class.{precedence, named};
 
+use lisp_data::{ClassId, Name};
 use std::alloc::{AllocError, Global};
 use std::marker::Model;
-
-use lisp_data::{ClassId, Name};
 
 /// The numbers of some classes, in an order. Contracts see the list.
 #[derive(Drop)]
@@ -47,6 +46,13 @@ impl ClassIds {
     {
         self.ids.push(id)?;
         Ok(())
+    }
+
+    /// The numbers.
+    pub fn as_slice(&self) -> &[ClassId]
+        ensures { map (λ c. c.0) result.now ≡ self.now }
+    {
+        self.ids.as_slice()
     }
 
     /// How many they are.

@@ -3,13 +3,11 @@ ghost use Rattle.std.specs.Prelude.{◌≡◌, ◌∷◌, [], IfOk};
 ghost use Rattle.clos_system.specs.Effective.{effective_form};
 ghost use Rattle.clos_system.specs.EffectiveView.{effective_of};
 
+use crate::generic::MethodIds;
+use lisp_data::MethodId;
 use std::alloc::{AllocError, Global};
 use std::marker::Model;
 use std::rc::Rc;
-
-use lisp_data::MethodId;
-
-use crate::generic::MethodIds;
 
 /// An effective form. Contracts see it as the definitions do.
 #[cycle(effective)]

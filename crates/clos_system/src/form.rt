@@ -3,11 +3,10 @@ ghost use Rattle.std.specs.Prelude.{◌≡◌, IfOk, MatchOption};
 ghost use Rattle.clos_system.specs.Form.{Frms, nil, cons};
 ghost use Rattle.clos_system.specs.FormView.{form_of, forms_of};
 
+use lisp_data::{Name, Value};
 use std::alloc::{AllocError, Global};
 use std::marker::Model;
 use std::rc::Rc;
-
-use lisp_data::{Name, Value};
 
 /// A form. Contracts see it as the definitions do.
 #[cycle(form)]

@@ -2,14 +2,12 @@
 ghost use Rattle.std.specs.Prelude.{◌≡◌, ◌<◌, ◌≤◌, ◌++◌, ◌∷◌, [], IfOk, OnOk, map, position, if◌then◌else◌, is_ok, option_map, length, slice_index, slice_get, insert, remove, ◌==◌, MatchOption};
 ghost use Rattle.clos_system.specs.Generic.{function_named, specializers_of, specializers_in, is_applicable, stands_before, is_before, placed, ordered};
 
+use crate::class::ClassIds;
+use crate::form::Forms;
+use lisp_data::{ClassId, GenericId, MethodId, Name};
 use std::alloc::{AllocError, Global};
 use std::marker::Model;
 use std::rc::Rc;
-
-use lisp_data::{ClassId, GenericId, MethodId, Name};
-
-use crate::class::ClassIds;
-use crate::form::Forms;
 
 /// The numbers of some methods, in an order. Contracts see the list.
 #[derive(Drop)]
@@ -73,7 +71,7 @@ impl MethodIds {
 /// The names of a function's parameters, which are copied by sharing them. Contracts see the list.
 #[derive(Drop)]
 pub struct Parameters {
-    shared: Rc<Vec<Name>>,
+    shared: Option<Rc<Vec<Name>>>,
 }
 
 impl Model for Parameters {
@@ -85,31 +83,49 @@ impl Model for Parameters {
 
     ghost coded = { coded_list name_code };
 
-    ghost view = { λ a. a.shared.value.items };
+    ghost use Rattle.clos_system.specs.ParametersView.{names_in};
+
+    ghost view = { λ a. names_in a.shared };
 }
 
 impl Parameters {
+    /// No parameters, which take no memory.
+    pub fn none() -> Parameters
+        ensures { result ≡ [] }
+    {
+        Parameters { shared: None }
+    }
+
     /// The parameters of these names.
     pub fn new(alloc: Global, names: Vec<Name>) -> Result<Parameters, AllocError>
         ensures { IfOk result (λ r. r ≡ names.items) }
     {
         let shared = Rc::new(alloc, names)?;
-        Ok(Parameters { shared })
+        Ok(Parameters {
+            shared: Some(shared),
+        })
     }
 
     /// The same parameters, in a few steps however many they are.
     pub fn copy(&self) -> Result<Parameters, AllocError>
         ensures { IfOk result (λ r. r ≡ self.now) }
     {
-        let shared = self.shared.clone()?;
-        Ok(Parameters { shared })
+        match &self.shared {
+            None => Ok(Parameters::none()),
+            Some(names) => Ok(Parameters {
+                shared: Some(names.clone()?),
+            }),
+        }
     }
 
     /// The names.
     pub fn as_slice(&self) -> &[Name]
         ensures { result.now ≡ self.now }
     {
-        self.shared.as_slice()
+        match &self.shared {
+            None => &[],
+            Some(names) => names.as_slice(),
+        }
     }
 }
 
@@ -213,4 +229,54 @@ fn more_specific(lists: &[ClassIds], a: &ClassIds, b: &ClassIds) -> bool
         place += 1;
     }
     false
+}
+
+#[tactic(auto, using(crate::proofs::Order::before_with_none, crate::proofs::Order::before_none))]
+fn comes_before(methods: &[Method], lists: &[ClassIds], a: MethodId, b: MethodId) -> bool
+    ensures { result ≡ is_before lists.now (specializers_of methods.now a.0) (specializers_of methods.now b.0) }
+{
+    let Some(first) = method_numbered(methods, a) else {
+        return false;
+    };
+    let Some(second) = method_numbered(methods, b) else {
+        return false;
+    };
+    more_specific(lists, &first.specializers, &second.specializers)
+}
+
+/// Puts a method at its place among ordered ones that were added after it.
+fn place(
+    methods: &[Method],
+    lists: &[ClassIds],
+    order: &mut MethodIds,
+    id: MethodId,
+) -> Result<(), AllocError>
+    ensures { OnOk result (order.new ≡ placed methods.now lists.now id.0 order.old) }
+{
+    let mut at = 0;
+    while at < order.len() && comes_before(methods, lists, order.get(at), id) {
+        at += 1;
+    }
+    order.insert(at, id)
+}
+
+/// The applicable ones of these methods, the most specific first.
+pub fn ordered_methods(
+    alloc: Global,
+    methods: &[Method],
+    lists: &[ClassIds],
+    candidates: &MethodIds,
+) -> Result<MethodIds, AllocError>
+    ensures { IfOk result (λ r. r ≡ ordered methods.now lists.now candidates.now) }
+{
+    let mut order = MethodIds::new(alloc);
+    let mut left = candidates.len();
+    while left > 0 {
+        left -= 1;
+        let id = candidates.get(left);
+        if applies(methods, lists, id) {
+            place(methods, lists, &mut order, id)?;
+        }
+    }
+    Ok(order)
 }

@@ -3,6 +3,9 @@
 
 pub mod arguments;
 pub mod class;
+pub mod condition;
 pub mod effective;
 pub mod form;
 pub mod generic;
+pub mod limits;
+pub mod world;
