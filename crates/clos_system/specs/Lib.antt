@@ -8,3 +8,5 @@ pub mod EffectiveView
 pub mod ParametersView
 pub mod Condition
 pub mod World
+pub mod Meaning
+pub mod Machine

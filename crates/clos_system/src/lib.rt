@@ -8,4 +8,5 @@ pub mod effective;
 pub mod form;
 pub mod generic;
 pub mod limits;
+pub mod machine;
 pub mod world;

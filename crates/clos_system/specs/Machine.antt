@@ -1,0 +1,83 @@
+-- What a state of the machine stands for: the rest of the definition.
+use Rattle.std.specs.Prelude.{◌≡◌, ℕ, zero, suc, ◌+◌, ◌*◌, List, [], ◌∷◌, ◌++◌, Result, Ok, Err, length}
+use Rattle.lisp_data.specs.Value.{Val}
+use Rattle.lisp_data.specs.ValueView.{value_of}
+use Rattle.lisp_data.specs.declared.value.Value.{Value}
+use Rattle.clos_system.specs.World.{State}
+use Rattle.clos_system.specs.Meaning.{Out, Gave, Stopped, Run, Eval, then_do, gave, step_then, written, made, designated, collect, called, sequence, meaning}
+use Rattle.clos_system.specs.declared.arguments.Context.{Context}
+use Rattle.clos_system.specs.declared.condition.Condition.{Condition}
+use Rattle.clos_system.specs.declared.condition.Stop.{Stop}
+use Rattle.clos_system.specs.declared.condition.Stop.TheVariants.{Refused, Storage}
+use Rattle.clos_system.specs.declared.machine.Doing.{Doing}
+use Rattle.clos_system.specs.declared.machine.Doing.TheVariants.{Start, Give}
+use Rattle.clos_system.specs.declared.machine.Frame.{Frame}
+use Rattle.clos_system.specs.declared.machine.Frame.TheVariants.{Princ, MakeInstance, Collect, Body, Known, Passing}
+use Rattle.clos_system.specs.declared.machine.Level.{Level}
+use Rattle.clos_system.specs.declared.machine.Machine.{Machine}
+
+-- the context under a frame
+abbrev pub below : Context → Frame → Context
+below env Princ = env
+below env MakeInstance = env
+below env (Collect name rest values) = env
+below env (Body rest saved) = saved
+below env (Known saved) = saved
+below env Passing = env
+
+-- what a frame does with the outcome of what it waits for
+abbrev pub passed : Eval → Context → Frame → Out → Out
+passed ev env Princ o = then_do o (λ v. step_then (written v))
+passed ev env MakeInstance o = then_do o (λ v u. made ev env (designated u v) u)
+passed ev env (Collect name rest values) o = then_do o (λ v. collect ev env rest (values ++ v ∷ []) (called ev name))
+passed ev env (Body rest saved) o = then_do o (λ v. sequence ev env rest v)
+passed ev env (Known saved) o = o
+passed ev env Passing o = o
+
+-- what the levels do with an outcome, the top one first
+abbrev pub resume : List Level → Context → Out → Out
+resume [] env o = o
+resume (l ∷ ls) env o = resume ls (below env l.frame) (passed (meaning l.room) env l.frame o)
+
+abbrev pub doing_run : ℕ → Context → Doing → Run
+doing_run room env (Start task) w s = meaning room env task w s
+doing_run room env (Give value) w s = Gave (value_of value) w s
+
+-- how the run ends from this state of the machine
+abbrev pub denote : Machine → Doing → Run
+denote m d w s = resume m.levels m.context (doing_run m.room m.context d w s)
+
+-- how it ends where a form has begun, or its level was taken off, and `run` is left to do
+abbrev pub inside : Machine → Run → Run
+inside m run w s = resume m.levels m.context (run w s)
+
+-- A control handler changes the machine alone.
+abbrev pub Leads : Run → State → Result Doing Stop → Machine → Type 0
+Leads run w (Ok d) m = (t : ℕ) → denote m d w t ≡ run w t
+Leads run w (Err (Refused c)) m = (t : ℕ) → run w t ≡ Stopped c w t
+Leads run w (Err Storage) m = Unit {0}
+
+-- A turn may take steps and change the state; want of memory leaves both.
+abbrev pub Turns : Run → State → ℕ → Result Doing Stop → Machine → State → ℕ → Type 0
+Turns run w s (Ok d) m w' s' = (k : ℕ) × (s ≡ k + s') × ((t : ℕ) → denote m d w' t ≡ run w (k + t))
+Turns run w s (Err (Refused c)) m w' s' = run w s ≡ Stopped c w' s'
+Turns run w s (Err Storage) m w' s' = (w' ≡ w) × (s' ≡ s)
+
+-- where an outcome leaves the state and the steps
+abbrev pub leaves : Out → State → ℕ → Type 0
+leaves (Gave v w s) w' s' = (w ≡ w') × (s ≡ s')
+leaves (Stopped c w s) w' s' = (w ≡ w') × (s ≡ s')
+
+-- The answer is the run's; where memory was refused, the state is that of the run with the steps taken as its budget.
+abbrev pub Answers : Run → State → ℕ → Result Value Stop → State → ℕ → Type 0
+Answers run w s (Ok v) w' s' = run w s ≡ Gave (value_of v) w' s'
+Answers run w s (Err (Refused c)) w' s' = run w s ≡ Stopped c w' s'
+Answers run w s (Err Storage) w' s' = (k : ℕ) × (s ≡ k + s') × leaves (run w k) w' 0
+
+-- what is left to do, which each turn makes smaller
+abbrev pub given : Doing → ℕ
+given (Start task) = 0
+given (Give value) = 1
+
+abbrev pub weight : ℕ → Machine → Doing → ℕ
+weight steps m d = 4 * steps + (2 * length m.levels + given d)
