@@ -1,10 +1,7 @@
 -- Conditions, and what they are about.
-use Rattle.std.specs.Prelude.{◌≡◌, List, false, codes, if◌then◌else◌}
+use Rattle.std.specs.Prelude.{false, codes, if◌then◌else◌}
 use Rattle.lisp_data.specs.Name.{Nam, same_name}
 use Rattle.lisp_data.specs.Value.{Val, symbol, list, nil}
-use Rattle.clos_system.specs.declared.condition.Condition.{Condition}
-use Rattle.clos_system.specs.declared.condition.Stop.{Stop}
-use Rattle.clos_system.specs.declared.condition.Stop.TheVariants.{Refused, Storage}
 
 abbrev pub nil_name : Nam
 nil_name = record { text = codes "NIL"; keyword = false }
@@ -12,8 +9,3 @@ nil_name = record { text = codes "NIL"; keyword = false }
 -- the symbol of this name: NIL is the empty list
 abbrev pub name_value : Nam → Val
 name_value name = if same_name name nil_name then list nil else symbol name
-
--- It is this condition, or memory was refused.
-abbrev pub StopsWith : Condition → Stop → Type 0
-StopsWith condition (Refused c) = c ≡ condition
-StopsWith condition Storage = Unit {0}

@@ -1,7 +1,8 @@
 -- What a state of the machine stands for: the rest of the definition.
-use Rattle.std.specs.Prelude.{◌≡◌, ℕ, zero, suc, ◌+◌, ◌*◌, List, [], ◌∷◌, ◌++◌, Result, Ok, Err, length}
+use Rattle.std.specs.Prelude.{◌≡◌, ℕ, zero, suc, ◌+◌, ◌*◌, ◌≤◌, List, [], ◌∷◌, ◌++◌, Result, Ok, Err, length}
 use Rattle.lisp_data.specs.Value.{Val}
 use Rattle.lisp_data.specs.ValueView.{value_of}
+use Rattle.lisp_data.specs.declared.ids.ClassId.{ClassId}
 use Rattle.lisp_data.specs.declared.value.Value.{Value}
 use Rattle.clos_system.specs.World.{State}
 use Rattle.clos_system.specs.Meaning.{Out, Gave, Stopped, Run, Eval, then_do, gave, step_then, written, made, designated, collect, called, sequence, meaning}
@@ -81,3 +82,30 @@ given (Give value) = 1
 
 abbrev pub weight : ℕ → Machine → Doing → ℕ
 weight steps m d = 4 * steps + (2 * length m.levels + given d)
+
+-- A handler adds at most a level, or gives a value.
+abbrev pub Grows : List Level → Result Doing Stop → Machine → Type 0
+Grows old (Ok d) m = 2 * length m.levels + given d ≤ 2 * length old + 2
+Grows old (Err e) m = Unit {0}
+
+-- the class that a value designates, or why there is none
+abbrev pub Designates : Result ℕ Condition → Result ClassId Stop → Type 0
+Designates d (Ok c) = d ≡ Ok c.0
+Designates d (Err (Refused c)) = d ≡ Err c
+Designates d (Err Storage) = Unit {0}
+
+-- what a frame does with a value
+abbrev pub given_to : Machine → Frame → Val → Run
+given_to m f v w s = resume m.levels (below m.context f) (passed (meaning m.room) m.context f (Gave v w s))
+
+-- A change takes one step, and touches the state alone; want of memory leaves both.
+abbrev pub Changes : Run → Val → State → ℕ → Result (Unit {0}) Stop → State → ℕ → Type 0
+Changes change v w s (Ok u) w' s' = (s ≡ suc s') × ((t : ℕ) → step_then change w (suc t) ≡ Gave v w' t)
+Changes change v w s (Err (Refused c)) w' s' = (w' ≡ w) × (s' ≡ s) × (step_then change w s ≡ Stopped c w s)
+Changes change v w s (Err Storage) w' s' = (w' ≡ w) × (s' ≡ s)
+
+-- The run has come to here: after some steps it goes on as `rest` does from here.
+pub record Reached (run : Run) (w0 : State) (s0 : ℕ) (rest : Run) (w : State) (s : ℕ) : Type 0 where
+  pub taken : ℕ
+  pub steps : s0 ≡ taken + s
+  pub same : (t : ℕ) → rest w t ≡ run w0 (taken + t)

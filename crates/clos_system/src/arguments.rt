@@ -49,6 +49,14 @@ impl Values {
         Ok(())
     }
 
+    /// How many they are.
+    #[tactic(auto, using(std::proofs::lemmas::Grind::common_steps))]
+    pub fn len(&self) -> usize
+        ensures { result ≡ length self.now }
+    {
+        self.values.len()
+    }
+
     /// The values.
     pub fn as_slice(&self) -> &[Value]
         ensures { map value_of result.now ≡ self.now }

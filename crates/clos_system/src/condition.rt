@@ -1,14 +1,13 @@
 //! The conditions that forms end with.
-ghost use Rattle.std.specs.Prelude.{◌≡◌, ◌∷◌, [], IfOk};
+ghost use Rattle.std.specs.Prelude.{◌≡◌, ◌∷◌, [], IfOk, map};
 ghost use Rattle.lisp_data.specs.ValueView.{value_of};
 ghost use Rattle.clos_system.specs.Condition.{name_value};
 ghost use Rattle.clos_system.specs.declared.condition.Condition.{Condition};
-ghost use Rattle.clos_system.specs.declared.condition.Stop.TheVariants.{Refused, Storage};
-ghost use Rattle.clos_system.specs.Condition.{StopsWith};
+ghost use Rattle.clos_system.specs.declared.condition.Stop.TheVariants.{Storage};
 
 use crate::arguments::Values;
 use lisp_data::{Items, Name, Value};
-use std::alloc::{AllocError, Global};
+use std::alloc::{AllocError, AllocFailed, Global};
 
 /// The kinds of conditions. Each has a number.
 #[derive(Clone, Copy, Debug, PartialEq, Eq)]
@@ -85,35 +84,59 @@ impl From<AllocError> for Stop {
     }
 }
 
+impl<T: Drop> From<AllocFailed<T>> for Stop {
+    ghost from_gives = { λ _ e. e ≡ Storage };
+
+    fn from(_refusal: AllocFailed<T>) -> Stop {
+        Stop::Storage
+    }
+}
+
 /// The condition of this kind that is about nothing in particular.
-pub fn plain(alloc: Global, kind: ConditionKind) -> Stop
-    ensures { result ≡ Refused (record { kind = kind; items = [] }) }
+pub fn plain(alloc: Global, kind: ConditionKind) -> Condition
+    ensures { result ≡ record { kind = kind; items = [] } }
 {
-    Stop::Refused(Condition {
+    Condition {
         kind,
         items: Values::new(alloc),
-    })
+    }
 }
 
-/// The condition of this kind that is about this value. Want of memory takes its place.
-pub fn about(alloc: Global, kind: ConditionKind, value: Value) -> Stop
-    ensures { StopsWith (record { kind = kind; items = value_of value ∷ [] }) result }
+/// The condition of this kind that is about this value.
+pub fn about(alloc: Global, kind: ConditionKind, value: Value) -> Result<Condition, AllocError>
+    ensures { IfOk result (λ c. c ≡ record { kind = kind; items = value_of value ∷ [] }) }
 {
     let mut items = Values::new(alloc);
-    match items.push(value) {
-        Ok(()) => Stop::Refused(Condition { kind, items }),
-        Err(_) => Stop::Storage,
-    }
+    items.push(value)?;
+    Ok(Condition { kind, items })
 }
 
-/// The condition of this kind that is about this name. Want of memory takes its place.
-pub fn about_name(alloc: Global, kind: ConditionKind, name: &Name) -> Stop
-    ensures { StopsWith (record { kind = kind; items = name_value name.now ∷ [] }) result }
+/// The condition of this kind that is about this name.
+pub fn about_name(
+    alloc: Global,
+    kind: ConditionKind,
+    name: &Name,
+) -> Result<Condition, AllocError>
+    ensures { IfOk result (λ c. c ≡ record { kind = kind; items = name_value name.now ∷ [] }) }
 {
-    match value_named(name) {
-        Ok(value) => about(alloc, kind, value),
-        Err(_) => Stop::Storage,
+    about(alloc, kind, value_named(name)?)
+}
+
+/// The condition of this kind that is about a function's name and these arguments.
+pub fn about_call(
+    alloc: Global,
+    kind: ConditionKind,
+    name: &Name,
+    arguments: &[Value],
+) -> Result<Condition, AllocError>
+    ensures { IfOk result (λ c. c ≡ record { kind = kind; items = name_value name.now ∷ map value_of arguments.now }) }
+{
+    let mut items = Values::new(alloc);
+    items.push(value_named(name)?)?;
+    for argument in arguments {
+        items.push(argument.copy()?)?;
     }
+    Ok(Condition { kind, items })
 }
 
 /// The symbol of this name as a value: NIL is the empty list.

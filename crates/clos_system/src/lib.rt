@@ -4,7 +4,9 @@
 pub mod arguments;
 pub mod class;
 pub mod condition;
+pub mod control;
 pub mod effective;
+pub mod eval;
 pub mod form;
 pub mod generic;
 pub mod limits;

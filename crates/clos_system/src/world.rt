@@ -1,5 +1,5 @@
 //! The state of a session: its tables, what was written, and its limits.
-ghost use Rattle.std.specs.Prelude.{◌≡◌, IfOk, option_map, map};
+ghost use Rattle.std.specs.Prelude.{◌≡◌, IfOk, OnOk, OnErr, option_map, map, length, ◌++◌, ◌∷◌, []};
 ghost use Rattle.lisp_data.specs.ValueView.{value_of};
 ghost use Rattle.clos_system.specs.World.{seen, class_of, class_of_instance, lists_of, names_of};
 
@@ -65,6 +65,24 @@ impl World {
             return None;
         }
         self.instances.get((id.0 - 1) as usize).copied()
+    }
+
+    /// How many instances were made.
+    #[tactic(auto, using(std::proofs::lemmas::Grind::common_steps))]
+    pub fn instance_count(&self) -> u64
+        ensures { result ≡ length (seen self.now).instances }
+    {
+        self.instances.len() as u64
+    }
+
+    /// One more instance, of this class.
+    #[tactic(auto, using(std::proofs::lemmas::Grind::common_steps))]
+    pub fn add_instance(&mut self, class: ClassId) -> Result<(), AllocError>
+        ensures ok { OnOk result (seen self.new ≡ record (seen self.old) { instances = (seen self.old).instances ++ class.0 ∷ [] }) }
+        ensures err { OnErr result (seen self.new ≡ seen self.old) }
+    {
+        self.instances.push(class)?;
+        Ok(())
     }
 
     /// The class precedence lists of the classes of these values.
