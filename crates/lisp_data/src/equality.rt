@@ -5,7 +5,7 @@ ghost use Rattle.lisp_data.specs.Equality.{is_by_object};
 
 use crate::value::{Items, Value};
 
-/// Two non-empty lists or two strings, which `eql` does not tell apart.
+/// Two non-empty lists or two strings were compared by `eql`.
 #[derive(Clone, Copy, Debug, PartialEq, Eq)]
 pub struct Unsupported;
 
@@ -31,7 +31,7 @@ pub fn eql(a: &Value, b: &Value) -> Result<bool, Unsupported>
     }
 }
 
-/// Whether both have the same content: lists by their elements, strings by their characters, the others as by `eql`.
+/// Whether both have the same content: lists by their elements, strings by their characters.
 #[cycle(equal)]
 pub fn equal(a: &Value, b: &Value) -> bool
     ensures { IsTrue result ↔ (value_of a.now ≡ value_of b.now) }

@@ -1,7 +1,8 @@
 //! How values print (HyperSpec 22.1.3).
 ghost use Rattle.std.specs.Prelude.{◌≡◌, ◌++◌, true, false, IfOk, OnOk, map, option_copied, codes};
 ghost use Rattle.lisp_data.specs.ValueView.{value_of};
-ghost use Rattle.lisp_data.specs.Print.{name_text, known_text, string_text, method_text, instance_text, text_of, texts_of, list_text, class_name_text};
+ghost use Rattle.lisp_data.specs.Print.{name_text, known_text, string_text, list_text};
+ghost use Rattle.lisp_data.specs.Print.{class_name_text, method_text, instance_text, text_of, texts_of};
 ghost use Rattle.lisp_data.specs.PrintView.{number_of_class};
 
 use crate::ids::{ClassId, InstanceId, MethodId};
@@ -11,7 +12,7 @@ use crate::value::{Items, Value};
 use itoa::Buffer;
 use std::alloc::{AllocError, Global};
 
-/// The bytes that a value prints as, with strings as they are read: in double quotes, with backslashes.
+/// The bytes that a value prints as, with strings as they are read: in double quotes, with backslashes (HyperSpec 22.4, PRIN1).
 pub fn prin1<N: Naming>(alloc: Global, value: &Value, names: &N) -> Result<Vec<u8>, AllocError>
     ensures { IfOk result (λ r. r.items ≡ text_of true (N.names names.now) (value_of value.now)) }
 {
@@ -20,7 +21,7 @@ pub fn prin1<N: Naming>(alloc: Global, value: &Value, names: &N) -> Result<Vec<u
     Ok(out)
 }
 
-/// The bytes that a value prints as, with strings as their characters alone.
+/// The bytes that a value prints as, with strings as their characters alone (HyperSpec 22.4, PRINC).
 pub fn princ<N: Naming>(alloc: Global, value: &Value, names: &N) -> Result<Vec<u8>, AllocError>
     ensures { IfOk result (λ r. r.items ≡ text_of false (N.names names.now) (value_of value.now)) }
 {
@@ -29,7 +30,7 @@ pub fn princ<N: Naming>(alloc: Global, value: &Value, names: &N) -> Result<Vec<u
     Ok(out)
 }
 
-// Each function below appends to what is written already. They recurse into nested lists, never along one.
+// Each function below appends to what is written. They recurse into nested lists, never along one.
 #[cycle(print)]
 fn print_value<N: Naming>(
     out: &mut Vec<u8>,
@@ -76,8 +77,7 @@ fn print_list<N: Naming>(
 }
 
 fn print_name(out: &mut Vec<u8>, name: &Name) -> Result<(), AllocError>
-    ensures { OnOk result (out.new.items
-        ≡ out.old.items ++ name_text name.now) }
+    ensures { OnOk result (out.new.items ≡ out.old.items ++ name_text name.now) }
 {
     if name.is_keyword() {
         out.extend_from_slice(b":")?;
@@ -105,8 +105,7 @@ fn print_object(out: &mut Vec<u8>, start: &[u8], name: Option<&Name>) -> Result<
 }
 
 fn print_string(out: &mut Vec<u8>, text: &str, readably: bool) -> Result<(), AllocError>
-    ensures { OnOk result (out.new.items
-        ≡ out.old.items ++ string_text readably text.now) }
+    ensures { OnOk result (out.new.items ≡ out.old.items ++ string_text readably text.now) }
 {
     if !readably {
         return out.extend_from_slice(text.as_bytes());
