@@ -1,6 +1,6 @@
 //! Why a text can't be read.
 ghost use Rattle.std.specs.Prelude.{◌≡◌};
-ghost use Rattle.lisp_reader.specs.Fault.{number_of, offset_of};
+ghost use Rattle.lisp_reader.specs.Fault.{number_of, offset_of, outermost};
 ghost use Rattle.lisp_reader.specs.declared.fault.ReadFault.TheVariants.{Memory};
 
 use std::alloc::{AllocError, AllocFailed};
@@ -65,6 +65,16 @@ impl ReadFault {
             | ReadFault::TooDeep(at)
             | ReadFault::NotText(at) => Some(*at),
             ReadFault::Memory => None,
+        }
+    }
+
+    /// This fault inside of a datum that begins at `start`: if the text ends, it ends inside of that one.
+    pub(crate) fn outermost(self, start: usize) -> ReadFault
+        ensures { result ≡ outermost self start }
+    {
+        match self {
+            ReadFault::EndInside(_) => ReadFault::EndInside(start),
+            other => other,
         }
     }
 }
