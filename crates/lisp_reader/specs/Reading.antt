@@ -34,7 +34,7 @@ mutual
     none : (room : ℕ) (text : List ℕ) → Items room text [] text
     more : (room : ℕ) (text start : List ℕ) (d : Dat) (after : List ℕ) (ds : List Dat) (rest : List ℕ) → Gaps text start → Spells room start d after → Items room after ds rest → Items room text (d ∷ ds) rest
 
--- the text does not begin with )
+-- the text begins with )
 abbrev pub closes : List ℕ → Bool
 closes [] = false
 closes (b ∷ text) = b == 41
