@@ -1,0 +1,42 @@
+-- What reading a text from an offset on answers.
+use Rattle.std.specs.Prelude.{◌≢◌, ℕ, ◌≤◌, ◌<◌, List, [], length, drop, Option, Some, None, Result, Ok, Err}
+use Rattle.lisp_data.specs.Datum.{Dat}
+use Rattle.lisp_data.specs.DatumView.{datum_of}
+use Rattle.lisp_data.specs.declared.datum.Datum.{Datum}
+use Rattle.lisp_reader.specs.Fault.{Kind, end_inside, not_text, OnFault}
+use Rattle.lisp_reader.specs.Gaps.{Gaps, NoText}
+use Rattle.lisp_reader.specs.Reading.{Spells, Fails}
+use Rattle.lisp_reader.specs.declared.fault.ReadFault.{ReadFault}
+
+-- how many lists and prefixes may be open at once
+abbrev pub most_open : ℕ
+most_open = 200
+
+-- the next datum of a text, and what follows it
+pub data Next : List ℕ → Dat → List ℕ → Type 0 where
+  next : (text start : List ℕ) (d : Dat) (rest : List ℕ) → Gaps text start → Spells most_open start d rest → Next text d rest
+
+-- why a text has no next datum, and the text from where the fault stands: for an end inside the next
+-- datum, from where that begins
+pub data NextFails : List ℕ → Kind → List ℕ → Type 0 where
+  in_gaps : (text at : List ℕ) → NoText text at → NextFails text not_text at
+  unfinished : (text start at : List ℕ) → Gaps text start → start ≢ [] → Fails most_open start end_inside at → NextFails text end_inside start
+  in_datum : (text start : List ℕ) (kind : Kind) (at : List ℕ) → Gaps text start → start ≢ [] → Fails most_open start kind at → kind ≢ end_inside → NextFails text kind at
+
+-- the next datum with the offset after it, or nothing but gaps, or the fault with its offset
+abbrev pub Answers : List ℕ → ℕ → Result (Option (Datum × ℕ)) ReadFault → Type 0
+Answers bytes from (Ok None) = Gaps (drop from bytes) []
+Answers bytes from (Ok (Some found)) =
+    (found.1 ≤ length bytes) × Next (drop from bytes) (datum_of found.0) (drop found.1 bytes)
+Answers bytes from (Err fault) =
+    OnFault fault (λ kind n. (n ≤ length bytes) × NextFails (drop from bytes) kind (drop n bytes))
+
+-- a datum that begins at an offset, with the offset after it
+abbrev pub Reads : List ℕ → ℕ → ℕ → Datum × ℕ → Type 0
+Reads bytes room at found =
+    (at < found.1) × (found.1 ≤ length bytes) × Spells room (drop at bytes) (datum_of found.0) (drop found.1 bytes)
+
+-- or the fault that stands in its place
+abbrev pub Refuses : List ℕ → ℕ → ℕ → ReadFault → Type 0
+Refuses bytes room at fault =
+    OnFault fault (λ kind n. (n ≤ length bytes) × Fails room (drop at bytes) kind (drop n bytes))
