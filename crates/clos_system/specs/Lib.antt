@@ -10,3 +10,6 @@ pub mod Condition
 pub mod World
 pub mod Meaning
 pub mod Machine
+pub mod Names
+pub mod Syntax
+pub mod TopSyntax

@@ -11,4 +11,7 @@ pub mod form;
 pub mod generic;
 pub mod limits;
 pub mod machine;
+pub mod names;
+pub mod syntax;
+pub mod top;
 pub mod world;
