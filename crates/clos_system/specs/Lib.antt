@@ -13,3 +13,4 @@ pub mod Machine
 pub mod Names
 pub mod Syntax
 pub mod TopSyntax
+pub mod Step

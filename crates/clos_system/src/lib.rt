@@ -5,6 +5,7 @@ pub mod arguments;
 pub mod class;
 pub mod condition;
 pub mod control;
+pub mod definition;
 pub mod effective;
 pub mod eval;
 pub mod form;

@@ -265,10 +265,11 @@ fn parse_parameters(alloc: Global, elements: &Data) -> Result<LambdaList, Syntax
     let mut classes = Vec::new(alloc);
     let mut rest = elements;
     while let Some((first, others)) = rest.split_first() {
-        let Specialized { name, class } = parse_parameter(first)?;
-        if has_name(&names, &name) {
+        let parameter = parse_parameter(first)?;
+        if has_name(&names, &parameter.name) {
             return Err(SyntaxFault::Malformed);
         }
+        let Specialized { name, class } = parameter;
         names.push(name)?;
         classes.push(class)?;
         rest = others;
