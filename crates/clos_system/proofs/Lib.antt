@@ -4,3 +4,4 @@ pub mod Turns
 pub mod Quiet
 pub mod Running
 pub mod Parsing
+pub mod Steps

@@ -1,5 +1,5 @@
 -- What a top-level form does (HyperSpec 3.1.2.1, and the entries defclass and defmethod).
-use Rattle.std.specs.Prelude.{ℕ, ◌+◌, ◌-◌, ◌==◌, ◌||◌, ◌&&◌, nat_lt, nat_le, min, List, [], ◌∷◌, ◌++◌, Option, Some, None, Result, Ok, Err, Bool, true, false, if◌then◌else◌, length, slice_get, slice_set}
+use Rattle.std.specs.Prelude.{◌≡◌, ℕ, ◌+◌, ◌<◌, ◌==◌, ◌||◌, ◌&&◌, nat_lt, nat_le, min, List, [], ◌∷◌, ◌++◌, Option, Some, None, Result, Ok, Err, Bool, true, false, if◌then◌else◌, length, slice_get, slice_set}
 use Rattle.std.specs.Str.{bytes_eq}
 use Rattle.lisp_data.specs.Name.{Nam}
 use Rattle.lisp_data.specs.Value.{Val, class, method}
@@ -12,9 +12,14 @@ use Rattle.clos_system.specs.TopSyntax.{top_of}
 use Rattle.clos_system.specs.World.{State}
 use Rattle.clos_system.specs.Meaning.{Out, Gave, Stopped, Run, stopped, step_then, meaning, known}
 use Rattle.clos_system.specs.declared.class.Superclasses.TheVariants.{Direct}
+use Rattle.clos_system.specs.declared.class.ClassIds.{ClassIds}
 use Rattle.clos_system.specs.declared.condition.Condition.{Condition}
+use Rattle.clos_system.specs.declared.condition.Stop.{Stop}
+use Rattle.clos_system.specs.declared.condition.Stop.TheVariants.{Refused, Storage}
 use Rattle.clos_system.specs.declared.condition.ConditionKind.TheVariants.{ProgramError, UndefinedClass, LambdaListCongruence, Unsupported, TableLimit}
 use Rattle.clos_system.specs.declared.generic.Generic.{Generic}
+use Rattle.clos_system.specs.declared.generic.Method.{Method}
+use Rattle.clos_system.specs.declared.generic.MethodIds.{MethodIds}
 use Rattle.clos_system.specs.declared.machine.Task.TheVariants.{Plain}
 use Rattle.clos_system.specs.declared.syntax.SyntaxFault.{SyntaxFault}
 use Rattle.clos_system.specs.declared.syntax.SyntaxFault.TheVariants as fault
@@ -56,14 +61,17 @@ abbrev pub specializer_number : Nam → Option ℕ → Result ℕ Condition
 specializer_number name None = Err (record { kind = UndefinedClass; items = name_value name ∷ [] })
 specializer_number name (Some n) = if nat_le n 1 || nat_le first_defined n then Ok n else Err (record { kind = Unsupported; items = [] })
 
-abbrev pub and_then : {A B : Type 0} → Result A Condition → (A → Result B Condition) → Result B Condition
-and_then (Ok x) f = f x
-and_then (Err c) f = Err c
+abbrev pub if_found : Result ℕ Condition → (ℕ → Result (List ℕ) Condition) → Result (List ℕ) Condition
+if_found (Ok n) go = go n
+if_found (Err c) go = Err c
+
+-- the numbers of these classes after those found so far, or the first fault
+abbrev pub found_after : State → List ℕ → List Nam → Result (List ℕ) Condition
+found_after w ns [] = Ok ns
+found_after w ns (c ∷ cs) = if_found (specializer_number c (named w.classes c)) (λ n. found_after w (ns ++ n ∷ []) cs)
 
 abbrev pub specializer_numbers : State → List Nam → Result (List ℕ) Condition
-specializer_numbers w [] = Ok []
-specializer_numbers w (c ∷ cs) =
-    and_then (specializer_number c (named w.classes c)) (λ n. and_then (specializer_numbers w cs) (λ ns. Ok (n ∷ ns)))
+specializer_numbers w cs = found_after w [] cs
 
 -- the methods of a function without one of these specializers
 abbrev pub without_same : State → List ℕ → List ℕ → List ℕ
@@ -71,48 +79,45 @@ without_same w specializers [] = []
 without_same w specializers (m ∷ ms) =
     if bytes_eq (specializers_of w.methods m) specializers then without_same w specializers ms else m ∷ without_same w specializers ms
 
--- A method with the specializers of an old one replaces it: the new one stands at the end.
-abbrev pub with_method : State → List ℕ → Generic → Generic
-with_method w specializers g = record g { methods = without_same w specializers g.methods ++ length w.methods ∷ [] }
+-- the method of these parts, with the next number
+abbrev pub with_new : State → ℕ → List Nam → List ℕ → Frms → List Method
+with_new w g parameters specializers body =
+    w.methods ++ (record { generic = record { 0 = g }; specializers = specializers; parameters = parameters; body = body }) ∷ []
 
-abbrev pub generic_at : State → Option ℕ → ℕ
-generic_at w None = length w.generics
-generic_at w (Some g) = g
-
-abbrev pub generics_after : State → Nam → ℕ → List ℕ → Option ℕ → Option Generic → List Generic
-generics_after w name required specializers None old = w.generics ++ (record { name = name; required = required; methods = length w.methods ∷ [] }) ∷ []
-generics_after w name required specializers (Some g) None = w.generics
-generics_after w name required specializers (Some g) (Some old) = slice_set w.generics g (with_method w specializers old)
-
-abbrev pub old_generic : State → Option ℕ → Option Generic
-old_generic w None = None
-old_generic w (Some g) = slice_get w.generics g
-
-abbrev pub method_added : Nam → List Nam → List ℕ → Frms → Option ℕ → Run
-method_added name parameters specializers body g w k = Gave (method (length w.methods)) (record w {
-  generics = generics_after w name (length parameters) specializers g (old_generic w g);
-  methods = w.methods ++ (record { generic = record { 0 = generic_at w g }; specializers = specializers; parameters = parameters; body = body }) ∷ [];
+-- A generic function is made with its first method.
+abbrev pub function_added : Nam → List Nam → List ℕ → Frms → Run
+function_added name parameters specializers body w k = Gave (method (length w.methods)) (record w {
+  generics = w.generics ++ (record { name = name; required = length parameters; methods = length w.methods ∷ [] }) ∷ [];
+  methods = with_new w (length w.generics) parameters specializers body;
 }) k
 
--- whether the function, if there is one, takes so many arguments
-abbrev pub is_congruent : ℕ → Option Generic → Bool
-is_congruent required None = true
-is_congruent required (Some g) = g.required == required
+abbrev pub new_function : Nam → List Nam → List ℕ → Frms → Run
+new_function name parameters specializers body w k =
+    if nat_lt (length w.generics) w.limits.generics && nat_lt (length w.methods) w.limits.methods
+    then step_then (function_added name parameters specializers body) w k
+    else stopped TableLimit [] w k
 
--- whether the tables have room for the method, and for its function where there is none
-abbrev pub has_room : State → Option ℕ → Bool
-has_room w None = nat_lt (length w.generics) w.limits.generics && nat_lt (length w.methods) w.limits.methods
-has_room w (Some g) = nat_lt (length w.methods) w.limits.methods
+-- A method with the specializers of an old one replaces it: the new one stands at the end.
+abbrev pub method_added : ℕ → Generic → List Nam → List ℕ → Frms → Run
+method_added g old parameters specializers body w k = Gave (method (length w.methods)) (record w {
+  generics = slice_set w.generics g (record old { methods = without_same w specializers old.methods ++ length w.methods ∷ [] });
+  methods = with_new w g parameters specializers body;
+}) k
 
-abbrev pub new_method : Nam → List Nam → Frms → Option ℕ → List ℕ → Run
-new_method name parameters body g specializers w k =
-    if is_congruent (length parameters) (old_generic w g)
-    then (if has_room w g then step_then (method_added name parameters specializers body g) w k else stopped TableLimit [] w k)
+abbrev pub new_method : Nam → ℕ → Option Generic → List Nam → List ℕ → Frms → Run
+new_method name g None parameters specializers body w k = stopped ProgramError [] w k
+new_method name g (Some old) parameters specializers body w k =
+    if old.required == length parameters
+    then (if nat_lt (length w.methods) w.limits.methods then step_then (method_added g old parameters specializers body) w k else stopped TableLimit [] w k)
     else stopped LambdaListCongruence (name_value name ∷ []) w k
+
+abbrev pub on_function : Nam → Option ℕ → List Nam → List ℕ → Frms → Run
+on_function name None parameters specializers body w k = new_function name parameters specializers body w k
+on_function name (Some g) parameters specializers body w k = new_method name g (slice_get w.generics g) parameters specializers body w k
 
 abbrev pub define_method : Nam → List Nam → Frms → Result (List ℕ) Condition → Run
 define_method name parameters body (Err c) w k = Stopped c w k
-define_method name parameters body (Ok specializers) w k = new_method name parameters body (function_named w.generics name) specializers w k
+define_method name parameters body (Ok specializers) w k = on_function name (function_named w.generics name) parameters specializers body w k
 
 -- ---- any top-level form
 
@@ -130,6 +135,27 @@ checked (Ok top) w k = performed top w k
 checked (Err fault.Malformed) w k = stopped ProgramError [] w k
 checked (Err fault.Unserved) w k = stopped Unsupported [] w k
 checked (Err fault.Memory) w k = stopped ProgramError [] w k
+
+-- the numbers of the specializers, or why there are none
+abbrev pub FindsSpecializers : Result (List ℕ) Condition → Result ClassIds Stop → Type 0
+FindsSpecializers d (Ok ids) = d ≡ Ok ids
+FindsSpecializers d (Err (Refused c)) = d ≡ Err c
+FindsSpecializers d (Err Storage) = Unit {0}
+
+-- The method may be added to this function: its methods from then on.
+pub record Ready (w : State) (g : ℕ) (required : ℕ) (specializers : List ℕ) (k : ℕ) (methods : List ℕ) : Type 0 where
+  pub old : Generic
+  pub found : slice_get w.generics g ≡ Some old
+  pub congruent : old.required ≡ required
+  pub room : length w.methods < w.limits.methods
+  pub step_left : 0 < k
+  pub renewed : methods ≡ without_same w specializers old.methods ++ length w.methods ∷ []
+
+-- The method may be added, or the form stops before its step.
+abbrev pub Prepares : State → Nam → ℕ → List Nam → List ℕ → ℕ → Result MethodIds Stop → Type 0
+Prepares w name g parameters specializers k (Ok ids) = Ready w g (length parameters) specializers k ids
+Prepares w name g parameters specializers k (Err (Refused c)) = (body : Frms) → new_method name g (slice_get w.generics g) parameters specializers body w k ≡ Stopped c w k
+Prepares w name g parameters specializers k (Err Storage) = Unit {0}
 
 -- the step of a top-level form: the value or the condition, and the state after
 abbrev pub step : Dat → Run
