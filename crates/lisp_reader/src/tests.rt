@@ -114,6 +114,22 @@ fn lists(rt: HostRuntime) -> Result<(), Fail> {
 }
 
 #[test]
+fn a_long_list(rt: HostRuntime) -> Result<(), Fail> {
+    let alloc = rt.alloc();
+    let mut text = vec![in alloc; b'"'; 200_002]?;
+    text[0] = b'(';
+    text[200_001] = b')';
+    match read_form(alloc, text.as_slice(), 0)? {
+        Some((Datum::List(found), end)) => {
+            assert_eq!(rt; found.len(), 100_000);
+            assert_eq!(rt; end, 200_002);
+        }
+        _ => assert!(rt; false, "a list of empty strings"),
+    }
+    Ok(())
+}
+
+#[test]
 fn one_after_another(rt: HostRuntime) {
     let alloc = rt.alloc();
     let text = b" a ; one\n(b) ";
