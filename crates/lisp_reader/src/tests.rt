@@ -119,11 +119,10 @@ fn a_long_list(rt: HostRuntime) -> Result<(), Fail> {
     let mut text = vec![in alloc; b'"'; 200_002]?;
     text[0] = b'(';
     text[200_001] = b')';
-    match read_form(alloc, text.as_slice(), 0)? {
-        Some((Datum::List(found), end)) => {
-            assert_eq!(rt; found.len(), 100_000);
-            assert_eq!(rt; end, 200_002);
-        }
+    let (datum, end) = read_form(alloc, text.as_slice(), 0)?.ok_or("a datum")?;
+    assert_eq!(rt; end, 200_002);
+    match datum {
+        Datum::List(found) => assert_eq!(rt; found.len(), 100_000),
         _ => assert!(rt; false, "a list of empty strings"),
     }
     Ok(())
