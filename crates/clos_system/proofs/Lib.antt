@@ -5,3 +5,4 @@ pub mod Quiet
 pub mod Running
 pub mod Parsing
 pub mod Steps
+pub mod StepQuiet

@@ -29,6 +29,6 @@ method_added_runs w name g ps ss body zero ms r = absurd (omega (arith, r.step_l
 method_added_runs w name g ps ss body (suc k) ms r =
     ap (λ o. new_method name g o ps ss body w (suc k)) r.found
     ∙ ap (λ b. if b then (if nat_lt (length w.methods) w.limits.methods then step_then (method_added g r.old ps ss body) w (suc k) else stopped TableLimit [] w (suc k)) else stopped LambdaListCongruence (name_value name ∷ []) w (suc k))
-      (eq-eqb r.old.required (length ps) r.congruent)
+    (eq-eqb r.old.required (length ps) r.congruent)
     ∙ ap (λ b. if b then step_then (method_added g r.old ps ss body) w (suc k) else stopped TableLimit [] w (suc k)) (lt-ltb (length w.methods) w.limits.methods r.room)
     ∙ ap (method_added g r.old ps ss body w) (omega arith)

@@ -14,3 +14,6 @@ pub mod Names
 pub mod Syntax
 pub mod TopSyntax
 pub mod Step
+pub mod Initial
+pub mod Session
+pub mod Transcript

@@ -133,7 +133,7 @@ abbrev pub parameters_after : List Nam → List Nam → Dats → Result (List Na
 parameters_after names classes nil = Ok (names, classes)
 parameters_after names classes (cons d l) =
     parameter_of d >>= λ p. if list_any (λ n. same_name n p.name) names then Err Malformed
-      else parameters_after (names ++ p.name ∷ []) (classes ++ p.class ∷ []) l
+    else parameters_after (names ++ p.name ∷ []) (classes ++ p.class ∷ []) l
 
 abbrev pub lambda_list_of : Dat → Result (List Nam × List Nam) SyntaxFault
 lambda_list_of (integer n) = Err Unserved

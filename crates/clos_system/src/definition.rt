@@ -10,15 +10,13 @@ ghost use Rattle.clos_system.specs.Meaning.{Run, Gave, Stopped, step_then};
 ghost use Rattle.clos_system.specs.Machine.{Answers, Designates};
 ghost use Rattle.clos_system.specs.Step.{superclass_number, class_added, new_class, define_class, specializer_number, specializer_numbers, found_after, without_same, function_added, new_function, method_added, new_method, on_function, define_method, FindsSpecializers, Prepares};
 
-use std::alloc::{AllocError, Global};
-
-use lisp_data::{ClassId, GenericId, MethodId, Name, Value};
-
 use crate::class::{Class, ClassIds, Superclasses, class_named};
 use crate::condition::{ConditionKind, Stop, about_name, plain};
 use crate::form::Forms;
 use crate::generic::{Generic, Method, MethodIds, Parameters, generic_named, method_numbered};
 use crate::world::World;
+use lisp_data::{ClassId, GenericId, MethodId, Name, Value};
+use std::alloc::{AllocError, Global};
 
 /// The number of the direct superclass, where the form is served.
 fn superclass(world: &World, name: &Option<Name>) -> Option<ClassId>
@@ -28,13 +26,7 @@ fn superclass(world: &World, name: &Option<Name>) -> Option<ClassId>
         None => Some(ClassId(1)),
         Some(name) => match class_named(&world.classes, name) {
             None => None,
-            Some(id) => {
-                if id.0 >= 22 {
-                    Some(id)
-                } else {
-                    None
-                }
-            }
+            Some(id) => { if id.0 >= 22 { Some(id) } else { None } }
         },
     }
 }
@@ -168,7 +160,16 @@ pub fn defmethod(
         Err(stop) => Err(stop),
         Ok(specializers) => match generic_named(&world.generics, &name) {
             None => add_function(alloc, world, name, parameters, specializers, body, steps),
-            Some(id) => add_method(alloc, world, &name, id, parameters, specializers, body, steps),
+            Some(id) => add_method(
+                alloc,
+                world,
+                &name,
+                id,
+                parameters,
+                specializers,
+                body,
+                steps,
+            ),
         },
     }
 }
@@ -206,7 +207,8 @@ fn add_function(
         name,
         required,
         methods,
-    }) else {
+    })
+    else {
         unreachable!()
     };
     let Ok(()) = world.methods.push(Method {
@@ -214,7 +216,8 @@ fn add_function(
         specializers,
         parameters,
         body,
-    }) else {
+    })
+    else {
         unreachable!()
     };
     *steps -= 1;
@@ -288,7 +291,8 @@ fn add_method(
                 specializers,
                 parameters,
                 body,
-            }) else {
+            })
+            else {
                 return Err(Stop::Storage);
             };
             let place = id.0 as usize;

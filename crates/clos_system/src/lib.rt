@@ -13,6 +13,14 @@ pub mod generic;
 pub mod limits;
 pub mod machine;
 pub mod names;
+pub mod predefined;
+pub mod session;
 pub mod syntax;
 pub mod top;
+pub mod transcript;
 pub mod world;
+
+pub use condition::{Condition, ConditionKind};
+pub use limits::Limits;
+pub use session::{Reply, Session};
+pub use transcript::{RunFault, Summary, run};

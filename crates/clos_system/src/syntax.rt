@@ -7,13 +7,11 @@ ghost use Rattle.lisp_data.specs.Value as value;
 ghost use Rattle.clos_system.specs.Form as form;
 ghost use Rattle.clos_system.specs.Syntax.{Gives, argument_of, quotation, quotations, quote_form, quoted, is_constant, symbol_form, one_argument, application, applied, form_of, forms_of};
 
-use std::alloc::{AllocError, AllocFailed, Global};
-
-use lisp_data::{Data, Datum, Items, Name, Value};
-
 use crate::condition::value_named;
 use crate::form::{Form, Forms, Node};
 use crate::names::{Operator, is_the, operator_named};
+use lisp_data::{Data, Datum, Items, Name, Value};
+use std::alloc::{AllocError, AllocFailed, Global};
 
 /// Why a datum is no form.
 #[derive(Clone, Copy, Debug, PartialEq, Eq)]

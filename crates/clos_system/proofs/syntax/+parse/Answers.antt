@@ -16,10 +16,10 @@ pub parse_forms-loop-first-preserved : goal.parse_forms-loop-first-preserved
 parse_forms-loop-first-preserved t c = (
   omega (arith, ap size_of_data c.in-Some.ensures, c.loop-first.invariant.0),
   ap (λ xs. gathered xs (forms_of c.in-Some.others.now)) c.in_ok-push-in-Ok.ensures.items
-  ∙ gathered_one c.loop-first.forms.items c.in-Ok.form (forms_of c.in-Some.others.now)
-  ∙ ap (λ x. gathered c.loop-first.forms.items (x >>= λ f. forms_of c.in-Some.others.now >>= λ fs. Ok (form.cons f fs))) (sym c.in-Ok.ensures)
-  ∙ ap (λ x. gathered c.loop-first.forms.items (forms_of x)) (sym c.in-Some.ensures)
-  ∙ c.loop-first.invariant.1
+      ∙ gathered_one c.loop-first.forms.items c.in-Ok.form (forms_of c.in-Some.others.now)
+      ∙ ap (λ x. gathered c.loop-first.forms.items (x >>= λ f. forms_of c.in-Some.others.now >>= λ fs. Ok (form.cons f fs))) (sym c.in-Ok.ensures)
+      ∙ ap (λ x. gathered c.loop-first.forms.items (forms_of x)) (sym c.in-Some.ensures)
+      ∙ c.loop-first.invariant.1,
 )
 
 pub parse_forms-returns : goal.parse_forms-returns

@@ -11,8 +11,8 @@ returns-then-has_name c =
     let p : Parameter = record { name = c.in_ok-parameter.parameter.name; class = c.in_ok-parameter.parameter.class } in
     sym c.loop-first.invariant
     ∙ parameters_repeat c.loop-first.names.items c.loop-first.classes.items c.loop-first.rest.now (datum_of c.in-Some.first.now) c.in-Some.others.now p
-      c.in-Some.ensures c.in_ok-parameter.ensures
-      (ap (λ xs. list_any (λ n. same_name n c.in_ok-parameter.parameter.name) xs) (sym c.deref.ensures.value) ∙ sym c.if-has_name.ensures)
+    c.in-Some.ensures c.in_ok-parameter.ensures
+    (ap (λ xs. list_any (λ n. same_name n c.in_ok-parameter.parameter.name) xs) (sym c.deref.ensures.value) ∙ sym c.if-has_name.ensures)
 
 pub loop-first-preserved : goal.loop-first-preserved
 loop-first-preserved c =
@@ -20,6 +20,6 @@ loop-first-preserved c =
     ap (λ xs. parameters_after xs c.push-in-Some.new.self.items c.in-Some.others.now) c.in_ok-push.ensures.items
     ∙ ap (λ xs. parameters_after (c.loop-first.names.items ++ c.in_ok-parameter.parameter.name ∷ []) xs c.in-Some.others.now) c.in_ok-push-2.ensures.items
     ∙ sym (parameters_next c.loop-first.names.items c.loop-first.classes.items c.loop-first.rest.now (datum_of c.in-Some.first.now) c.in-Some.others.now p
-      c.in-Some.ensures c.in_ok-parameter.ensures
-      (ap (λ xs. list_any (λ n. same_name n c.in_ok-parameter.parameter.name) xs) (sym c.deref.ensures.value) ∙ sym c.if-has_name.ensures))
+    c.in-Some.ensures c.in_ok-parameter.ensures
+    (ap (λ xs. list_any (λ n. same_name n c.in_ok-parameter.parameter.name) xs) (sym c.deref.ensures.value) ∙ sym c.if-has_name.ensures))
     ∙ c.loop-first.invariant
