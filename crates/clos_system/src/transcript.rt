@@ -109,7 +109,7 @@ fn run_text<W: Write>(
                 let answer = perform(alloc, &mut session.world, &datum, &mut left);
                 let counts = counted(summary, &answer);
                 let world = &session.world;
-                let told = tell(alloc, world, from, answer, limit - left, echo, fresh);
+                let told = tell(alloc, world, from, answer, limit.saturating_sub(left), echo, fresh);
                 let Ok(piece) = told else {
                     return Err(RunFault::Memory);
                 };
