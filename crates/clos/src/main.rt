@@ -4,6 +4,8 @@
 mod command_line;
 mod program;
 mod settings;
+#[cfg(test)]
+mod tests;
 
 use clos_system::{Limits, Session};
 use program::{Fault, STATUS_FAULT, STATUS_USAGE, report};
