@@ -1,0 +1,75 @@
+//! The program `clos`: runs files of Lisp.
+#![tactic(auto)]
+
+mod command_line;
+mod program;
+mod settings;
+#[cfg(test)]
+mod tests;
+
+use clos_system::{Limits, Session};
+use program::{Fault, STATUS_FAULT, STATUS_USAGE, report};
+use settings::Settings;
+use std::alloc::Global;
+use std::io::{self, BufWriter};
+use std::process::ExitCode;
+
+/// Tells of a fault on standard error, and gives its status.
+fn fail(rt: &HostRuntime, fault: Fault<'_>) -> u8 {
+    report(&mut rt.stderr(), fault);
+    STATUS_FAULT
+}
+
+fn session_of(alloc: Global, settings: &Settings<'_>) -> Option<Session> {
+    let limits = Limits {
+        steps: settings.steps,
+        depth: settings.depth,
+        ..Limits::default()
+    };
+    Session::new(alloc, limits).ok()
+}
+
+/// Runs what the settings ask for over the process's own input and outputs.
+fn run_settings(rt: &HostRuntime, settings: &Settings<'_>) -> u8 {
+    let alloc = rt.alloc();
+    let Some(mut session) = session_of(alloc, settings) else {
+        return fail(rt, Fault::Memory);
+    };
+    let Ok(mut output) = BufWriter::new(alloc, io::writer(rt)) else {
+        return fail(rt, Fault::Memory);
+    };
+    program::program(
+        rt,
+        alloc,
+        &mut session,
+        settings,
+        &mut rt.reader(),
+        &mut output,
+        &mut rt.stderr(),
+    )
+}
+
+/// Shows help on standard output, and a fault of the command line on standard error.
+fn show(rt: &HostRuntime, error: &clap::Error) -> u8 {
+    if error.print(rt).is_err() {
+        return fail(rt, Fault::Write);
+    }
+    if error.use_stderr() { STATUS_USAGE } else { 0 }
+}
+
+fn status(rt: &HostRuntime) -> u8 {
+    let Ok(words) = std::env::args(rt) else {
+        return fail(rt, Fault::Memory);
+    };
+    let Ok(words) = words.collect::<Vec<String>>(rt.alloc()) else {
+        return fail(rt, Fault::Memory);
+    };
+    match command_line::settings(rt.alloc(), words.as_slice()) {
+        Ok(settings) => run_settings(rt, &settings),
+        Err(error) => show(rt, &error),
+    }
+}
+
+fn main(rt: HostRuntime) -> ExitCode {
+    ExitCode::from(status(&rt))
+}

@@ -1,0 +1,207 @@
+//! What no clause says: the texts and statuses of the program, and the examples of the repository.
+use crate::command_line::settings;
+use crate::program::program;
+use clos_system::{Limits, Session};
+use std::alloc::Global;
+use std::io::{self, Read, Write};
+use std::test::Fail;
+
+/// Every read and every write fails.
+struct Broken;
+
+impl Read for Broken {
+    fn read(&mut self, _buf: &mut [u8]) -> io::Result<usize> {
+        Err(io::Error::from(io::ErrorKind::Other))
+    }
+}
+
+impl Write for Broken {
+    fn write(&mut self, _buf: &[u8]) -> io::Result<usize> {
+        Err(io::Error::from(io::ErrorKind::Other))
+    }
+
+    fn flush(&mut self) -> io::Result<()> {
+        Err(io::Error::from(io::ErrorKind::Other))
+    }
+}
+
+/// What is written is lost when it is flushed.
+struct Forgetful;
+
+impl Write for Forgetful {
+    fn write(&mut self, buf: &[u8]) -> io::Result<usize> {
+        Ok(buf.len())
+    }
+
+    fn flush(&mut self) -> io::Result<()> {
+        Err(io::Error::from(io::ErrorKind::Other))
+    }
+}
+
+/// Blanks without end.
+struct Blanks;
+
+impl Read for Blanks {
+    fn read(&mut self, buf: &mut [u8]) -> io::Result<usize> {
+        buf.fill(b' ');
+        Ok(buf.len())
+    }
+}
+
+/// Runs the program over these words, this input and these writers, and gives its status.
+fn status<I: Read, O: Write>(
+    rt: &HostRuntime,
+    words: &[&str],
+    input: &mut I,
+    output: &mut O,
+    errors: &mut Vec<u8>,
+) -> Result<u8, Fail> {
+    let alloc = rt.alloc();
+    let settings = settings(alloc, words)?;
+    let mut session = Session::new(alloc, Limits::default())?;
+    Ok(program(
+        rt,
+        alloc,
+        &mut session,
+        &settings,
+        input,
+        output,
+        errors,
+    ))
+}
+
+fn new_bytes(alloc: Global) -> Vec<u8> {
+    Vec::new(alloc)
+}
+
+/// A text on standard input: what it writes, the status, and the line on standard error.
+fn check(
+    rt: &HostRuntime,
+    text: &str,
+    output: &str,
+    status_wanted: u8,
+    errors: &str,
+) -> Result<(), Fail> {
+    let mut written = new_bytes(rt.alloc());
+    let mut told = new_bytes(rt.alloc());
+    let got = status(
+        rt,
+        &["clos"],
+        &mut text.as_bytes(),
+        &mut written,
+        &mut told,
+    )?;
+    assert_eq!(*rt; got, status_wanted, "the status of {text}");
+    assert!(*rt; written.as_slice() == output.as_bytes(), "the output of {text}");
+    assert!(*rt; told.as_slice() == errors.as_bytes(), "the errors of {text}");
+    Ok(())
+}
+
+const ANIMALS: &str = "(defclass animal () ()) (defclass dog (animal) ()) (defclass cat (animal) ())
+(defmethod speak ((x animal)) 'noise) (defmethod speak ((x dog)) 'woof)
+(princ (speak (make-instance 'dog))) (princ \" \") (princ (speak (make-instance 'cat))) (princ \"
+\")";
+
+const HANDS: &str = "(defclass hand () ()) (defclass rock (hand) ()) (defclass paper (hand) ())
+(defclass scissors (hand) ())
+(defmethod play ((x hand) (y hand)) \"nobody wins\")
+(defmethod play ((x rock) (y scissors)) \"rock breaks scissors\")
+(defmethod play ((x paper) (y rock)) \"paper wraps rock\")
+(defmethod play ((x scissors) (y paper)) \"scissors cut paper\")
+(defmethod show (x y) (princ (play x y)) (princ \"
+\"))
+(show (make-instance 'paper) (make-instance 'rock))
+(show (make-instance 'rock) (make-instance 'scissors))
+(show (make-instance 'rock) (make-instance 'paper))";
+
+const MISTAKES: &str = "(greet 5) (make-instance 'person) (defclass person () ())
+(defmethod greet ((x person)) \"hello\") (greet 5) (princ (greet (make-instance 'person))) (princ nobody)";
+
+const MISTAKES_WRITTEN: &str = "; 3 (UNDEFINED-FUNCTION GREET)
+; 7 (UNDEFINED-CLASS PERSON)
+; 14 (NO-APPLICABLE-METHOD GREET 5)
+hello
+; 2 (UNBOUND-VARIABLE NOBODY)
+";
+
+#[test]
+fn runs_the_examples(rt: HostRuntime) -> Result<(), Fail> {
+    check(&rt, ANIMALS, "WOOF NOISE\n", 0, "")?;
+    let hands = "paper wraps rock\nrock breaks scissors\nnobody wins\n";
+    check(&rt, HANDS, hands, 0, "")?;
+    check(&rt, MISTAKES, MISTAKES_WRITTEN, 1, "")
+}
+
+#[test]
+fn tells_what_is_wrong_with_a_text(rt: HostRuntime) -> Result<(), Fail> {
+    check(&rt, "", "", 0, "")?;
+    let inside = "clos: -: reader fault 1 at 10\n";
+    check(&rt, "(princ 1) (defclass a", "1", 3, inside)?;
+    check(&rt, "(f) (princ 2) )", "; 3 (UNDEFINED-FUNCTION F)\n2", 3, "clos: -: reader fault 2 at 14\n")
+}
+
+#[test]
+fn tells_what_can_not_be_read_or_written(rt: HostRuntime) -> Result<(), Fail> {
+    let mut written = new_bytes(rt.alloc());
+    let mut told = new_bytes(rt.alloc());
+    let got = status(&rt, &["clos"], &mut Broken, &mut written, &mut told)?;
+    assert!(rt; got == 3 && told.as_slice() == b"clos: -: read fault\n");
+    told.clear();
+    let got = status(&rt, &["clos", "no/such/file"], &mut Broken, &mut written, &mut told)?;
+    assert!(rt; got == 3 && told.as_slice() == b"clos: no/such/file: read fault\n");
+    told.clear();
+    let mut text: &[u8] = b"(princ 1)";
+    let got = status(&rt, &["clos"], &mut text, &mut Broken, &mut told)?;
+    assert!(rt; got == 3 && told.as_slice() == b"clos: write fault\n");
+    told.clear();
+    let mut text: &[u8] = b"(princ 1)";
+    let got = status(&rt, &["clos"], &mut text, &mut Forgetful, &mut told)?;
+    assert!(rt; got == 3 && told.as_slice() == b"clos: write fault\n");
+    Ok(())
+}
+
+#[test]
+fn refuses_a_text_without_end(rt: HostRuntime) -> Result<(), Fail> {
+    let mut written = new_bytes(rt.alloc());
+    let mut told = new_bytes(rt.alloc());
+    let got = status(&rt, &["clos"], &mut Blanks, &mut written, &mut told)?;
+    assert!(rt; got == 3 && told.as_slice() == b"clos: -: too long\n");
+    Ok(())
+}
+
+#[test]
+fn reads_the_command_line(rt: HostRuntime) -> Result<(), Fail> {
+    let alloc = rt.alloc();
+    let limits = Limits::default();
+    let none = settings(alloc, &["clos"])?;
+    assert!(rt; !none.echo && none.files.is_empty());
+    assert!(rt; none.steps == limits.steps && none.depth == limits.depth);
+    let words = ["clos", "--steps", "7", "a.lisp", "--echo", "--depth=4000", "-"];
+    let all = settings(alloc, &words)?;
+    assert!(rt; all.echo && all.steps == 7 && all.depth == 4_000);
+    assert!(rt; all.files.as_slice() == &["a.lisp", "-"]);
+    Ok(())
+}
+
+#[test]
+fn refuses_what_is_no_command_line(rt: HostRuntime) {
+    let alloc = rt.alloc();
+    let refused = [
+        ["clos", "--nonsense"],
+        ["clos", "--steps=0"],
+        ["clos", "--steps=1000000001"],
+        ["clos", "--depth=0"],
+        ["clos", "--depth=4001"],
+        ["clos", "--echo=x"],
+    ];
+    for words in &refused {
+        match settings(alloc, words) {
+            Ok(_) => assert!(rt; false, "taken"),
+            Err(error) => assert!(rt; error.exit_code() == 2 && error.use_stderr()),
+        }
+    }
+    match settings(alloc, &["clos", "--help"]) {
+        Ok(_) => assert!(rt; false, "taken"),
+        Err(error) => assert!(rt; error.exit_code() == 0 && !error.use_stderr()),
+    }
+}
