@@ -6,3 +6,4 @@ pub mod Running
 pub mod Parsing
 pub mod Steps
 pub mod StepQuiet
+pub mod Runs

@@ -1,18 +1,27 @@
 -- Runs of whole texts, and their transcripts.
-use Rattle.std.specs.Prelude.{◌≡◌, ℕ, ◌+◌, ◌≤◌, ◌==◌, List, [], ◌∷◌, ◌++◌, Bool, true, false, codes, if◌then◌else◌, length, drop}
+use Rattle.std.specs.Prelude.{◌≡◌, ℕ, ◌+◌, ◌-◌, ◌≤◌, ◌==◌, List, [], ◌∷◌, ◌++◌, Bool, true, false, codes, Option, Result, Ok, Err, if◌then◌else◌, length, drop}
 use Rattle.std.specs.List.{flat_map}
 use Rattle.std.specs.Fmt.{decimal}
+use Rattle.std.specs.Io.KnownBytes.{Appends}
 use Rattle.lisp_data.specs.Value.{Val}
 use Rattle.lisp_data.specs.Datum.{Dat}
 use Rattle.lisp_data.specs.Print.{Names, text_of}
-use Rattle.lisp_reader.specs.Answers.{Next}
+use Rattle.lisp_data.specs.ValueView.{value_of}
+use Rattle.lisp_data.specs.declared.value.Value.{Value}
+use Rattle.lisp_reader.specs.Answers.{Next, NextFails}
+use Rattle.lisp_reader.specs.Fault.{OnFault}
+use Rattle.lisp_reader.specs.Gaps.{Gaps}
 use Rattle.clos_system.specs.Condition.{number_of, condition_name}
 use Rattle.clos_system.specs.World.{State, names_of}
 use Rattle.clos_system.specs.Meaning.{Out, Gave, Stopped}
-use Rattle.clos_system.specs.Machine.{leaves}
+use Rattle.clos_system.specs.Machine.{Answers, leaves}
 use Rattle.clos_system.specs.Step.{step}
 use Rattle.clos_system.specs.declared.condition.Condition.{Condition}
+use Rattle.clos_system.specs.declared.condition.Stop.{Stop}
+use Rattle.clos_system.specs.declared.condition.Stop.TheVariants.{Refused, Storage}
 use Rattle.clos_system.specs.declared.transcript.Summary.{Summary}
+use Rattle.clos_system.specs.declared.transcript.RunFault.{RunFault}
+use Rattle.clos_system.specs.declared.transcript.RunFault.TheVariants.{Read, TooLong, Reader, Write, Memory}
 
 -- whether nothing is written yet, or a newline last
 abbrev pub ends_line : List ℕ → Bool
@@ -39,9 +48,12 @@ told echo w (Gave v w' s) out =
     if echo then fresh_line (with_written w w' out) ++ text_of true (names_of w') v ++ 10 ∷ [] else with_written w w' out
 told echo w (Stopped c w' s) out = fresh_line (with_written w w' out) ++ condition_text (names_of w') c
 
+abbrev pub storage_text : ℕ → List ℕ
+storage_text k = codes "; 0 (STORAGE " ++ (decimal k ++ (codes ")" ++ 10 ∷ []))
+
 -- .. and where memory was refused in it after so many steps
 abbrev pub told_cut : State → State → ℕ → List ℕ → List ℕ
-told_cut w w' k out = fresh_line (with_written w w' out) ++ codes "; 0 (STORAGE " ++ decimal k ++ codes ")" ++ 10 ∷ []
+told_cut w w' k out = fresh_line (with_written w w' out) ++ storage_text k
 
 abbrev pub state_after : Out → State
 state_after (Gave v w s) = w
@@ -64,3 +76,67 @@ pub data Ran (echo : Bool) (text : List ℕ) (start : State) : State → ℕ →
       → Ran echo text start (state_after (step d w w.limits.steps)) next (told echo w (step d w w.limits.steps) out) (counted (step d w w.limits.steps) n)
   cuts : (w : State) (at : ℕ) (out : List ℕ) (n : Summary) (d : Dat) (next : ℕ) (k : ℕ) (w' : State) → Ran echo text start w at out n → Next (drop at text) d (drop next text)
       → k ≤ w.limits.steps → leaves (step d w k) w' 0 → Ran echo text start w' next (told_cut w w' k out) (counted_cut n)
+
+-- what is told of a form that was answered so, after so many steps
+abbrev pub told_for : Bool → State → State → Result Value Stop → ℕ → List ℕ → List ℕ
+told_for echo w w' (Ok v) k out = told echo w (Gave (value_of v) w' 0) out
+told_for echo w w' (Err (Refused c)) k out = told echo w (Stopped c w' 0) out
+told_for echo w w' (Err Storage) k out = told_cut w w' k out
+
+abbrev pub counted_for : Result Value Stop → Summary → Summary
+counted_for (Ok v) n = record n { forms = n.forms + 1 }
+counted_for (Err (Refused c)) n = record n { forms = n.forms + 1; conditions = n.conditions + 1 }
+counted_for (Err Storage) n = counted_cut n
+
+-- A run of the text came to this offset and wrote this. What the writer holds has grown by it, where that is known.
+pub record Comes (echo : Bool) (text : List ℕ) (start end : State) (old new : Option (List ℕ)) (at : ℕ) (n : Summary) : Type 0 where
+  pub out : List ℕ
+  pub ran : Ran echo text start end at out n
+  pub appends : Appends old new out
+
+-- The run came to the end of the text.
+abbrev pub Finishes : Bool → List ℕ → State → State → Option (List ℕ) → Option (List ℕ) → Summary → Type 0
+Finishes echo text start end old new n = (at : ℕ) × Comes echo text start end old new at n × Gaps (drop at text) []
+
+-- The run came to a place where the text has no next datum, or memory or the writer failed it after a form.
+abbrev pub Faults : Bool → List ℕ → State → State → Option (List ℕ) → Option (List ℕ) → RunFault → Type 0
+Faults echo text start end old new (Reader fault) =
+    (at : ℕ) × (n : Summary) × Comes echo text start end old new at n × OnFault fault (λ kind k. (k ≤ length text) × NextFails (drop at text) kind (drop k text))
+Faults echo text start end old new Write = (at : ℕ) × (n : Summary) × (out : List ℕ) × Ran echo text start end at out n
+Faults echo text start end old new Memory = (at : ℕ) × (n : Summary) × (out : List ℕ) × Ran echo text start end at out n
+Faults echo text start end old new Read = ⊥
+Faults echo text start end old new TooLong = ⊥
+
+-- where the loop over the forms of a text stands
+pub record Stands (echo : Bool) (text : List ℕ) (start end : State) (old new : Option (List ℕ)) (at : ℕ) (n : Summary) (fresh : Bool) : Type 0 where
+  pub come : Comes echo text start end old new at n
+  pub within : at ≤ length text
+  pub line : fresh ≡ ends_line come.out
+  pub forms : n.forms ≤ at
+  pub conditions : n.conditions ≤ n.forms
+  pub storages : n.storages ≤ n.forms
+
+-- A form was performed, and what is told of it was written.
+pub record Performs (echo : Bool) (d : Dat) (w w' : State) (old new : Option (List ℕ)) (n n' : Summary) (fresh fresh' : Bool) : Type 0 where
+  pub answer : Result Value Stop
+  pub left : ℕ
+  pub answers : Answers (step d) w w.limits.steps answer w' left
+  pub counts : n' ≡ counted_for answer n
+  pub piece : List ℕ
+  pub appends : Appends old new piece
+  pub tells : (out : List ℕ) → fresh ≡ ends_line out → out ++ piece ≡ told_for echo w w' answer (w.limits.steps - left) out
+  pub line : (out : List ℕ) → fresh ≡ ends_line out → fresh' ≡ ends_line (out ++ piece)
+
+-- A form was performed.
+pub record Performed (d : Dat) (w w' : State) : Type 0 where
+  pub answer : Result Value Stop
+  pub left : ℕ
+  pub answers : Answers (step d) w w.limits.steps answer w' left
+
+-- .. and then memory or the writer failed.
+abbrev pub FailsAfter : Dat → State → State → RunFault → Type 0
+FailsAfter d w w' Read = ⊥
+FailsAfter d w w' TooLong = ⊥
+FailsAfter d w w' (Reader fault) = ⊥
+FailsAfter d w w' Write = Performed d w w'
+FailsAfter d w w' Memory = Performed d w w'

@@ -1,13 +1,17 @@
 //! Runs: the forms of a whole text one after another, and the transcript of them.
-ghost use Rattle.std.specs.Prelude.{◌≡◌, ◌++◌, ◌∷◌, ◌+◌, [], ℕ, IfOk, OnOk, Result, map, length, drop};
+ghost use Rattle.std.specs.Prelude.{◌≡◌, ◌++◌, ◌∷◌, ◌+◌, ◌<◌, ◌≤◌, ◌^◌, [], ℕ, List, IfOk, IfErr, OnOk, IfSome, length, drop, true};
+ghost use Rattle.lisp_data.specs.Print.{text_of};
 ghost use Rattle.lisp_data.specs.ValueView.{value_of};
-ghost use Rattle.clos_system.specs.World.{seen, names_of};
+ghost use Rattle.lisp_data.specs.DatumView.{datum_of};
+ghost use Rattle.clos_system.specs.World.{State, seen, names_of};
+ghost use Rattle.clos_system.specs.Session.{state_of};
+ghost use Rattle.clos_system.specs.Transcript.{ends_line, fresh_line, condition_text, storage_text, told_for, counted_for, Finishes, Faults, Performs, FailsAfter};
 
 use crate::condition::{Condition, Stop};
 use crate::session::{Session, perform};
 use crate::world::World;
 use itoa::Buffer;
-use lisp_data::{Value, prin1};
+use lisp_data::{Datum, Value, prin1};
 use lisp_reader::{ReadFault, read_form};
 use std::alloc::{AllocError, Global};
 use std::io::{ErrorKind, Read, Write};
@@ -91,7 +95,10 @@ fn run_text<W: Write>(
     text: &[u8],
     writer: &mut W,
     echo: bool,
-) -> Result<Summary, RunFault> {
+) -> Result<Summary, RunFault>
+    ensures finishes { IfOk result (Finishes echo text.now (state_of session.old) (state_of session.new) (W.contents writer.old) (W.contents writer.new)) }
+    ensures faults { IfErr result (Faults echo text.now (state_of session.old) (state_of session.new) (W.contents writer.old) (W.contents writer.new)) }
+{
     let mut summary = Summary {
         forms: 0,
         conditions: 0,
@@ -102,23 +109,16 @@ fn run_text<W: Write>(
     loop {
         match read_form(alloc, text, at) {
             Ok(None) => return Ok(summary),
-            Ok(Some((datum, next))) => {
-                let from = session.world.written.len();
-                let limit = session.world.limits.steps;
-                let mut left = limit;
-                let answer = perform(alloc, &mut session.world, &datum, &mut left);
-                let counts = counted(summary, &answer);
-                let world = &session.world;
-                let told = tell(alloc, world, from, answer, limit.saturating_sub(left), echo, fresh);
-                let Ok(piece) = told else {
-                    return Err(RunFault::Memory);
-                };
-                if writer.write_all(piece.as_slice()).is_err() {
-                    return Err(RunFault::Write);
+            Ok(Some(found)) => {
+                let (datum, next) = found;
+                match run_form(alloc, session, datum, writer, echo, fresh, summary) {
+                    Ok(told) => {
+                        summary = told.0;
+                        fresh = told.1;
+                        at = next;
+                    }
+                    Err(fault) => return Err(fault),
                 }
-                summary = counts;
-                fresh = ends_line(fresh, piece.as_slice());
-                at = next;
             }
             Err(ReadFault::Memory) => return Err(RunFault::Memory),
             Err(fault) => return Err(RunFault::Reader(fault)),
@@ -126,24 +126,83 @@ fn run_text<W: Write>(
     }
 }
 
-/// The counts with one more form, which ended so.
-fn counted(summary: Summary, answer: &Result<Value, Stop>) -> Summary {
-    let mut counts = summary;
-    counts.forms = counts.forms.saturating_add(1);
-    match answer {
-        Ok(_) => {}
-        Err(Stop::Refused(_)) => counts.conditions = counts.conditions.saturating_add(1),
-        Err(Stop::Storage) => counts.storages = counts.storages.saturating_add(1),
+/// Performs a form and writes what is told of it. Answers the counts with it, and whether a line has ended.
+fn run_form<W: Write>(
+    alloc: Global,
+    session: &mut Session,
+    datum: Datum,
+    writer: &mut W,
+    echo: bool,
+    fresh: bool,
+    summary: Summary,
+) -> Result<(Summary, bool), RunFault>
+    requires forms { summary.forms + 1 < 2 ^ 64 }
+    requires conditions { summary.conditions ≤ summary.forms }
+    requires storages { summary.storages ≤ summary.forms }
+    ensures performs { IfOk result (λ r. Performs echo (datum_of datum) (state_of session.old) (state_of session.new)
+        (W.contents writer.old) (W.contents writer.new) summary r.0 fresh r.1) }
+    ensures few { IfOk result (λ r. (r.0.conditions ≤ r.0.forms) × (r.0.storages ≤ r.0.forms) × (r.0.forms ≡ summary.forms + 1)) }
+    ensures fails { IfErr result (FailsAfter (datum_of datum) (state_of session.old) (state_of session.new)) }
+{
+    let from = session.world.written.len();
+    let limit = session.world.limits.steps;
+    let mut left = limit;
+    let answer = perform(alloc, &mut session.world, &datum, &mut left);
+    let counts = counted(summary, &answer);
+    let world = &session.world;
+    let taken = limit.saturating_sub(left);
+    let Ok(piece) = tell(alloc, world, from, answer, taken, echo, fresh) else {
+        return Err(RunFault::Memory);
+    };
+    if writer.write_all(piece.as_slice()).is_err() {
+        return Err(RunFault::Write);
     }
-    counts
+    let line = ends_line(fresh, piece.as_slice());
+    Ok((counts, line))
+}
+
+/// The counts with one more form, which ended so.
+fn counted(summary: Summary, answer: &Result<Value, Stop>) -> Summary
+    requires forms { summary.forms + 1 < 2 ^ 64 }
+    requires conditions { summary.conditions ≤ summary.forms }
+    requires storages { summary.storages ≤ summary.forms }
+    ensures counts { result ≡ counted_for answer.now summary }
+    ensures few { (result.conditions ≤ result.forms) × (result.storages ≤ result.forms) × (result.forms ≡ summary.forms + 1) }
+{
+    let Summary {
+        forms,
+        conditions,
+        storages,
+    } = summary;
+    let forms = forms + 1;
+    match answer {
+        Ok(_) => Summary {
+            forms,
+            conditions,
+            storages,
+        },
+        Err(Stop::Refused(_)) => Summary {
+            forms,
+            conditions: conditions + 1,
+            storages,
+        },
+        Err(Stop::Storage) => Summary {
+            forms,
+            conditions,
+            storages: storages + 1,
+        },
+    }
 }
 
 /// Whether a line has ended with this piece, after one that had or had not.
-fn ends_line(fresh: bool, piece: &[u8]) -> bool {
-    match piece.last() {
-        None => fresh,
-        Some(byte) => *byte == b'\n',
+#[tactic(auto, using(crate::proofs::Runs::last_byte, crate::proofs::Runs::nothing_more))]
+fn ends_line(fresh: bool, piece: &[u8]) -> bool
+    ensures { (out : List ℕ) → fresh ≡ ends_line out → result ≡ ends_line (out ++ piece.now) }
+{
+    if piece.is_empty() {
+        return fresh;
     }
+    piece[piece.len() - 1] == b'\n'
 }
 
 /// What a run tells of a form: what the form wrote, and on a fresh line its condition or, with `echo`, its value.
@@ -155,36 +214,82 @@ fn tell(
     taken: u64,
     echo: bool,
     fresh: bool,
-) -> Result<Vec<u8>, AllocError> {
-    let mut piece = Vec::new(alloc);
-    if from <= world.written.len() {
-        piece.extend_from_slice(&world.written.as_slice()[from..])?;
-    }
+) -> Result<Vec<u8>, AllocError>
+    ensures { IfOk result (λ r. (out : List ℕ) (w : State) → fresh ≡ ends_line out → from ≡ length w.written
+        → out ++ r.items ≡ told_for echo w (seen world.now) answer taken out) }
+{
+    let piece = written_since(alloc, world, from)?;
     match answer {
         Ok(value) => {
             if echo {
-                end_line(&mut piece, fresh)?;
-                let text = prin1(alloc, &value, world)?;
-                piece.extend_from_slice(text.as_slice())?;
-                piece.push(b'\n')?;
+                tell_value(alloc, piece, world, &value, fresh)
+            } else {
+                Ok(piece)
             }
         }
-        Err(Stop::Refused(condition)) => {
-            end_line(&mut piece, fresh)?;
-            tell_condition(alloc, &mut piece, world, &condition)?;
-        }
-        Err(Stop::Storage) => {
-            end_line(&mut piece, fresh)?;
-            piece.extend_from_slice(b"; 0 (STORAGE ")?;
-            piece.extend_from_slice(Buffer::new().format(taken).as_bytes())?;
-            piece.extend_from_slice(b")\n")?;
-        }
+        Err(Stop::Refused(condition)) => tell_refused(alloc, piece, world, &condition, fresh),
+        Err(Stop::Storage) => tell_storage(piece, taken, fresh),
     }
+}
+
+/// What the forms wrote from a place on.
+fn written_since(alloc: Global, world: &World, from: usize) -> Result<Vec<u8>, AllocError>
+    ensures { IfOk result (λ r. r.items ≡ drop from (seen world.now).written) }
+{
+    if from >= world.written.len() {
+        return Ok(Vec::new(alloc));
+    }
+    Vec::from_slice(alloc, &world.written.as_slice()[from..])
+}
+
+fn tell_value(
+    alloc: Global,
+    mut piece: Vec<u8>,
+    world: &World,
+    value: &Value,
+    fresh: bool,
+) -> Result<Vec<u8>, AllocError>
+    ensures { IfOk result (λ r. (out : List ℕ) → fresh ≡ ends_line out
+        → out ++ r.items ≡ fresh_line (out ++ piece.items) ++ text_of true (names_of (seen world.now)) (value_of value.now) ++ 10 ∷ []) }
+{
+    end_line(&mut piece, fresh)?;
+    let text = prin1(alloc, value, world)?;
+    piece.extend_from_slice(text.as_slice())?;
+    piece.push(b'\n')?;
+    Ok(piece)
+}
+
+fn tell_refused(
+    alloc: Global,
+    mut piece: Vec<u8>,
+    world: &World,
+    condition: &Condition,
+    fresh: bool,
+) -> Result<Vec<u8>, AllocError>
+    ensures { IfOk result (λ r. (out : List ℕ) → fresh ≡ ends_line out
+        → out ++ r.items ≡ fresh_line (out ++ piece.items) ++ condition_text (names_of (seen world.now)) condition.now) }
+{
+    end_line(&mut piece, fresh)?;
+    tell_condition(alloc, &mut piece, world, condition)?;
+    Ok(piece)
+}
+
+#[tactic(auto, using(crate::proofs::Runs::storage_told))]
+fn tell_storage(mut piece: Vec<u8>, taken: u64, fresh: bool) -> Result<Vec<u8>, AllocError>
+    ensures { IfOk result (λ r. (out : List ℕ) → fresh ≡ ends_line out
+        → out ++ r.items ≡ fresh_line (out ++ piece.items) ++ storage_text taken) }
+{
+    end_line(&mut piece, fresh)?;
+    piece.extend_from_slice(b"; 0 (STORAGE ")?;
+    piece.extend_from_slice(Buffer::new().format(taken).as_bytes())?;
+    piece.extend_from_slice(b")\n")?;
     Ok(piece)
 }
 
 /// Ends a line that was begun.
-fn end_line(piece: &mut Vec<u8>, fresh: bool) -> Result<(), AllocError> {
+fn end_line(piece: &mut Vec<u8>, fresh: bool) -> Result<(), AllocError>
+    ensures { OnOk result ((out : List ℕ) → fresh ≡ ends_line out → out ++ piece.new.items ≡ fresh_line (out ++ piece.old.items)) }
+{
     if !ends_line(fresh, piece.as_slice()) {
         piece.push(b'\n')?;
     }
@@ -197,7 +302,9 @@ fn tell_condition(
     piece: &mut Vec<u8>,
     world: &World,
     condition: &Condition,
-) -> Result<(), AllocError> {
+) -> Result<(), AllocError>
+    ensures { OnOk result (piece.new.items ≡ piece.old.items ++ condition_text (names_of (seen world.now)) condition.now) }
+{
     piece.extend_from_slice(b"; ")?;
     piece.extend_from_slice(Buffer::new().format(condition.kind.number()).as_bytes())?;
     piece.extend_from_slice(b" (")?;

@@ -1,8 +1,11 @@
-use Rattle.std.proofs.Common.{◌≤◌, ◌-◌, length}
+use Rattle.std.proofs.Common.{◌-◌, length}
+use Rattle.clos_system.specs.Session.{state_of}
+use Rattle.clos_system.specs.Transcript.{Stands}
 use Rattle.clos_system.proofs.transcript.run_text.Given as goal
 
-abbrev pub invariant-loop-datum : goal.invariant-loop-datum
-invariant-loop-datum g l = l.at ≤ length l.text
+abbrev pub invariant-loop-found : goal.invariant-loop-found
+invariant-loop-found g l =
+    Stands l.echo l.text (state_of l.fn.session) (state_of l.session) (g.W.Write.contents l.fn.writer) (g.W.Write.contents l.writer) l.at l.summary l.fresh
 
-abbrev pub decreases-loop-datum : goal.decreases-loop-datum
-decreases-loop-datum g l = length l.text - l.at
+abbrev pub decreases-loop-found : goal.decreases-loop-found
+decreases-loop-found g l = length l.text - l.at
