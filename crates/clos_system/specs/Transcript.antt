@@ -1,5 +1,5 @@
 -- Runs of whole texts, and their transcripts.
-use Rattle.std.specs.Prelude.{◌≡◌, ℕ, ◌+◌, ◌-◌, ◌≤◌, ◌==◌, List, [], ◌∷◌, ◌++◌, Bool, true, false, codes, Option, Result, Ok, Err, if◌then◌else◌, length, drop}
+use Rattle.std.specs.Prelude.{◌≡◌, ℕ, ◌+◌, ◌-◌, ◌<◌, ◌≤◌, ◌==◌, List, [], ◌∷◌, ◌++◌, Bool, true, false, codes, Option, Result, Ok, Err, IfSome, if◌then◌else◌, length, drop}
 use Rattle.std.specs.List.{flat_map}
 use Rattle.std.specs.Fmt.{decimal}
 use Rattle.std.specs.Io.KnownBytes.{Appends}
@@ -140,3 +140,19 @@ FailsAfter d w w' TooLong = ⊥
 FailsAfter d w w' (Reader fault) = ⊥
 FailsAfter d w w' Write = Performed d w w'
 FailsAfter d w w' Memory = Performed d w w'
+
+-- The source could not be had: it is too long where that is said.
+abbrev pub SourceFails : Option (List ℕ) → RunFault → Type 0
+SourceFails known Read = Unit {0}
+SourceFails known TooLong = IfSome known (λ text. 16_777_216 < length text)
+SourceFails known (Reader fault) = ⊥
+SourceFails known Write = ⊥
+SourceFails known Memory = Unit {0}
+
+-- Where the source could not be read, or is too long, no form ran and nothing was written.
+abbrev pub RunFaults : Bool → Option (List ℕ) → State → State → Option (List ℕ) → Option (List ℕ) → RunFault → Type 0
+RunFaults echo known start end old new Read = (end ≡ start) × (new ≡ old)
+RunFaults echo known start end old new TooLong = (end ≡ start) × (new ≡ old) × IfSome known (λ text. 16_777_216 < length text)
+RunFaults echo known start end old new (Reader fault) = IfSome known (λ text. Faults echo text start end old new (Reader fault))
+RunFaults echo known start end old new Write = IfSome known (λ text. Faults echo text start end old new Write)
+RunFaults echo known start end old new Memory = IfSome known (λ text. Faults echo text start end old new Memory)

@@ -5,7 +5,7 @@ ghost use Rattle.lisp_data.specs.ValueView.{value_of};
 ghost use Rattle.lisp_data.specs.DatumView.{datum_of};
 ghost use Rattle.clos_system.specs.World.{State, seen, names_of};
 ghost use Rattle.clos_system.specs.Session.{state_of};
-ghost use Rattle.clos_system.specs.Transcript.{ends_line, fresh_line, condition_text, storage_text, told_for, counted_for, Finishes, Faults, Performs, FailsAfter};
+ghost use Rattle.clos_system.specs.Transcript.{ends_line, fresh_line, condition_text, storage_text, told_for, counted_for, Finishes, Faults, Performs, FailsAfter, RunFaults, SourceFails};
 
 use crate::condition::{Condition, Stop};
 use crate::session::{Session, perform};
@@ -58,19 +58,31 @@ pub fn run<R: Read, W: Write>(
     reader: &mut R,
     writer: &mut W,
     echo: bool,
-) -> Result<Summary, RunFault> {
-    let source = read_source(alloc, reader)?;
-    run_text(alloc, session, source.as_slice(), writer, echo)
+) -> Result<Summary, RunFault>
+    ensures finishes { IfOk result (λ n. IfSome (R.remaining reader.old) (λ text. (length text ≤ 16_777_216)
+        × Finishes echo text (state_of session.old) (state_of session.new) (W.contents writer.old) (W.contents writer.new) n)) }
+    ensures faults { IfErr result (RunFaults echo (R.remaining reader.old) (state_of session.old) (state_of session.new)
+        (W.contents writer.old) (W.contents writer.new)) }
+{
+    match read_source(alloc, reader) {
+        Ok(source) => run_text(alloc, session, source.as_slice(), writer, echo),
+        Err(fault) => Err(fault),
+    }
 }
 
 /// The bytes of a source, of which there are not too many.
-fn read_source<R: Read>(alloc: Global, reader: &mut R) -> Result<Vec<u8>, RunFault> {
+fn read_source<R: Read>(alloc: Global, reader: &mut R) -> Result<Vec<u8>, RunFault>
+    ensures whole { IfOk result (λ s. (length s.items ≤ 16_777_216) × IfSome (R.remaining reader.old) (λ text. s.items ≡ text)) }
+    ensures fails { IfErr result (SourceFails (R.remaining reader.old)) }
+{
     let mut source = Vec::new(alloc);
     let mut buffer = [0u8; 8192];
     for _ in 0..MAX_READS {
         match reader.read(&mut buffer) {
-            Ok(0) => return Ok(source),
             Ok(count) => {
+                if count == 0 {
+                    return Ok(source);
+                }
                 if source.extend_from_slice(&buffer[..count]).is_err() {
                     return Err(RunFault::Memory);
                 }
