@@ -3,3 +3,6 @@ pub mod Order
 pub mod Turns
 pub mod Quiet
 pub mod Running
+pub mod Parsing
+pub mod Steps
+pub mod StepQuiet

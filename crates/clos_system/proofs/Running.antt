@@ -40,9 +40,12 @@ turns_of_leads run w s (Err Storage) m h = (refl, refl)
 
 pub wrote : (m : Machine) (value : Value) (w : State) (s : ℕ) (w' : State) (s' : ℕ) → Changes (written (value_of value)) (value_of value) w s (Ok tt) w' s'
     → Turns (given_to m Princ (value_of value)) w s (Ok (Give value)) m w' s'
-wrote m value w s w' s' h =
-    (1, h.0 ∙ omega arith, λ t. sym (ap (resume m.levels m.context)
-      (ap (λ k. step_then (written (value_of value)) w k) (one_more t) ∙ h.1 t)))
+wrote m value w s w' s' h = (
+  1,
+  h.0 ∙ omega arith,
+  λ t. sym (ap (resume m.levels m.context)
+      (ap (λ k. step_then (written (value_of value)) w k) (one_more t) ∙ h.1 t)),
+)
 
 pub not_written : (m : Machine) (v : Val) (w : State) (s : ℕ) (stop : Stop) (w' : State) (s' : ℕ) (m' : Machine) → Changes (written v) v w s (Err stop) w' s'
     → Turns (given_to m Princ v) w s (Err stop) m' w' s'
@@ -138,7 +141,7 @@ ended run w0 s0 den w s (Refused c) m w' s' q r e = ap (run w0) r.steps ∙ sym 
 ended run w0 s0 den w s Storage m w' s' q r e = (
   r.taken,
   r.steps ∙ ap (λ k. r.taken + k) (sym e.1),
-  subst (λ u. leaves (run w0 r.taken) u 0) (sym e.0) (subst (λ o. leaves o w 0) (r.same 0 ∙ ap (run w0) (add-zero r.taken)) q)
+  subst (λ u. leaves (run w0 r.taken) u 0) (sym e.0) (subst (λ o. leaves o w 0) (r.same 0 ∙ ap (run w0) (add-zero r.taken)) q),
 )
 
 -- the top level takes the value

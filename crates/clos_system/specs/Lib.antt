@@ -10,3 +10,10 @@ pub mod Condition
 pub mod World
 pub mod Meaning
 pub mod Machine
+pub mod Names
+pub mod Syntax
+pub mod TopSyntax
+pub mod Step
+pub mod Initial
+pub mod Session
+pub mod Transcript

@@ -1,6 +1,7 @@
 //! Classes and their precedence (HyperSpec 4.3).
 ghost use Rattle.std.specs.Prelude.{◌≡◌, ◌<◌, ◌++◌, ◌∷◌, [], IfOk, OnErr, OnOk, List, map, position, if◌then◌else◌, is_ok, option_map, length, ℕ, slice_index, ◌==◌};
 ghost use Rattle.std.specs.List.{list_any};
+ghost use Rattle.std.specs.Str.{bytes_eq};
 ghost use Rattle.lisp_data.specs.Name.{same_name};
 ghost use Rattle.clos_system.specs.Class.{precedence, named};
 
@@ -68,6 +69,13 @@ impl ClassIds {
         ensures { result.0 ≡ slice_index self.now place }
     {
         self.ids[place]
+    }
+
+    /// Whether both are the same classes in the same order.
+    pub fn is(&self, other: &ClassIds) -> bool
+        ensures { result ≡ bytes_eq self.now other.now }
+    {
+        same_ids(self.ids.as_slice(), other.ids.as_slice())
     }
 
     /// Whether this one is among them.
@@ -151,4 +159,17 @@ fn has(ids: &[ClassId], id: ClassId) -> bool
     ensures { result ≡ list_any (λ c. c.0 == id.0) ids.now }
 {
     ids.iter().any(|c| c.0 == id.0)
+}
+
+fn same_ids(a: &[ClassId], b: &[ClassId]) -> bool
+    ensures { result ≡ bytes_eq (map (λ c. c.0) a.now) (map (λ c. c.0) b.now) }
+{
+    let mut place = 0;
+    while place < a.len() && place < b.len() {
+        if a[place].0 != b[place].0 {
+            return false;
+        }
+        place += 1;
+    }
+    a.len() == b.len()
 }

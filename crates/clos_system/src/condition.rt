@@ -1,7 +1,7 @@
 //! The conditions that forms end with.
 ghost use Rattle.std.specs.Prelude.{◌≡◌, ◌∷◌, [], IfOk, map};
 ghost use Rattle.lisp_data.specs.ValueView.{value_of};
-ghost use Rattle.clos_system.specs.Condition.{name_value};
+ghost use Rattle.clos_system.specs.Condition.{name_value, number_of, condition_name};
 ghost use Rattle.clos_system.specs.declared.condition.Condition.{Condition};
 ghost use Rattle.clos_system.specs.declared.condition.Stop.TheVariants.{Storage};
 
@@ -27,7 +27,9 @@ pub enum ConditionKind {
 
 impl ConditionKind {
     /// Its number, from 1 to 31.
-    pub fn number(self) -> u64 {
+    pub fn number(self) -> u64
+        ensures { result ≡ number_of self }
+    {
         match self {
             ConditionKind::ProgramError => 1,
             ConditionKind::UnboundVariable => 2,
@@ -44,7 +46,9 @@ impl ConditionKind {
     }
 
     /// Its name, as it is printed.
-    pub fn name(self) -> &'static str {
+    pub fn name(self) -> &'static str
+        ensures { result.now ≡ condition_name self }
+    {
         match self {
             ConditionKind::ProgramError => "PROGRAM-ERROR",
             ConditionKind::UnboundVariable => "UNBOUND-VARIABLE",
@@ -112,11 +116,7 @@ pub fn about(alloc: Global, kind: ConditionKind, value: Value) -> Result<Conditi
 }
 
 /// The condition of this kind that is about this name.
-pub fn about_name(
-    alloc: Global,
-    kind: ConditionKind,
-    name: &Name,
-) -> Result<Condition, AllocError>
+pub fn about_name(alloc: Global, kind: ConditionKind, name: &Name) -> Result<Condition, AllocError>
     ensures { IfOk result (λ c. c ≡ record { kind = kind; items = name_value name.now ∷ [] }) }
 {
     about(alloc, kind, value_named(name)?)

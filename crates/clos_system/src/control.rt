@@ -11,18 +11,18 @@ ghost use Rattle.clos_system.specs.declared.machine.Task.TheVariants.{Plain};
 ghost use Rattle.clos_system.specs.declared.machine.Frame.TheVariants.{Body, Collect};
 ghost use Rattle.clos_system.specs.Machine.{Leads, Grows, inside, denote, resume, below, passed, given_to};
 
-use std::alloc::{AllocError, Global};
-use std::mem;
-
-use lisp_data::{Items, MethodId, Name, Value};
-
 use crate::arguments::{Arguments, Context, Values};
 use crate::condition::{ConditionKind, Stop, about_call, about_name, plain};
 use crate::effective::{EffectiveForm, EffectiveNode, combined};
 use crate::form::{Form, Forms, Node};
-use crate::generic::{Generic, Method, Parameters, generic_named, method_numbered, ordered_methods};
+use crate::generic::{
+    Generic, Method, Parameters, generic_named, method_numbered, ordered_methods,
+};
 use crate::machine::{Doing, Frame, Level, Machine, SystemCall, Task};
 use crate::world::World;
+use lisp_data::{Items, MethodId, Name, Value};
+use std::alloc::{AllocError, Global};
+use std::mem;
 
 /// Evaluates this next, and then does what the frame does with its value.
 pub fn begin(machine: &mut Machine, next: Task, frame: Frame) -> Result<Doing, Stop>
@@ -102,18 +102,20 @@ fn start_form(
             let next = Task::Plain(inner.copy()?);
             begin(machine, next, Frame::MakeInstance)
         }
-        Node::Call(name, forms) => collect_next(alloc, machine, world, name.copy()?, forms, Values::new(alloc)),
+        Node::Call(name, forms) => collect_next(
+            alloc,
+            machine,
+            world,
+            name.copy()?,
+            forms,
+            Values::new(alloc),
+        ),
     }
 }
 
 /// A variable gives its value.
 #[tactic(auto, using(crate::proofs::Turns::stopped_through))]
-fn variable(
-    alloc: Global,
-    machine: &mut Machine,
-    world: &World,
-    name: &Name,
-) -> Result<Doing, Stop>
+fn variable(alloc: Global, machine: &mut Machine, world: &World, name: &Name) -> Result<Doing, Stop>
     ensures leads { Leads (inside machine.old (variable_value name.now (argument_named machine.old.context.parameters machine.old.context.arguments name.now))) (seen world.now) result machine.new }
     ensures small { Grows machine.old.levels result machine.new }
 {
@@ -312,12 +314,7 @@ fn start_system(
 }
 
 /// A task begins, with less room.
-pub fn start(
-    alloc: Global,
-    machine: &mut Machine,
-    world: &World,
-    task: Task,
-) -> Result<Doing, Stop>
+pub fn start(alloc: Global, machine: &mut Machine, world: &World, task: Task) -> Result<Doing, Stop>
     ensures leads { Leads (inside machine.old (begun (meaning machine.old.room) machine.old.context task)) (seen world.now) result machine.new }
     ensures small { Grows machine.old.levels result machine.new }
 {

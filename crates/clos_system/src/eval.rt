@@ -9,10 +9,6 @@ ghost use Rattle.clos_system.specs.Machine.{Turns, Answers, Grows, Designates, d
 ghost use Rattle.clos_system.specs.declared.machine.Task.TheVariants.{Plain};
 ghost use Rattle.clos_system.specs.declared.machine.Doing.TheVariants.{Start};
 
-use std::alloc::Global;
-
-use lisp_data::{ClassId, InstanceId, Items, Name, Value, princ};
-
 use crate::arguments::{Arguments, Context, Values};
 use crate::class::class_named;
 use crate::condition::{ConditionKind, Stop, about, about_name, plain};
@@ -21,6 +17,8 @@ use crate::form::Form;
 use crate::generic::Parameters;
 use crate::machine::{Doing, Frame, Level, Levels, Machine, SystemCall, Task};
 use crate::world::World;
+use lisp_data::{ClassId, InstanceId, Items, Name, Value, princ};
+use std::alloc::Global;
 
 /// Writes a value's text, which takes a step.
 fn write(alloc: Global, world: &mut World, value: &Value, steps: &mut u64) -> Result<(), Stop>

@@ -1,14 +1,12 @@
 //! The machine that evaluates forms without recursion: what comes next, and the levels that wait for values.
 ghost use Rattle.std.specs.Prelude.{◌≡◌, ◌∷◌, [], ℕ, ◌<◌, ◌≤◌, length, OnOk, OnErr, IfOk, MatchOption};
 
-use std::alloc::{AllocError, Global};
-use std::marker::Model;
-
-use lisp_data::{InstanceId, Name, Value};
-
 use crate::arguments::{Arguments, Context, Values};
 use crate::effective::EffectiveForm;
 use crate::form::{Form, Forms};
+use lisp_data::{InstanceId, Name, Value};
+use std::alloc::{AllocError, Global};
+use std::marker::Model;
 
 /// What is evaluated.
 #[derive(Drop)]
@@ -70,7 +68,6 @@ pub struct Levels {
 impl Model for Levels {
     ghost use Rattle.std.specs.Prelude.{List, reverse};
     ghost use Rattle.clos_system.specs.declared.machine.Level.{Level};
-
     ghost use Rattle.std.specs.Coded.{coded_list};
     ghost use Rattle.clos_system.specs.contracts.machine.Level as level;
 

@@ -1,3 +1,7 @@
+pub mod OneAnswer
+pub mod OneFault
+pub mod OneDatum
+pub mod OneGap
 pub mod OnAnswers
 pub mod OnGaps
 pub mod OnLists

@@ -1,5 +1,5 @@
 -- What reading a text from an offset on answers.
-use Rattle.std.specs.Prelude.{◌≢◌, ℕ, ◌≤◌, ◌<◌, List, [], length, drop, Option, Some, None, Result, Ok, Err}
+use Rattle.std.specs.Prelude.{◌≡◌, ◌≢◌, ℕ, ◌≤◌, ◌<◌, List, [], length, drop, Option, Some, None, Result, Ok, Err}
 use Rattle.lisp_data.specs.Datum.{Dat}
 use Rattle.lisp_data.specs.DatumView.{datum_of}
 use Rattle.lisp_data.specs.declared.datum.Datum.{Datum}
@@ -23,13 +23,29 @@ pub data NextFails : List ℕ → Kind → List ℕ → Type 0 where
   unfinished : (text start at : List ℕ) → Gaps text start → start ≢ [] → Fails most_open start end_inside at → NextFails text end_inside start
   in_datum : (text start : List ℕ) (kind : Kind) (at : List ℕ) → Gaps text start → start ≢ [] → Fails most_open start kind at → kind ≢ end_inside → NextFails text kind at
 
--- the next datum with the offset after it, or nothing but gaps, or the fault with its offset
+-- what a text gives next: nothing but gaps, a datum and what follows it, or a fault and the text from
+-- where it stands
+pub data Outcome : Type 0 where
+  nothing_left : Outcome
+  a_datum : Dat → List ℕ → Outcome
+  a_fault : Kind → List ℕ → Outcome
+
+abbrev pub Gives : List ℕ → Outcome → Type 0
+Gives text nothing_left = Gaps text []
+Gives text (a_datum d rest) = Next text d rest
+Gives text (a_fault kind at) = NextFails text kind at
+
+-- the answer is that of the text from an offset on, with the offsets of what follows or of the fault
 abbrev pub Answers : List ℕ → ℕ → Result (Option (Datum × ℕ)) ReadFault → Type 0
-Answers bytes from (Ok None) = Gaps (drop from bytes) []
+Answers bytes from (Ok None) = Gives (drop from bytes) nothing_left
 Answers bytes from (Ok (Some found)) =
-    (found.1 ≤ length bytes) × Next (drop from bytes) (datum_of found.0) (drop found.1 bytes)
+    (found.1 ≤ length bytes) × Gives (drop from bytes) (a_datum (datum_of found.0) (drop found.1 bytes))
 Answers bytes from (Err fault) =
-    OnFault fault (λ kind n. (n ≤ length bytes) × NextFails (drop from bytes) kind (drop n bytes))
+    OnFault fault (λ kind n. (n ≤ length bytes) × Gives (drop from bytes) (a_fault kind (drop n bytes)))
+
+-- a text gives one thing next
+abbrev pub GivesOne : Type 0
+GivesOne = (text : List ℕ) (one other : Outcome) → Gives text one → Gives text other → other ≡ one
 
 -- a datum that begins at an offset, with the offset after it
 abbrev pub Reads : List ℕ → ℕ → ℕ → Datum × ℕ → Type 0

@@ -1,5 +1,5 @@
 //! Data: lists, prefixes and what stands in them (HyperSpec 2.2, 2.4).
-ghost use Rattle.std.specs.Prelude.{◌≡◌, ◌+◌, ◌<◌, ◌≤◌, [], ◌∷◌, length, drop, map, slice_index, IfOk, IsTrue, MatchResult};
+ghost use Rattle.std.specs.Prelude.{◌≡◌, ◌+◌, ◌<◌, ◌≤◌, [], ◌∷◌, length, drop, map, slice_index, IfOk, IfSome, IsTrue, MatchResult};
 ghost use Rattle.lisp_data.specs.DatumView.{datum_of};
 ghost use Rattle.lisp_data.specs.Datum.{list, list_from};
 ghost use Rattle.lisp_reader.specs.Answers.{Answers, Reads, Refuses};
@@ -23,7 +23,8 @@ pub fn read_form(
     from: usize,
 ) -> Result<Option<(Datum, usize)>, ReadFault>
     requires { from ≤ length bytes.now }
-    ensures { Answers bytes.now from result }
+    ensures answer { Answers bytes.now from result }
+    ensures advances { IfOk result (λ found. IfSome found (λ datum. from < datum.1)) }
 {
     let start = skip_gaps(bytes, from)?;
     if start == bytes.len() {

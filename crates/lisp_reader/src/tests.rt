@@ -114,6 +114,21 @@ fn lists(rt: HostRuntime) -> Result<(), Fail> {
 }
 
 #[test]
+fn a_long_list(rt: HostRuntime) -> Result<(), Fail> {
+    let alloc = rt.alloc();
+    let mut text = vec![in alloc; b'"'; 200_002]?;
+    text[0] = b'(';
+    text[200_001] = b')';
+    let (datum, end) = read_form(alloc, text.as_slice(), 0)?.ok_or("a datum")?;
+    assert_eq!(rt; end, 200_002);
+    match datum {
+        Datum::List(found) => assert_eq!(rt; found.len(), 100_000),
+        _ => assert!(rt; false, "a list of empty strings"),
+    }
+    Ok(())
+}
+
+#[test]
 fn one_after_another(rt: HostRuntime) {
     let alloc = rt.alloc();
     let text = b" a ; one\n(b) ";

@@ -14,5 +14,5 @@ pub returns-in-Some-clause-leads : goal.returns-in-Some-clause-leads
 returns-in-Some-clause-leads c =
     c.run_body.ensures.leads
     (method_run (meaning c.args.machine.now.room) c.args.machine.now.context.arguments (slice_get c.args.world.now.methods.items c.args.id.0)) (λ t. ap
-      (λ o. method_run (meaning c.args.machine.now.room) c.args.machine.now.context.arguments o (seen c.args.world.now) t)
-      (c.in-Some.ensures ∙ ap (λ xs. slice_get xs c.args.id.0) c.deref.ensures.value))
+    (λ o. method_run (meaning c.args.machine.now.room) c.args.machine.now.context.arguments o (seen c.args.world.now) t)
+    (c.in-Some.ensures ∙ ap (λ xs. slice_get xs c.args.id.0) c.deref.ensures.value))

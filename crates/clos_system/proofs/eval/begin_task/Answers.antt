@@ -15,10 +15,14 @@ returns-then-machine-eq0-clause-turns c =
     ∙ ap (λ x. Stopped x (seen c.args.world.now) (c.args.steps.now - 1)) (sym c.plain-then-machine-eq0.ensures)
 
 pub returns-in-Ok-clause-turns : goal.returns-in-Ok-clause-turns
-returns-in-Ok-clause-turns c = (1, omega (arith, c.if-steps-eq0.false), λ t.
-    c.in-Ok.ensures.leads t
-    ∙ sym (start_begins_at c.args.machine.now.levels c.args.machine.now.room c.args.machine.now.context c.args.task (seen c.args.world.now) t
-      (omega (arith, c.if-machine-eq0.false))))
+returns-in-Ok-clause-turns c = (
+  1,
+  omega (arith, c.if-steps-eq0.false),
+  λ t.
+      c.in-Ok.ensures.leads t
+      ∙ sym (start_begins_at c.args.machine.now.levels c.args.machine.now.room c.args.machine.now.context c.args.task (seen c.args.world.now) t
+      (omega (arith, c.if-machine-eq0.false))),
+)
 
 pub returns-in-Err-Refused-clause-turns : goal.returns-in-Err-Refused-clause-turns
 returns-in-Err-Refused-clause-turns c =

@@ -19,7 +19,7 @@ loop-doing-preserved-in-Ok-begin_task c =
     reached_on run (seen c.args.world.now) c.args.steps.now (denote c.loop-doing.machine (Start c.in-Start.task)) (seen c.loop-doing.world) c.loop-doing.steps
     c.in-Ok-begin_task.next c.begin_task.new.machine (seen c.loop-doing.world) c.begin_task.new.steps
     (subst (λ d. Reached run (seen c.args.world.now) c.args.steps.now (denote c.loop-doing.machine d) (seen c.loop-doing.world) c.loop-doing.steps)
-      c.in-Start.is c.loop-doing.invariant) c.in-Ok-begin_task.ensures.turns
+    c.in-Start.is c.loop-doing.invariant) c.in-Ok-begin_task.ensures.turns
 
 pub returns-in-Err : goal.returns-in-Err
 returns-in-Err c =
@@ -28,7 +28,7 @@ returns-in-Err c =
     c.in-Err.stop c.begin_task.new.machine (seen c.loop-doing.world) c.begin_task.new.steps
     (start_quiet c.loop-doing.machine c.in-Start.task (seen c.loop-doing.world))
     (subst (λ d. Reached run (seen c.args.world.now) c.args.steps.now (denote c.loop-doing.machine d) (seen c.loop-doing.world) c.loop-doing.steps)
-      c.in-Start.is c.loop-doing.invariant) c.in-Err.ensures.turns
+    c.in-Start.is c.loop-doing.invariant) c.in-Err.ensures.turns
 
 pub loop-doing-preserved : goal.loop-doing-preserved
 loop-doing-preserved c =
@@ -38,9 +38,9 @@ loop-doing-preserved c =
     reached_on run (seen c.args.world.now) c.args.steps.now rest (seen c.loop-doing.world) c.loop-doing.steps
     c.in-Ok-give.next c.give.new.machine (seen c.give.new.world) c.give.new.steps
     (reached_same run (seen c.args.world.now) c.args.steps.now (denote c.loop-doing.machine (Give c.in-Give.value)) rest (seen c.loop-doing.world)
-      c.loop-doing.steps (λ t. popped c.loop-doing.machine c.in-Some.level c.pop.new.self c.in-Give.value (seen c.loop-doing.world) t c.in-Some.ensures)
-      (subst (λ d. Reached run (seen c.args.world.now) c.args.steps.now (denote c.loop-doing.machine d) (seen c.loop-doing.world) c.loop-doing.steps)
-        c.in-Give.is c.loop-doing.invariant)) c.in-Ok-give.ensures.turns
+    c.loop-doing.steps (λ t. popped c.loop-doing.machine c.in-Some.level c.pop.new.self c.in-Give.value (seen c.loop-doing.world) t c.in-Some.ensures)
+    (subst (λ d. Reached run (seen c.args.world.now) c.args.steps.now (denote c.loop-doing.machine d) (seen c.loop-doing.world) c.loop-doing.steps)
+    c.in-Give.is c.loop-doing.invariant)) c.in-Ok-give.ensures.turns
 
 pub returns-in-Err-give : goal.returns-in-Err-give
 returns-in-Err-give c =
@@ -51,6 +51,6 @@ returns-in-Err-give c =
     c.in-Err-give.stop c.give.new.machine (seen c.give.new.world) c.give.new.steps
     (frame_quiet c.pop.new.self c.in-Some.level.room m.context (below m.context c.in-Some.level.frame) c.in-Some.level.frame (value_of c.in-Give.value) (seen c.loop-doing.world))
     (reached_same run (seen c.args.world.now) c.args.steps.now (denote c.loop-doing.machine (Give c.in-Give.value)) rest (seen c.loop-doing.world)
-      c.loop-doing.steps (λ t. popped c.loop-doing.machine c.in-Some.level c.pop.new.self c.in-Give.value (seen c.loop-doing.world) t c.in-Some.ensures)
-      (subst (λ d. Reached run (seen c.args.world.now) c.args.steps.now (denote c.loop-doing.machine d) (seen c.loop-doing.world) c.loop-doing.steps)
-        c.in-Give.is c.loop-doing.invariant)) c.in-Err-give.ensures.turns
+    c.loop-doing.steps (λ t. popped c.loop-doing.machine c.in-Some.level c.pop.new.self c.in-Give.value (seen c.loop-doing.world) t c.in-Some.ensures)
+    (subst (λ d. Reached run (seen c.args.world.now) c.args.steps.now (denote c.loop-doing.machine d) (seen c.loop-doing.world) c.loop-doing.steps)
+    c.in-Give.is c.loop-doing.invariant)) c.in-Err-give.ensures.turns

@@ -26,13 +26,16 @@ returns-then-steps-eq0-clause-turns c = λ run h.
 pub returns-clause-turns : goal.returns-clause-turns
 returns-clause-turns c = λ run h.
     let w : State = seen c.args.world.now in
-    let more : length w.instances < w.limits.instances = omega (arith, c.instance_count-count.ensures, c.if-count-world.false) in
-    (1, omega (arith, c.if-steps-eq0.false), λ t.
-      c.in-Ok.ensures.leads (λ u k. meaning c.args.machine.now.room c.args.machine.now.context
-        (System (Initialize (record { 0 = c.instance_count-count.result + 1 }))) u k) (seen c.add_instance.new.self) refl (λ k. refl) t
-      ∙ ap (λ u. resume c.args.machine.now.levels c.args.machine.now.context (meaning c.args.machine.now.room c.args.machine.now.context
-        (System (Initialize (record { 0 = c.instance_count-count.result + 1 }))) u t)) c.in-Ok-add_instance.ensures.ok
-      ∙ ap (λ n. resume c.args.machine.now.levels c.args.machine.now.context (meaning c.args.machine.now.room c.args.machine.now.context
-        (System (Initialize (record { 0 = n + 1 }))) (record w { instances = w.instances ++ c.args.class.0 ∷ [] }) t)) c.instance_count-count.ensures
-      ∙ sym (made_next c.args.machine.now (meaning c.args.machine.now.room) c.args.machine.now.context c.args.class.0 w t more)
-      ∙ ap (resume c.args.machine.now.levels c.args.machine.now.context) (h (1 + t)))
+    let more : length w.instances < w.limits.instances = omega (arith, c.instance_count-count.ensures, c.if-count-world.false) in (
+      1,
+      omega (arith, c.if-steps-eq0.false),
+      λ t.
+          c.in-Ok.ensures.leads (λ u k. meaning c.args.machine.now.room c.args.machine.now.context
+          (System (Initialize (record { 0 = c.instance_count-count.result + 1 }))) u k) (seen c.add_instance.new.self) refl (λ k. refl) t
+          ∙ ap (λ u. resume c.args.machine.now.levels c.args.machine.now.context (meaning c.args.machine.now.room c.args.machine.now.context
+          (System (Initialize (record { 0 = c.instance_count-count.result + 1 }))) u t)) c.in-Ok-add_instance.ensures.ok
+          ∙ ap (λ n. resume c.args.machine.now.levels c.args.machine.now.context (meaning c.args.machine.now.room c.args.machine.now.context
+          (System (Initialize (record { 0 = n + 1 }))) (record w { instances = w.instances ++ c.args.class.0 ∷ [] }) t)) c.instance_count-count.ensures
+          ∙ sym (made_next c.args.machine.now (meaning c.args.machine.now.room) c.args.machine.now.context c.args.class.0 w t more)
+          ∙ ap (resume c.args.machine.now.levels c.args.machine.now.context) (h (1 + t)),
+    )

@@ -1,0 +1,61 @@
+-- With no step left a top-level form changes nothing.
+use Rattle.std.proofs.Common.{◌≡◌, ℕ, ◌+◌, ◌==◌, ◌||◌, List, [], ◌∷◌, Option, Some, None, Result, Ok, Err, Bool, true, false, length, refl, slice_get}
+use Rattle.std.specs.Prelude.{nat_lt, nat_le, ◌&&◌, if◌then◌else◌}
+use Rattle.lisp_data.specs.Name.{Nam}
+use Rattle.lisp_data.specs.Datum.{Dat}
+use Rattle.clos_system.specs.Form.{Frms}
+use Rattle.clos_system.specs.Class.{named}
+use Rattle.clos_system.specs.Generic.{function_named}
+use Rattle.clos_system.specs.World.{State}
+use Rattle.clos_system.specs.Meaning.{Out, known}
+use Rattle.clos_system.specs.Machine.{leaves}
+use Rattle.clos_system.specs.Step.{define_class, new_class, superclass_number, define_method, on_function, new_function, new_method, specializer_numbers, performed, checked, step, room_of}
+use Rattle.clos_system.specs.TopSyntax.{top_of}
+use Rattle.clos_system.specs.declared.condition.Condition.{Condition}
+use Rattle.clos_system.specs.declared.generic.Generic.{Generic}
+use Rattle.clos_system.specs.declared.machine.Task.TheVariants.{Plain}
+use Rattle.clos_system.specs.declared.syntax.SyntaxFault.{SyntaxFault}
+use Rattle.clos_system.specs.declared.syntax.SyntaxFault.TheVariants as fault
+use Rattle.clos_system.specs.declared.top.Top.{Top}
+use Rattle.clos_system.specs.declared.top.Top.TheVariants.{DefineClass, DefineMethod, Expression}
+use Rattle.clos_system.proofs.Quiet.{evaluation_quiet}
+
+either : (b : Bool) (x y : Out) (w : State) → leaves x w 0 → leaves y w 0 → leaves (if b then x else y) w 0
+either true x y w p q = p
+either false x y w p q = q
+
+class_quiet : (name : Nam) (o : Option ℕ) (w : State) → leaves (new_class name o w 0) w 0
+class_quiet name None w = (refl, refl)
+class_quiet name (Some s) w = either (nat_lt (length w.classes) (w.limits.classes + 22)) _ _ w (refl, refl) (refl, refl)
+
+define_class_quiet : (name : Nam) (super : Option Nam) (o : Option ℕ) (w : State) → leaves (define_class name super o w 0) w 0
+define_class_quiet name super None w = class_quiet name (superclass_number w super) w
+define_class_quiet name super (Some n) w = either (nat_lt n 22) _ _ w (refl, refl) (refl, refl)
+
+method_quiet : (name : Nam) (g : ℕ) (o : Option Generic) (ps : List Nam) (ss : List ℕ) (body : Frms) (w : State) → leaves (new_method name g o ps ss body w 0) w 0
+method_quiet name g None ps ss body w = (refl, refl)
+method_quiet name g (Some old) ps ss body w =
+    either (old.required == length ps) _ _ w (either (nat_lt (length w.methods) w.limits.methods) _ _ w (refl, refl) (refl, refl)) (refl, refl)
+
+function_quiet : (name : Nam) (o : Option ℕ) (ps : List Nam) (ss : List ℕ) (body : Frms) (w : State) → leaves (on_function name o ps ss body w 0) w 0
+function_quiet name None ps ss body w =
+    either (nat_lt (length w.generics) w.limits.generics && nat_lt (length w.methods) w.limits.methods) _ _ w (refl, refl) (refl, refl)
+function_quiet name (Some g) ps ss body w = method_quiet name g (slice_get w.generics g) ps ss body w
+
+define_method_quiet : (name : Nam) (ps : List Nam) (body : Frms) (r : Result (List ℕ) Condition) (w : State) → leaves (define_method name ps body r w 0) w 0
+define_method_quiet name ps body (Err c) w = (refl, refl)
+define_method_quiet name ps body (Ok ss) w = function_quiet name (function_named w.generics name) ps ss body w
+
+performed_quiet : (top : Top) (w : State) → leaves (performed top w 0) w 0
+performed_quiet (DefineClass name super) w = define_class_quiet name super (named w.classes name) w
+performed_quiet (DefineMethod name ps cs body) w = define_method_quiet name ps body (specializer_numbers w cs) w
+performed_quiet (Expression f) w = evaluation_quiet (room_of w) (known []) (Plain f) w
+
+checked_quiet : (r : Result Top SyntaxFault) (w : State) → leaves (checked r w 0) w 0
+checked_quiet (Ok top) w = performed_quiet top w
+checked_quiet (Err fault.Malformed) w = (refl, refl)
+checked_quiet (Err fault.Unserved) w = (refl, refl)
+checked_quiet (Err fault.Memory) w = (refl, refl)
+
+pub step_quiet : (d : Dat) (w : State) → leaves (step d w 0) w 0
+step_quiet d w = checked_quiet (top_of d) w

@@ -1,0 +1,117 @@
+//! Sessions: the top-level forms that are submitted one after another, and what they leave.
+ghost use Rattle.std.specs.Prelude.{◌≡◌, ℕ, IfOk};
+ghost use Rattle.lisp_data.specs.ValueView.{value_of};
+ghost use Rattle.lisp_data.specs.DatumView.{datum_of};
+ghost use Rattle.clos_system.specs.World.{State, seen};
+ghost use Rattle.clos_system.specs.Meaning.{Run};
+ghost use Rattle.clos_system.specs.Machine.{Answers};
+ghost use Rattle.clos_system.specs.Step.{step, performed};
+ghost use Rattle.clos_system.specs.Initial.{initial};
+ghost use Rattle.clos_system.specs.Session.{state_of, Replies};
+
+use crate::arguments::Values;
+use crate::condition::{ConditionKind, Stop, plain};
+use crate::definition::{defclass, defmethod};
+use crate::eval::evaluate;
+use crate::limits::Limits;
+use crate::predefined::predefined_classes;
+use crate::syntax::SyntaxFault;
+use crate::top::{Top, parse_top};
+use crate::world::World;
+use lisp_data::{Datum, Value};
+use std::alloc::{AllocError, Global};
+
+/// The answer to a top-level form.
+#[derive(Drop)]
+pub enum Reply {
+    Value(Value),
+    /// A condition, by its number, with what it is about.
+    Condition { number: u64, items: Values },
+    /// Memory was refused: the session stands as it was after so many steps of the form.
+    Storage { steps: u64 },
+}
+
+/// A session. It begins with the predefined classes, and each form that is submitted to it may define more.
+#[derive(Drop)]
+pub struct Session {
+    pub(crate) world: World,
+    alloc: Global,
+}
+
+impl Session {
+    /// A session that begins, under these limits.
+    pub fn new(alloc: Global, limits: Limits) -> Result<Session, AllocError>
+        ensures { IfOk result (λ s. state_of s ≡ initial limits) }
+    {
+        let classes = predefined_classes(alloc)?;
+        let world = World {
+            classes,
+            generics: Vec::new(alloc),
+            methods: Vec::new(alloc),
+            instances: Vec::new(alloc),
+            written: Vec::new(alloc),
+            limits,
+        };
+        Ok(Session { world, alloc })
+    }
+
+    /// What the forms wrote so far.
+    pub fn written(&self) -> &[u8]
+        ensures { result.now ≡ (state_of self.now).written }
+    {
+        self.world.written.as_slice()
+    }
+
+    /// Performs a top-level form (HyperSpec 3.1.2.1), and answers as its rules have it. A refused form defines nothing.
+    pub fn submit(&mut self, datum: &Datum) -> Reply
+        ensures { Replies (step (datum_of datum.now)) (state_of self.old) result (state_of self.new) }
+    {
+        let limit = self.world.limits.steps;
+        let mut left = limit;
+        match perform(self.alloc, &mut self.world, datum, &mut left) {
+            Ok(value) => Reply::Value(value),
+            Err(Stop::Refused(condition)) => Reply::Condition {
+                number: condition.kind.number(),
+                items: condition.items,
+            },
+            Err(Stop::Storage) => Reply::Storage {
+                steps: limit - left,
+            },
+        }
+    }
+}
+
+/// Performs a top-level form with so many steps.
+pub(crate) fn perform(
+    alloc: Global,
+    world: &mut World,
+    datum: &Datum,
+    steps: &mut u64,
+) -> Result<Value, Stop>
+    ensures { Answers (step (datum_of datum.now)) (seen world.old) steps.old result (seen world.new) steps.new }
+{
+    match parse_top(alloc, datum) {
+        Ok(top) => perform_top(alloc, world, top, steps),
+        Err(SyntaxFault::Malformed) => Err(Stop::Refused(plain(
+            alloc,
+            ConditionKind::ProgramError,
+        ))),
+        Err(SyntaxFault::Unserved) => Err(Stop::Refused(plain(alloc, ConditionKind::Unsupported))),
+        Err(SyntaxFault::Memory) => Err(Stop::Storage),
+    }
+}
+
+fn perform_top(alloc: Global, world: &mut World, top: Top, steps: &mut u64) -> Result<Value, Stop>
+    ensures { Answers (performed top) (seen world.old) steps.old result (seen world.new) steps.new }
+{
+    match top {
+        Top::DefineClass(name, superclass) => defclass(alloc, world, name, &superclass, steps),
+        Top::DefineMethod(name, parameters, classes, body) => {
+            defmethod(alloc, world, name, parameters, &classes, body, steps)
+        }
+        Top::Expression(form) => {
+            let room = world.limits.depth.min(4_000);
+            evaluate(alloc, world, form, room, steps)
+        }
+    }
+}
