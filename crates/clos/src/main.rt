@@ -7,8 +7,9 @@ mod settings;
 #[cfg(test)]
 mod tests;
 
+use clap::error::ErrorKind;
 use clos_system::{Limits, Session};
-use program::{Fault, STATUS_FAULT, STATUS_USAGE, report};
+use program::{Fault, STATUS_DONE, STATUS_FAULT, STATUS_USAGE, report};
 use settings::Settings;
 use std::alloc::Global;
 use std::io::{self, BufWriter};
@@ -51,18 +52,37 @@ fn run_settings(rt: &HostRuntime, settings: &Settings<'_>) -> u8 {
 
 /// Shows help on standard output, and a fault of the command line on standard error.
 fn show(rt: &HostRuntime, error: &clap::Error) -> u8 {
-    if error.print(rt).is_err() {
-        return fail(rt, Fault::Write);
+    if error.kind() == ErrorKind::OutOfMemory {
+        return fail(rt, Fault::Memory);
     }
-    if error.use_stderr() { STATUS_USAGE } else { 0 }
+    let shown = error.print(rt).is_ok();
+    if error.use_stderr() {
+        return STATUS_USAGE;
+    }
+    if shown {
+        STATUS_DONE
+    } else {
+        fail(rt, Fault::Write)
+    }
+}
+
+/// Tells why the words of the command line can't be had.
+fn refuse_words(rt: &HostRuntime, error: &io::Error) -> u8 {
+    if error.kind() == io::ErrorKind::OutOfMemory {
+        return fail(rt, Fault::Memory);
+    }
+    let _ = rt.eprintln("error: a word of the command line is not UTF-8");
+    STATUS_USAGE
+}
+
+fn words_of(rt: &HostRuntime) -> io::Result<Vec<String>> {
+    Ok(std::env::args(rt)?.collect(rt.alloc())?)
 }
 
 fn status(rt: &HostRuntime) -> u8 {
-    let Ok(words) = std::env::args(rt) else {
-        return fail(rt, Fault::Memory);
-    };
-    let Ok(words) = words.collect::<Vec<String>>(rt.alloc()) else {
-        return fail(rt, Fault::Memory);
+    let words = match words_of(rt) {
+        Ok(words) => words,
+        Err(error) => return refuse_words(rt, &error),
     };
     match command_line::settings(rt.alloc(), words.as_slice()) {
         Ok(settings) => run_settings(rt, &settings),

@@ -3,10 +3,13 @@ use crate::command_line::settings;
 use crate::program::program;
 use clos_system::{Limits, Session};
 use std::alloc::Global;
+use std::fs::Files;
 use std::io::{self, Read, Write};
+use std::process::Abort;
 use std::test::Fail;
 
 /// Every read and every write fails.
+#[derive(Drop)]
 struct Broken;
 
 impl Read for Broken {
@@ -26,6 +29,7 @@ impl Write for Broken {
 }
 
 /// What is written is lost when it is flushed.
+#[derive(Drop)]
 struct Forgetful;
 
 impl Write for Forgetful {
@@ -39,6 +43,7 @@ impl Write for Forgetful {
 }
 
 /// Blanks without end.
+#[derive(Drop)]
 struct Blanks;
 
 impl Read for Blanks {
@@ -49,8 +54,8 @@ impl Read for Blanks {
 }
 
 /// Runs the program over these words, this input and these writers, and gives its status.
-fn status<I: Read, O: Write>(
-    rt: &HostRuntime,
+fn status<R: Files + AllocGlobal, I: Read, O: Write>(
+    rt: &R,
     words: &[&str],
     input: &mut I,
     output: &mut O,
@@ -59,24 +64,20 @@ fn status<I: Read, O: Write>(
     let alloc = rt.alloc();
     let settings = settings(alloc, words)?;
     let mut session = Session::new(alloc, Limits::default())?;
-    Ok(program(
-        rt,
-        alloc,
-        &mut session,
-        &settings,
-        input,
-        output,
-        errors,
-    ))
+    Ok(program(rt, alloc, &mut session, &settings, input, output, errors))
 }
 
 fn new_bytes(alloc: Global) -> Vec<u8> {
     Vec::new(alloc)
 }
 
+fn is_text(bytes: &Vec<u8>, text: &str) -> bool {
+    bytes.as_slice() == text.as_bytes()
+}
+
 /// A text on standard input: what it writes, the status, and the line on standard error.
-fn check(
-    rt: &HostRuntime,
+fn check<R: Files + AllocGlobal + Abort>(
+    rt: &R,
     text: &str,
     output: &str,
     status_wanted: u8,
@@ -84,16 +85,10 @@ fn check(
 ) -> Result<(), Fail> {
     let mut written = new_bytes(rt.alloc());
     let mut told = new_bytes(rt.alloc());
-    let got = status(
-        rt,
-        &["clos"],
-        &mut text.as_bytes(),
-        &mut written,
-        &mut told,
-    )?;
-    assert_eq!(*rt; got, status_wanted, "the status of {text}");
-    assert!(*rt; written.as_slice() == output.as_bytes(), "the output of {text}");
-    assert!(*rt; told.as_slice() == errors.as_bytes(), "the errors of {text}");
+    let got = status(rt, &["clos"], &mut text.as_bytes(), &mut written, &mut told)?;
+    assert_eq!(rt; got, status_wanted, "the status of {text}");
+    assert!(rt; is_text(&written, output), "the output of {text}");
+    assert!(rt; is_text(&told, errors), "the errors of {text}");
     Ok(())
 }
 
@@ -137,7 +132,13 @@ fn tells_what_is_wrong_with_a_text(rt: HostRuntime) -> Result<(), Fail> {
     check(&rt, "", "", 0, "")?;
     let inside = "clos: -: reader fault 1 at 10\n";
     check(&rt, "(princ 1) (defclass a", "1", 3, inside)?;
-    check(&rt, "(f) (princ 2) )", "; 3 (UNDEFINED-FUNCTION F)\n2", 3, "clos: -: reader fault 2 at 14\n")
+    check(
+        &rt,
+        "(f) (princ 2) )",
+        "; 3 (UNDEFINED-FUNCTION F)\n2",
+        3,
+        "clos: -: reader fault 2 at 14\n",
+    )
 }
 
 #[test]
@@ -145,18 +146,24 @@ fn tells_what_can_not_be_read_or_written(rt: HostRuntime) -> Result<(), Fail> {
     let mut written = new_bytes(rt.alloc());
     let mut told = new_bytes(rt.alloc());
     let got = status(&rt, &["clos"], &mut Broken, &mut written, &mut told)?;
-    assert!(rt; got == 3 && told.as_slice() == b"clos: -: read fault\n");
+    assert!(rt; got == 3 && is_text(&told, "clos: -: read fault\n"));
     told.clear();
-    let got = status(&rt, &["clos", "no/such/file"], &mut Broken, &mut written, &mut told)?;
-    assert!(rt; got == 3 && told.as_slice() == b"clos: no/such/file: read fault\n");
+    let got = status(
+        &rt,
+        &["clos", "no/such/file"],
+        &mut Broken,
+        &mut written,
+        &mut told,
+    )?;
+    assert!(rt; got == 3 && is_text(&told, "clos: no/such/file: read fault\n"));
     told.clear();
     let mut text: &[u8] = b"(princ 1)";
     let got = status(&rt, &["clos"], &mut text, &mut Broken, &mut told)?;
-    assert!(rt; got == 3 && told.as_slice() == b"clos: write fault\n");
+    assert!(rt; got == 3 && is_text(&told, "clos: write fault\n"));
     told.clear();
     let mut text: &[u8] = b"(princ 1)";
     let got = status(&rt, &["clos"], &mut text, &mut Forgetful, &mut told)?;
-    assert!(rt; got == 3 && told.as_slice() == b"clos: write fault\n");
+    assert!(rt; got == 3 && is_text(&told, "clos: write fault\n"));
     Ok(())
 }
 
@@ -165,7 +172,7 @@ fn refuses_a_text_without_end(rt: HostRuntime) -> Result<(), Fail> {
     let mut written = new_bytes(rt.alloc());
     let mut told = new_bytes(rt.alloc());
     let got = status(&rt, &["clos"], &mut Blanks, &mut written, &mut told)?;
-    assert!(rt; got == 3 && told.as_slice() == b"clos: -: too long\n");
+    assert!(rt; got == 3 && is_text(&told, "clos: -: too long\n"));
     Ok(())
 }
 
@@ -176,10 +183,18 @@ fn reads_the_command_line(rt: HostRuntime) -> Result<(), Fail> {
     let none = settings(alloc, &["clos"])?;
     assert!(rt; !none.echo && none.files.is_empty());
     assert!(rt; none.steps == limits.steps && none.depth == limits.depth);
-    let words = ["clos", "--steps", "7", "a.lisp", "--echo", "--depth=4000", "-"];
+    let words = [
+        "clos",
+        "--steps",
+        "7",
+        "a.lisp",
+        "--echo",
+        "--depth=4000",
+        "-",
+    ];
     let all = settings(alloc, &words)?;
     assert!(rt; all.echo && all.steps == 7 && all.depth == 4_000);
-    assert!(rt; all.files.as_slice() == &["a.lisp", "-"]);
+    assert!(rt; all.files.as_slice() == ["a.lisp", "-"].as_slice());
     Ok(())
 }
 
