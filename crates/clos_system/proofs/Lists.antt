@@ -1,5 +1,5 @@
 -- Lists seen through a function.
-use Rattle.std.proofs.Common.{◌≡◌, ℕ, suc, List, [], ◌∷◌, ◌++◌, Bool, ◌||◌, map, take, drop, refl, ap, ◌∙◌, sym}
+use Rattle.std.proofs.Common.{◌≡◌, ℕ, suc, List, [], ◌∷◌, Bool, ◌||◌, map, take, drop, refl, ap, ◌∙◌}
 use Rattle.std.specs.Prelude.{insert, remove}
 use Rattle.std.specs.List.{list_any}
 use Rattle.std.proofs.lemmas.List.{map-append, take-map, drop-map}

@@ -1,9 +1,8 @@
 -- Steps of the loops that compare specializers.
-use Rattle.std.proofs.Common.{◌≡◌, ℕ, ◌+◌, ◌<◌, ◌≤◌, suc, List, [], ◌∷◌, true, false, length, drop, get_or, refl, add-one, ap, ◌∙◌, sym, eq-eqb, cond}
+use Rattle.std.proofs.Common.{◌≡◌, ℕ, ◌+◌, ◌<◌, ◌≤◌, suc, List, [], ◌∷◌, true, false, length, drop, get_or, refl, add-one, ap, ◌∙◌, sym, eq-eqb}
 use Rattle.std.proofs.Math.Seq.{drop-cons}
 use Rattle.std.proofs.Math.ListN.{drop_of_length-le}
-use Rattle.std.proofs.Math.Dec.{eqb}
-use Rattle.clos_system.specs.Generic.{is_applicable, is_before, stands_before}
+use Rattle.clos_system.specs.Generic.{is_applicable, is_before}
 
 pub applicable_to_none : (lists : List (List ℕ)) → is_applicable lists [] ≡ true
 applicable_to_none [] = refl

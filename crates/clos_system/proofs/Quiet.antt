@@ -1,5 +1,5 @@
 -- With no step left nothing changes.
-use Rattle.std.proofs.Common.{◌≡◌, ℕ, zero, suc, ◌+◌, ◌==◌, ◌||◌, List, [], ◌∷◌, ◌++◌, Option, Some, None, Result, Ok, Err, Bool, true, false, cond, length, slice_get, refl, ap, sym, subst, ◌∙◌}
+use Rattle.std.proofs.Common.{◌≡◌, ℕ, zero, suc, ◌==◌, List, [], ◌∷◌, ◌++◌, Option, Some, None, Result, Ok, Err, Bool, true, false, length, slice_get, refl, sym, subst}
 use Rattle.std.specs.Prelude.{nat_lt, if◌then◌else◌}
 use Rattle.lisp_data.specs.Name.{Nam}
 use Rattle.lisp_data.specs.Value.{Val}
@@ -12,8 +12,7 @@ use Rattle.clos_system.specs.declared.arguments.Context.{Context}
 use Rattle.clos_system.specs.declared.condition.Condition.{Condition}
 use Rattle.clos_system.specs.declared.condition.ConditionKind.TheVariants.{StepLimit}
 use Rattle.clos_system.specs.declared.generic.Generic.{Generic}
-use Rattle.clos_system.specs.declared.machine.Doing.{Doing}
-use Rattle.clos_system.specs.declared.machine.Doing.TheVariants.{Start, Give}
+use Rattle.clos_system.specs.declared.machine.Doing.TheVariants.{Start}
 use Rattle.clos_system.specs.declared.machine.Frame.{Frame}
 use Rattle.clos_system.specs.declared.machine.Frame.TheVariants.{Princ, MakeInstance, Collect, Body, Known, Passing}
 use Rattle.clos_system.specs.declared.machine.Level.{Level}

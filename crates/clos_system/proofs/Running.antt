@@ -1,6 +1,6 @@
 -- How the turns of the machine make a run.
-use Rattle.std.proofs.Common.{◌≡◌, ℕ, zero, suc, ◌+◌, ◌-◌, ◌<◌, ◌≤◌, List, [], ◌∷◌, ◌++◌, Option, Some, None, Result, Ok, Err, Bool, true, false, length, refl, ap, sym, subst, ◌∙◌, add_assoc, add-zero, arith}
-use Rattle.std.specs.Prelude.{nat_lt, if◌then◌else◌}
+use Rattle.std.proofs.Common.{◌≡◌, ℕ, zero, suc, ◌+◌, ◌-◌, ◌<◌, ◌≤◌, List, [], ◌∷◌, Result, Ok, Err, length, refl, ap, sym, subst, ◌∙◌, add_assoc, add-zero, arith}
+use Rattle.std.specs.Prelude.{if◌then◌else◌}
 use Rattle.std.proofs.lemmas.Bool.{le-ltb, lt-ltb}
 use Rattle.lisp_data.specs.Value.{Val, Vals, nil, list}
 use Rattle.lisp_data.specs.ValueView.{value_of}
@@ -10,16 +10,14 @@ use Rattle.lisp_data.specs.declared.ids.ClassId.{ClassId}
 use Rattle.clos_system.specs.Class.{named}
 use Rattle.clos_system.specs.Condition.{nil_name}
 use Rattle.clos_system.specs.World.{State}
-use Rattle.clos_system.specs.Meaning.{Out, Gave, Stopped, Run, Eval, step_then, stopped, meaning, begun, made, designated, class_found, written, allocated}
-use Rattle.clos_system.specs.Machine.{below, passed, resume, inside, denote, given_to, leaves, Leads, Turns, Changes, Designates, Answers, Reached}
+use Rattle.clos_system.specs.Meaning.{Gave, Stopped, Run, Eval, step_then, stopped, meaning, begun, made, designated, class_found, written, allocated}
+use Rattle.clos_system.specs.Machine.{resume, inside, denote, given_to, leaves, Leads, Turns, Changes, Designates, Answers, Reached}
 use Rattle.clos_system.specs.declared.arguments.Context.{Context}
-use Rattle.clos_system.specs.declared.condition.Condition.{Condition}
 use Rattle.clos_system.specs.declared.condition.ConditionKind.TheVariants.{StepLimit, DepthLimit, TableLimit}
 use Rattle.clos_system.specs.declared.condition.Stop.{Stop}
 use Rattle.clos_system.specs.declared.condition.Stop.TheVariants.{Refused, Storage}
 use Rattle.clos_system.specs.declared.machine.Doing.{Doing}
 use Rattle.clos_system.specs.declared.machine.Doing.TheVariants.{Start, Give}
-use Rattle.clos_system.specs.declared.machine.Frame.{Frame}
 use Rattle.clos_system.specs.declared.machine.Frame.TheVariants.{Princ}
 use Rattle.clos_system.specs.declared.machine.Level.{Level}
 use Rattle.clos_system.specs.declared.machine.Machine.{Machine}

@@ -1,17 +1,14 @@
 -- How the loop over the forms of a text makes a run, and what is told of a form.
-use Rattle.std.proofs.Common.{◌≡◌, ℕ, ◌+◌, ◌-◌, ◌<◌, ◌≤◌, ◌==◌, suc, get_or, append-nil, List, [], ◌∷◌, ◌++◌, Option, Some, None, Result, Ok, Err, Bool, true, false, length, drop, refl, ap, sym, subst, ◌∙◌, arith, slice_get, append_assoc}
+use Rattle.std.proofs.Common.{◌≡◌, ℕ, ◌+◌, ◌-◌, ◌<◌, ◌≤◌, ◌==◌, suc, get_or, append-nil, List, [], ◌∷◌, ◌++◌, Option, Some, None, Result, Ok, Err, Bool, length, drop, refl, ap, sym, subst, ◌∙◌, arith, append_assoc}
 use Rattle.std.specs.Prelude.{IfSome}
 use Rattle.std.specs.Io.KnownBytes.{Appends}
 use Rattle.lisp_data.specs.Datum.{Dat}
-use Rattle.lisp_data.specs.ValueView.{value_of}
 use Rattle.lisp_data.specs.declared.value.Value.{Value}
 use Rattle.lisp_reader.specs.Answers.{Next}
 use Rattle.clos_system.specs.World.{State}
-use Rattle.clos_system.specs.Meaning.{Out, Gave, Stopped}
 use Rattle.clos_system.specs.Machine.{Answers}
 use Rattle.clos_system.specs.Step.{step}
 use Rattle.clos_system.specs.Transcript.{Ran, begins, performs, cuts, told, told_for, counted, counted_for, state_after, ends_line, Stands, Performs, FailsAfter, Faults, RunFaults, SourceFails, none_yet}
-use Rattle.clos_system.specs.declared.condition.Condition.{Condition}
 use Rattle.clos_system.specs.declared.condition.Stop.{Stop}
 use Rattle.clos_system.specs.declared.condition.Stop.TheVariants.{Refused, Storage}
 use Rattle.clos_system.specs.declared.transcript.Summary.{Summary}
@@ -71,9 +68,9 @@ pub stands_on : (echo : Bool) (text : List ℕ) (start w w' : State) (a b c : Op
     → Stands echo text start w' a c next n' fresh'
 stands_on echo text start w w' a b c at next n n' fresh fresh' d s h lt le p x y z =
     let more : Ran echo text start w' next (s.come.out ++ p.piece) n' =
-      subst (λ m. Ran echo text start w' next (s.come.out ++ p.piece) m) (sym p.counts)
-      (subst (λ o. Ran echo text start w' next o (counted_for p.answer n)) (sym (p.tells s.come.out s.line))
-        (ran_on echo text start w at s.come.out n d next p.answer w' p.left s.come.ran h p.answers)) in
+    subst (λ m. Ran echo text start w' next (s.come.out ++ p.piece) m) (sym p.counts)
+    (subst (λ o. Ran echo text start w' next o (counted_for p.answer n)) (sym (p.tells s.come.out s.line))
+    (ran_on echo text start w at s.come.out n d next p.answer w' p.left s.come.ran h p.answers)) in
     record {
       come = record { out = s.come.out ++ p.piece; ran = more; appends = appends_more a b c s.come.out p.piece s.come.appends p.appends };
       within = le;
@@ -86,12 +83,18 @@ stands_on echo text start w w' a b c at next n n' fresh fresh' d s h lt le p x y
 -- a form was performed, and then memory or the writer failed
 pub fails_after : (echo : Bool) (text : List ℕ) (start w w' : State) (a b c : Option (List ℕ)) (at next : ℕ) (n : Summary) (fresh : Bool) (d : Dat) (e : RunFault)
     → Stands echo text start w a b at n fresh → Next (drop at text) d (drop next text) → FailsAfter d w w' e → Faults echo text start w' a c e
-fails_after echo text start w w' a b c at next n fresh d Write s h p =
-    (next, counted_for p.answer n, told_for echo w w' p.answer (w.limits.steps - p.left) s.come.out,
-      ran_on echo text start w at s.come.out n d next p.answer w' p.left s.come.ran h p.answers)
-fails_after echo text start w w' a b c at next n fresh d Memory s h p =
-    (next, counted_for p.answer n, told_for echo w w' p.answer (w.limits.steps - p.left) s.come.out,
-      ran_on echo text start w at s.come.out n d next p.answer w' p.left s.come.ran h p.answers)
+fails_after echo text start w w' a b c at next n fresh d Write s h p = (
+  next,
+  counted_for p.answer n,
+  told_for echo w w' p.answer (w.limits.steps - p.left) s.come.out,
+  ran_on echo text start w at s.come.out n d next p.answer w' p.left s.come.ran h p.answers,
+)
+fails_after echo text start w w' a b c at next n fresh d Memory s h p = (
+  next,
+  counted_for p.answer n,
+  told_for echo w w' p.answer (w.limits.steps - p.left) s.come.out,
+  ran_on echo text start w at s.come.out n d next p.answer w' p.left s.come.ran h p.answers,
+)
 fails_after echo text start w w' a b c at next n fresh d Read s h p = absurd p
 fails_after echo text start w w' a b c at next n fresh d TooLong s h p = absurd p
 fails_after echo text start w w' a b c at next n fresh d (Reader f) s h p = absurd p

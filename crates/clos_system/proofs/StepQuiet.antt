@@ -1,6 +1,6 @@
 -- With no step left a top-level form changes nothing.
-use Rattle.std.proofs.Common.{◌≡◌, ℕ, ◌+◌, ◌==◌, ◌||◌, List, [], ◌∷◌, Option, Some, None, Result, Ok, Err, Bool, true, false, length, refl, slice_get}
-use Rattle.std.specs.Prelude.{nat_lt, nat_le, ◌&&◌, if◌then◌else◌}
+use Rattle.std.proofs.Common.{ℕ, ◌+◌, ◌==◌, List, [], Option, Some, None, Result, Ok, Err, Bool, true, false, length, refl, slice_get}
+use Rattle.std.specs.Prelude.{nat_lt, ◌&&◌, if◌then◌else◌}
 use Rattle.lisp_data.specs.Name.{Nam}
 use Rattle.lisp_data.specs.Datum.{Dat}
 use Rattle.clos_system.specs.Form.{Frms}
@@ -9,7 +9,7 @@ use Rattle.clos_system.specs.Generic.{function_named}
 use Rattle.clos_system.specs.World.{State}
 use Rattle.clos_system.specs.Meaning.{Out, known}
 use Rattle.clos_system.specs.Machine.{leaves}
-use Rattle.clos_system.specs.Step.{define_class, new_class, superclass_number, define_method, on_function, new_function, new_method, specializer_numbers, performed, checked, step, room_of}
+use Rattle.clos_system.specs.Step.{define_class, new_class, superclass_number, define_method, on_function, new_method, specializer_numbers, performed, checked, step, room_of}
 use Rattle.clos_system.specs.TopSyntax.{top_of}
 use Rattle.clos_system.specs.declared.condition.Condition.{Condition}
 use Rattle.clos_system.specs.declared.generic.Generic.{Generic}

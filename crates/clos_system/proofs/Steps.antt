@@ -1,20 +1,18 @@
 -- Steps of definition forms.
-use Rattle.std.proofs.Common.{◌≡◌, ◌≢◌, ℕ, zero, suc, ◌+◌, ◌-◌, ◌<◌, ◌≤◌, ◌==◌, List, [], ◌∷◌, ◌++◌, Option, Some, None, Result, Ok, Err, Bool, true, false, length, refl, ap, sym, subst, ◌∙◌, arith, slice_get}
-use Rattle.std.specs.Prelude.{nat_lt, if◌then◌else◌, slice_set}
-use Rattle.std.proofs.lemmas.Bool.{le-ltb, lt-ltb, eq-eqb}
+use Rattle.std.proofs.Common.{◌≡◌, ℕ, zero, suc, ◌-◌, List, [], ◌∷◌, ◌++◌, Err, length, ap, sym, ◌∙◌, arith, slice_get}
+use Rattle.std.specs.Prelude.{nat_lt, if◌then◌else◌}
+use Rattle.std.proofs.lemmas.Bool.{lt-ltb, eq-eqb}
 use Rattle.lisp_data.specs.Name.{Nam}
-use Rattle.lisp_data.specs.Value.{method}
 use Rattle.clos_system.specs.Form.{Frms}
 use Rattle.clos_system.specs.Class.{named}
 use Rattle.clos_system.specs.World.{State}
-use Rattle.clos_system.specs.Meaning.{Out, Gave, Stopped, step_then, stopped}
-use Rattle.clos_system.specs.Machine.{Designates, Answers, leaves}
-use Rattle.clos_system.specs.Step.{specializer_number, specializer_numbers, found_after, if_found, FindsSpecializers, new_method, method_added, Ready, without_same}
+use Rattle.clos_system.specs.Meaning.{step_then, stopped}
+use Rattle.clos_system.specs.Machine.{Designates}
+use Rattle.clos_system.specs.Step.{specializer_number, specializer_numbers, found_after, if_found, FindsSpecializers, new_method, method_added, Ready}
 use Rattle.clos_system.specs.Condition.{name_value}
 use Rattle.clos_system.specs.declared.condition.ConditionKind.TheVariants.{LambdaListCongruence, TableLimit}
 use Rattle.clos_system.specs.declared.condition.Stop.{Stop}
 use Rattle.clos_system.specs.declared.condition.Stop.TheVariants.{Refused, Storage}
-use Rattle.clos_system.specs.declared.generic.Generic.{Generic}
 
 -- the first specializer at fault decides
 pub found_fault : (w : State) (ids : List ℕ) (c : Nam) (cs names : List Nam) (stop : Stop) → found_after w ids (c ∷ cs) ≡ specializer_numbers w names

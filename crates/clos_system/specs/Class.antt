@@ -1,7 +1,6 @@
 -- Classes and their precedence (HyperSpec 4.3.5), where each class has at most one direct superclass.
-use Rattle.std.specs.Prelude.{ℕ, ◌==◌, List, [], ◌∷◌, Bool, true, false, ◌||◌, if◌then◌else◌, length, map, position, Option, Some, None, option_map, reverse, slice_get}
+use Rattle.std.specs.Prelude.{ℕ, ◌==◌, List, [], ◌∷◌, if◌then◌else◌, length, position, Option, option_map, reverse, slice_get}
 use Rattle.lisp_data.specs.Name.{Nam, same_name}
-use Rattle.lisp_data.specs.Value.{Val, integer, symbol, string, list, class, generic, method, instance, nil, cons}
 use Rattle.clos_system.specs.declared.class.Class.{Class}
 use Rattle.clos_system.specs.declared.class.Superclasses.{Superclasses}
 use Rattle.clos_system.specs.declared.class.Superclasses.TheVariants.{Predefined, Direct}

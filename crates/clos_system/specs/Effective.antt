@@ -1,7 +1,7 @@
 -- The effective forms of standard method combination (HyperSpec 7.6.6.2).
-use Rattle.std.specs.Prelude.{◌≡◌, ◌⊎◌, ℕ, ◌+◌, List, [], ◌∷◌, ◌++◌, refl}
+use Rattle.std.specs.Prelude.{◌≡◌, ◌⊎◌, ℕ, ◌+◌, List, [], ◌∷◌, refl}
 use Rattle.std.specs.Coded.{Coded, code_by, coded×, coded⊎, coded_list, coded_ℕ}
-use Rattle.std.proofs.Common.{inl, inr, ◌∙◌, ap}
+use Rattle.std.proofs.Common.{inl, inr, ap}
 use base.Stored.{coded_unit}
 
 pub data Effective : Type 0 where

@@ -1,11 +1,11 @@
 -- What a state of the machine stands for: the rest of the definition.
-use Rattle.std.specs.Prelude.{◌≡◌, ℕ, zero, suc, ◌+◌, ◌*◌, ◌≤◌, List, [], ◌∷◌, ◌++◌, Result, Ok, Err, length}
+use Rattle.std.specs.Prelude.{◌≡◌, ℕ, suc, ◌+◌, ◌*◌, ◌≤◌, List, [], ◌∷◌, ◌++◌, Result, Ok, Err, length}
 use Rattle.lisp_data.specs.Value.{Val}
 use Rattle.lisp_data.specs.ValueView.{value_of}
 use Rattle.lisp_data.specs.declared.ids.ClassId.{ClassId}
 use Rattle.lisp_data.specs.declared.value.Value.{Value}
 use Rattle.clos_system.specs.World.{State}
-use Rattle.clos_system.specs.Meaning.{Out, Gave, Stopped, Run, Eval, then_do, gave, step_then, written, made, designated, collect, called, sequence, meaning}
+use Rattle.clos_system.specs.Meaning.{Out, Gave, Stopped, Run, Eval, then_do, step_then, written, made, designated, collect, called, sequence, meaning}
 use Rattle.clos_system.specs.declared.arguments.Context.{Context}
 use Rattle.clos_system.specs.declared.condition.Condition.{Condition}
 use Rattle.clos_system.specs.declared.condition.Stop.{Stop}

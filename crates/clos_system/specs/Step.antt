@@ -1,8 +1,8 @@
 -- What a top-level form does (HyperSpec 3.1.2.1, and the entries defclass and defmethod).
-use Rattle.std.specs.Prelude.{◌≡◌, ℕ, ◌+◌, ◌<◌, ◌==◌, ◌||◌, ◌&&◌, nat_lt, nat_le, min, List, [], ◌∷◌, ◌++◌, Option, Some, None, Result, Ok, Err, Bool, true, false, if◌then◌else◌, length, slice_get, slice_set}
+use Rattle.std.specs.Prelude.{◌≡◌, ℕ, ◌+◌, ◌<◌, ◌==◌, ◌||◌, ◌&&◌, nat_lt, nat_le, min, List, [], ◌∷◌, ◌++◌, Option, Some, None, Result, Ok, Err, if◌then◌else◌, length, slice_get, slice_set}
 use Rattle.std.specs.Str.{bytes_eq}
 use Rattle.lisp_data.specs.Name.{Nam}
-use Rattle.lisp_data.specs.Value.{Val, class, method}
+use Rattle.lisp_data.specs.Value.{class, method}
 use Rattle.lisp_data.specs.Datum.{Dat}
 use Rattle.clos_system.specs.Form.{Frms}
 use Rattle.clos_system.specs.Class.{named}
@@ -10,7 +10,7 @@ use Rattle.clos_system.specs.Generic.{function_named, specializers_of}
 use Rattle.clos_system.specs.Condition.{name_value}
 use Rattle.clos_system.specs.TopSyntax.{top_of}
 use Rattle.clos_system.specs.World.{State}
-use Rattle.clos_system.specs.Meaning.{Out, Gave, Stopped, Run, stopped, step_then, meaning, known}
+use Rattle.clos_system.specs.Meaning.{Gave, Stopped, Run, stopped, step_then, meaning, known}
 use Rattle.clos_system.specs.declared.class.Superclasses.TheVariants.{Direct}
 use Rattle.clos_system.specs.declared.class.ClassIds.{ClassIds}
 use Rattle.clos_system.specs.declared.condition.Condition.{Condition}

@@ -1,14 +1,13 @@
 -- From data to checked forms (HyperSpec 3.1.2.1, 3.4, 7.6.2).
-use Rattle.std.specs.Prelude.{◌≡◌, ℕ, ◌+◌, ◌-◌, ◌*◌, ◌==◌, nat_lt, List, [], ◌∷◌, Bool, true, false, ◌&&◌, ◌||◌, not, Option, Some, None, option_map, option_and_then, Result, Ok, Err, codes, if◌then◌else◌}
-use Rattle.std.specs.List.{list_any, starts_with}
-use Rattle.lisp_data.specs.Name.{Nam, same_name}
+use Rattle.std.specs.Prelude.{◌≡◌, ℕ, ◌+◌, ◌-◌, ◌==◌, nat_lt, Bool, ◌||◌, Option, Some, None, option_map, Result, Ok, Err, codes, if◌then◌else◌}
+use Rattle.lisp_data.specs.Name.{Nam}
 use Rattle.lisp_data.specs.Value.{Val, Vals}
 use Rattle.lisp_data.specs.Value as value
 use Rattle.lisp_data.specs.Datum.{Dat, integer, symbol, string, list, dotted, method, Dats, nil, cons, length_of}
 use Rattle.clos_system.specs.Form.{Frm, Frms, constant, no_value, variable, princ, make_instance, call}
 use Rattle.clos_system.specs.Form as form
-use Rattle.clos_system.specs.Condition.{name_value, nil_name}
-use Rattle.clos_system.specs.Names.{operator_of, is_called, is_one_of, definitions, special_operators, functions, system_functions, closed_functions, parameter_kinds, refused_kinds}
+use Rattle.clos_system.specs.Condition.{name_value}
+use Rattle.clos_system.specs.Names.{operator_of, is_called}
 use Rattle.clos_system.specs.declared.names.Operator.{Operator}
 use Rattle.clos_system.specs.declared.names.Operator.TheVariants.{Quote, Princ, MakeInstance, Definition, Unserved, Function}
 use Rattle.clos_system.specs.declared.syntax.SyntaxFault.{SyntaxFault}

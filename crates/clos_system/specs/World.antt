@@ -1,6 +1,5 @@
 -- The state of a session (HyperSpec 3.1.1, 4.3, 7.6): lists that only grow at their ends.
-use Rattle.std.specs.Prelude.{ℕ, ◌+◌, ◌-◌, ◌==◌, List, [], ◌∷◌, ◌||◌, nat_le, Option, Some, None, map, option_map, unwrap_or, slice_get, if◌then◌else◌}
-use Rattle.lisp_data.specs.Name.{Nam}
+use Rattle.std.specs.Prelude.{ℕ, ◌-◌, ◌==◌, List, ◌||◌, nat_le, Option, None, map, option_map, unwrap_or, slice_get, if◌then◌else◌}
 use Rattle.lisp_data.specs.Value.{Val, integer, symbol, string, list, class, generic, method, instance, nil, cons}
 use Rattle.lisp_data.specs.Print.{Names, MethodParts}
 use Rattle.clos_system.specs.declared.class.Class.{Class}

@@ -1,4 +1,4 @@
-use Rattle.std.proofs.Common.{◌≡◌, ◌≤◌, ◌++◌, take, reverse, length, vec_len}
+use Rattle.std.proofs.Common.{◌≡◌, ◌≤◌, ◌++◌, take, reverse, length}
 use Rattle.clos_system.specs.Class.{precedence, precedence_among}
 use Rattle.clos_system.proofs.class.precedence_list.Given as goal
 

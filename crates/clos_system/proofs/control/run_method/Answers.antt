@@ -1,4 +1,4 @@
-use Rattle.std.proofs.Common.{◌≡◌, ◌∙◌, ap, slice_get}
+use Rattle.std.proofs.Common.{◌∙◌, ap, slice_get}
 use Rattle.clos_system.specs.World.{seen}
 use Rattle.clos_system.specs.Meaning.{meaning, method_run}
 use Rattle.clos_system.proofs.Turns.{no_method}

@@ -1,4 +1,4 @@
-use Rattle.std.proofs.Common.{◌≡◌, ◌+◌, ◌-◌, ◌<◌, arith, ap, sym, ◌∙◌}
+use Rattle.std.proofs.Common.{◌-◌, arith, ap, sym, ◌∙◌}
 use Rattle.clos_system.specs.World.{seen}
 use Rattle.clos_system.specs.Meaning.{Stopped}
 use Rattle.clos_system.proofs.Running.{start_no_step, start_too_deep, start_begins, start_begins_at}

@@ -1,4 +1,4 @@
-use Rattle.std.proofs.Common.{◌≡◌, [], ◌∷◌, subst, arith}
+use Rattle.std.proofs.Common.{[], subst, arith}
 use Rattle.lisp_data.specs.ValueView.{value_of}
 use Rattle.clos_system.specs.World.{seen}
 use Rattle.clos_system.specs.Meaning.{Run, meaning, known}

@@ -1,4 +1,4 @@
-use Rattle.std.proofs.Common.{ℕ, [], ◌∷◌}
+use Rattle.std.proofs.Common.{[]}
 use Rattle.clos_system.specs.World.{seen}
 use Rattle.clos_system.specs.Meaning.{meaning, known}
 use Rattle.clos_system.specs.Machine.{Reached, denote, weight}

@@ -1,4 +1,4 @@
-use Rattle.std.proofs.Common.{◌≡◌, ◌+◌, ◌++◌, ◌∷◌, [], ◌<◌, ◌≤◌, length, arith, ap, sym, ◌∙◌, refl}
+use Rattle.std.proofs.Common.{◌+◌, ◌++◌, ◌∷◌, [], ◌<◌, ◌≤◌, length, arith, ap, sym, ◌∙◌, refl}
 use Rattle.clos_system.specs.World.{State, seen}
 use Rattle.clos_system.specs.Meaning.{Stopped, meaning}
 use Rattle.clos_system.specs.Machine.{resume}

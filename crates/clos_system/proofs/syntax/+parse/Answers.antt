@@ -1,4 +1,4 @@
-use Rattle.std.proofs.Common.{◌≡◌, ◌≤◌, Ok, arith, ap, sym, ◌∙◌}
+use Rattle.std.proofs.Common.{Ok, arith, ap, sym, ◌∙◌}
 use Rattle.lisp_data.specs.Datum.{size_of_data}
 use Rattle.lisp_data.specs.DatumView.{datum_of}
 use Rattle.clos_system.specs.Form as form

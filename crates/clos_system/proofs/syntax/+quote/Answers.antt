@@ -1,7 +1,6 @@
-use Rattle.std.proofs.Common.{◌≡◌, ◌≤◌, Some, arith, ap, sym, ◌∙◌, map}
+use Rattle.std.proofs.Common.{arith, ap, sym, ◌∙◌, map}
 use Rattle.std.specs.Prelude.{option_map}
 use Rattle.lisp_data.specs.Datum.{size_of_data}
-use Rattle.lisp_data.specs.DatumView.{datum_of}
 use Rattle.lisp_data.specs.Value as value
 use Rattle.lisp_data.specs.ValueView.{value_of}
 use Rattle.clos_system.specs.Syntax.{with_front, quotations}

@@ -1,4 +1,4 @@
-use Rattle.std.proofs.Common.{◌≡◌, ◌++◌, ◌∷◌, [], true, false, ap, sym, ◌∙◌}
+use Rattle.std.proofs.Common.{◌++◌, ◌∷◌, [], ap, sym, ◌∙◌}
 use Rattle.std.specs.List.{list_any}
 use Rattle.lisp_data.specs.Name.{same_name}
 use Rattle.lisp_data.specs.DatumView.{datum_of}

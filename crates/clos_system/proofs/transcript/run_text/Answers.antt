@@ -1,4 +1,4 @@
-use Rattle.std.proofs.Common.{◌≡◌, ◌<◌, ◌≤◌, [], ◌∷◌, drop, length, arith, refl, Ok, Some}
+use Rattle.std.proofs.Common.{◌<◌, [], arith, refl, Ok, Some}
 use Rattle.lisp_data.specs.DatumView.{datum_of}
 use Rattle.lisp_reader.specs.Answers.{Answers}
 use Rattle.clos_system.specs.Session.{state_of}
