@@ -24,3 +24,6 @@ pub use condition::{Condition, ConditionKind};
 pub use limits::Limits;
 pub use session::{Reply, Session};
 pub use transcript::{RunFault, Summary, run};
+
+#[cfg(test)]
+mod tests;
