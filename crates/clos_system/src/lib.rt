@@ -1,26 +1,27 @@
 //! Sessions of the language: top-level forms, and runs of whole texts.
 #![tactic(auto)]
 
-pub mod arguments;
-pub mod class;
-pub mod condition;
-pub mod control;
-pub mod definition;
-pub mod effective;
-pub mod eval;
-pub mod form;
-pub mod generic;
-pub mod limits;
-pub mod machine;
-pub mod names;
-pub mod predefined;
-pub mod session;
-pub mod syntax;
-pub mod top;
-pub mod transcript;
-pub mod world;
+mod arguments;
+mod class;
+mod condition;
+mod control;
+mod definition;
+mod effective;
+mod eval;
+mod form;
+mod generic;
+mod limits;
+mod machine;
+mod names;
+mod predefined;
+mod session;
+mod syntax;
+mod top;
+mod transcript;
+mod world;
 
-pub use condition::{Condition, ConditionKind};
+pub use arguments::Values;
+pub use condition::ConditionKind;
 pub use limits::Limits;
 pub use session::{Reply, Session};
 pub use transcript::{RunFault, Summary, run};
