@@ -34,7 +34,11 @@ fn writes(
     conditions: u64,
 ) -> Result<(), Fail> {
     let (written, summary) = transcript(alloc, limits, text, false)?;
-    assert_eq!(rt; str::from_utf8(written.as_slice())?, output, "written by {text}");
+    assert_eq!(rt;
+        str::from_utf8(written.as_slice())?,
+        output,
+        "written by {text}"
+    );
     assert_eq!(rt; summary.conditions, conditions, "conditions of {text}");
     assert_eq!(rt; summary.storages, 0, "refused memory in {text}");
     Ok(())
@@ -43,7 +47,11 @@ fn writes(
 /// Asserts what a text writes where each value is told.
 fn echoes(rt: &impl Abort, alloc: Global, text: &str, output: &str) -> Result<(), Fail> {
     let (written, _) = transcript(alloc, Limits::default(), text, true)?;
-    assert_eq!(rt; str::from_utf8(written.as_slice())?, output, "written by {text}");
+    assert_eq!(rt;
+        str::from_utf8(written.as_slice())?,
+        output,
+        "written by {text}"
+    );
     Ok(())
 }
 
@@ -77,7 +85,14 @@ fn a_call_of_the_most_specific_method(rt: HostRuntime) -> Result<(), Fail> {
     };
     assert_eq!(rt; summary, all);
     writes(&rt, alloc, with_steps(12), ANIMALS, "WOOF", 0)?;
-    writes(&rt, alloc, with_steps(11), ANIMALS, "; 29 (STEP-LIMIT)\n", 1)?;
+    writes(
+        &rt,
+        alloc,
+        with_steps(11),
+        ANIMALS,
+        "; 29 (STEP-LIMIT)\n",
+        1,
+    )?;
     echoes(
         &rt,
         alloc,
@@ -95,22 +110,51 @@ fn what_forms_write(rt: HostRuntime) -> Result<(), Fail> {
         ("", ""),
         (" ; nothing\n", ""),
         ("(princ \"a\\\"b\\\\c\") (princ '(\"a\" b))", "a\"b\\c(a B)"),
-        ("(princ ''x) (princ ()) (princ :k) (princ -5)", "(QUOTE X)NIL:K-5"),
-        ("(defclass dog () ()) (princ (make-instance 'dog))", "#<DOG 1>"),
-        ("(princ (make-instance 'standard-object))", "#<STANDARD-OBJECT 1>"),
-        ("(defmethod f (x y) x) (princ (f (princ 1) (princ 2)))", "121"),
-        ("(defmethod f (x) (princ x) (princ 2) 3) (princ (f 1))", "123"),
-        ("(defmethod g (x) x) (defmethod f (x) (g 2) x) (princ (f 1))", "1"),
+        (
+            "(princ ''x) (princ ()) (princ :k) (princ -5)",
+            "(QUOTE X)NIL:K-5",
+        ),
+        (
+            "(defclass dog () ()) (princ (make-instance 'dog))",
+            "#<DOG 1>",
+        ),
+        (
+            "(princ (make-instance 'standard-object))",
+            "#<STANDARD-OBJECT 1>",
+        ),
+        (
+            "(defmethod f (x y) x) (princ (f (princ 1) (princ 2)))",
+            "121",
+        ),
+        (
+            "(defmethod f (x) (princ x) (princ 2) 3) (princ (f 1))",
+            "123",
+        ),
+        (
+            "(defmethod g (x) x) (defmethod f (x) (g 2) x) (princ (f 1))",
+            "1",
+        ),
         ("(defmethod f ()) (princ (f))", "NIL"),
         ("(defmethod f (x) \"only\") (princ (f 1))", "only"),
-        ("(defmethod f (x) (declare (ignore x)) \"a\" 1) (princ (f 2))", "1"),
-        ("(defmethod f (x) (declare (ignore x))) (princ (f 2))", "NIL"),
+        (
+            "(defmethod f (x) (declare (ignore x)) \"a\" 1) (princ (f 2))",
+            "1",
+        ),
+        (
+            "(defmethod f (x) (declare (ignore x))) (princ (f 2))",
+            "NIL",
+        ),
         ("(defmethod f (x) 1) (defmethod f (x) 2) (princ (f 0))", "2"),
     ] {
         writes(&rt, alloc, Limits::default(), text, output, 0)?;
     }
     echoes(&rt, alloc, "(princ \"a\") \"a\"", "a\n\"a\"\n\"a\"\n")?;
-    echoes(&rt, alloc, "(princ \"\n\") '(\"a\" :b)", "\n\"\n\"\n(\"a\" :B)\n")?;
+    echoes(
+        &rt,
+        alloc,
+        "(princ \"\n\") '(\"a\" :b)",
+        "\n\"\n\"\n(\"a\" :B)\n",
+    )?;
     echoes(&rt, alloc, "x 1", "; 2 (UNBOUND-VARIABLE X)\n1\n")
 }
 
@@ -172,10 +216,24 @@ fn forms_that_are_not_served(rt: HostRuntime) -> Result<(), Fail> {
         "(defmethod f (x) (setq x 1))",
         "(defmethod initialize-instance (x) x)",
     ] {
-        writes(&rt, alloc, Limits::default(), text, "; 28 (UNSUPPORTED)\n", 1)?;
+        writes(
+            &rt,
+            alloc,
+            Limits::default(),
+            text,
+            "; 28 (UNSUPPORTED)\n",
+            1,
+        )?;
     }
     let text = "(defclass a () ()) (defclass a () ()) (princ (make-instance 'a))";
-    writes(&rt, alloc, Limits::default(), text, "; 28 (UNSUPPORTED)\n#<A 1>", 1)
+    writes(
+        &rt,
+        alloc,
+        Limits::default(),
+        text,
+        "; 28 (UNSUPPORTED)\n#<A 1>",
+        1,
+    )
 }
 
 #[test]
@@ -198,7 +256,14 @@ fn malformed_forms(rt: HostRuntime) -> Result<(), Fail> {
         "(defmethod f (t) 1)",
         "(defmethod f (:k) 1)",
     ] {
-        writes(&rt, alloc, Limits::default(), text, "; 1 (PROGRAM-ERROR)\n", 1)?;
+        writes(
+            &rt,
+            alloc,
+            Limits::default(),
+            text,
+            "; 1 (PROGRAM-ERROR)\n",
+            1,
+        )?;
     }
     Ok(())
 }
@@ -208,21 +273,33 @@ fn conditions(rt: HostRuntime) -> Result<(), Fail> {
     let alloc = rt.alloc();
     for (text, output) in [
         ("x", "; 2 (UNBOUND-VARIABLE X)\n"),
-        ("(defmethod g (y) x) (defmethod f (x) (g x)) (f 1)", "; 2 (UNBOUND-VARIABLE X)\n"),
+        (
+            "(defmethod g (y) x) (defmethod f (x) (g x)) (f 1)",
+            "; 2 (UNBOUND-VARIABLE X)\n",
+        ),
         ("(nope (princ 1))", "1\n; 3 (UNDEFINED-FUNCTION NOPE)\n"),
-        ("(princ \"\n\") (nope 1)", "\n; 3 (UNDEFINED-FUNCTION NOPE)\n"),
+        (
+            "(princ \"\n\") (nope 1)",
+            "\n; 3 (UNDEFINED-FUNCTION NOPE)\n",
+        ),
         ("(make-instance 5)", "; 4 (TYPE-ERROR 5)\n"),
         ("(make-instance \"a\")", "; 4 (TYPE-ERROR \"a\")\n"),
         ("(make-instance 'nope)", "; 7 (UNDEFINED-CLASS NOPE)\n"),
         ("(make-instance ())", "; 7 (UNDEFINED-CLASS NIL)\n"),
         ("(defmethod f ((x nope)) 1)", "; 7 (UNDEFINED-CLASS NOPE)\n"),
-        ("(defmethod f (x) 1) (defmethod f (x y) 1)", "; 12 (LAMBDA-LIST-CONGRUENCE F)\n"),
+        (
+            "(defmethod f (x) 1) (defmethod f (x y) 1)",
+            "; 12 (LAMBDA-LIST-CONGRUENCE F)\n",
+        ),
         (
             "(defclass a () ()) (defmethod f ((x a) y) 1) (f 1 \"b\")",
             "; 14 (NO-APPLICABLE-METHOD F 1 \"b\")\n",
         ),
         ("(defmethod f (x) 1) (f)", "; 1 (PROGRAM-ERROR)\n"),
-        ("(defmethod f () 1) (f (princ 1))", "1\n; 1 (PROGRAM-ERROR)\n"),
+        (
+            "(defmethod f () 1) (f (princ 1))",
+            "1\n; 1 (PROGRAM-ERROR)\n",
+        ),
     ] {
         writes(&rt, alloc, Limits::default(), text, output, 1)?;
     }
@@ -245,9 +322,15 @@ fn full_tables(rt: HostRuntime) -> Result<(), Fail> {
         ..Limits::default()
     };
     for (limits, text) in [
-        (one, "(defclass a () ()) (make-instance 'a) (make-instance 'a)"),
+        (
+            one,
+            "(defclass a () ()) (make-instance 'a) (make-instance 'a)",
+        ),
         (one, "(defclass a () ()) (defclass b () ())"),
-        (one, "(defmethod f (x) x) (defmethod f (x) 2) (defmethod g (x) x)"),
+        (
+            one,
+            "(defmethod f (x) x) (defmethod f (x) 2) (defmethod g (x) x)",
+        ),
         (one_method, "(defmethod f (x) x) (defmethod f (x) 2)"),
         (one_method, "(defmethod f (x) x) (defmethod g (x) 2)"),
     ] {
@@ -274,7 +357,8 @@ fn steps_and_depth(rt: HostRuntime) -> Result<(), Fail> {
     ] {
         writes(&rt, alloc, limits, text, output, conditions)?;
     }
-    let text = "(defclass a () ()) (defmethod f ((x a)) (f x)) (f (make-instance 'a)) (princ (make-instance 'a))";
+    let text =
+        "(defclass a () ()) (defmethod f ((x a)) (f x)) (f (make-instance 'a)) (princ (make-instance 'a))";
     let output = "; 30 (DEPTH-LIMIT)\n#<A 2>";
     writes(&rt, alloc, Limits::default(), text, output, 1)?;
     writes(&rt, alloc, with_depth(4_000), text, output, 1)?;
@@ -310,7 +394,12 @@ fn the_longest_source(rt: HostRuntime) -> Result<(), Fail> {
     let mut blanks = vec![in alloc; b' '; 16_777_216]?;
     assert!(rt; matches!(fault(alloc, blanks.as_slice(), &mut output)?, None));
     blanks.push(b' ')?;
-    assert!(rt; matches!(fault(alloc, blanks.as_slice(), &mut output)?, Some(RunFault::TooLong)));
+    assert!(rt;
+        matches!(
+            fault(alloc, blanks.as_slice(), &mut output)?,
+            Some(RunFault::TooLong)
+        )
+    );
     assert_eq!(rt; output.len(), 0);
     Ok(())
 }
@@ -354,7 +443,13 @@ fn readers_that_fail(rt: HostRuntime) -> Result<(), Fail> {
     for left in [0, 1, 2] {
         let mut session = Session::new(alloc, Limits::default())?;
         let mut output = Vec::new(alloc);
-        let ended = run(alloc, &mut session, &mut Failing { left }, &mut output, false);
+        let ended = run(
+            alloc,
+            &mut session,
+            &mut Failing { left },
+            &mut output,
+            false,
+        );
         assert!(rt; matches!(ended, Err(RunFault::Read)), "after {left} reads");
         assert_eq!(rt; output.len(), 0);
         assert_eq!(rt; session.written().len(), 0);
@@ -368,8 +463,17 @@ fn writers_that_fail(rt: HostRuntime) -> Result<(), Fail> {
     for (left, written) in [(0, "1"), (1, "12"), (2, "123")] {
         let mut session = Session::new(alloc, Limits::default())?;
         let mut source = b"(princ 1) (defclass a () ()) (princ 2) (princ 3)".as_slice();
-        let ended = run(alloc, &mut session, &mut source, &mut Failing { left }, false);
-        assert!(rt; matches!(ended, Err(RunFault::Write)), "after {left} writes");
+        let ended = run(
+            alloc,
+            &mut session,
+            &mut source,
+            &mut Failing { left },
+            false,
+        );
+        assert!(rt;
+            matches!(ended, Err(RunFault::Write)),
+            "after {left} writes"
+        );
         assert_eq!(rt; str::from_utf8(session.written())?, written);
     }
     Ok(())
