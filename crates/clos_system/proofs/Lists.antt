@@ -1,8 +1,10 @@
 -- Lists seen through a function.
-use Rattle.std.proofs.Common.{◌≡◌, ℕ, suc, List, [], ◌∷◌, Bool, ◌||◌, map, take, drop, refl, ap, ◌∙◌}
-use Rattle.std.specs.Prelude.{insert, remove}
+use Rattle.std.proofs.Common.{◌≡◌, ℕ, suc, List, [], ◌∷◌, Bool, ◌||◌, map, take, drop, refl, ap, ◌∙◌, sym}
+use Rattle.std.specs.Prelude.{insert, remove, slice_get, Option, option_map}
 use Rattle.std.specs.List.{list_any}
 use Rattle.std.proofs.lemmas.List.{map-append, take-map, drop-map}
+use Rattle.std.proofs.lemmas.Option.{slice_get-map}
+use Rattle.lisp_data.specs.Print.{on_class}
 
 pub any_of_map : {A B : Type 0} (f : A → B) (p : B → Bool) (xs : List A) → list_any p (map f xs) ≡ list_any (λ x. p (f x)) xs
 any_of_map f p [] = refl
@@ -13,3 +15,7 @@ insert_of_map f xs i x = map-append f (take i xs) (x ∷ drop i xs) ∙ simp (ta
 
 pub remove_of_map : {A B : Type 0} (f : A → B) (xs : List A) (i : ℕ) → map f (remove xs i) ≡ remove (map f xs) i
 remove_of_map f xs i = map-append f (take i xs) (drop (suc i) xs) ∙ simp (take-map, drop-map)
+
+-- the class at a place as a method's specializer
+pub told_class : (ns : List ℕ) (i : ℕ) (o : Option ℕ) → o ≡ slice_get ns i → option_map on_class o ≡ slice_get (map on_class ns) i
+told_class ns i o e = ap (option_map on_class) e ∙ sym (slice_get-map on_class ns i)

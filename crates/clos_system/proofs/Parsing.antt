@@ -13,34 +13,13 @@ use Rattle.lisp_data.specs.Name.{Nam, same_name}
 use Rattle.clos_system.specs.TopSyntax.{Parameter, parameter_of, parameters_after}
 use Rattle.clos_system.specs.Form.{Frm, Frms}
 use Rattle.clos_system.specs.Form as form
-use Rattle.clos_system.specs.Syntax.{◌>>=◌, with_front, Fails, quotation, quotations}
+use Rattle.clos_system.specs.Syntax.{prepended, ◌>>=◌, with_front, Fails, quotation, quotations}
 use Rattle.clos_system.specs.declared.syntax.SyntaxFault.{SyntaxFault}
 use Rattle.clos_system.specs.declared.syntax.SyntaxFault.TheVariants.{Malformed, Unserved, Memory}
-
-pub items_again : (l : Vals) → value.list_from (value.elements l) ≡ l
-items_again value.nil = refl
-items_again (value.cons v l) = ap (value.cons v) (items_again l)
 
 pub forms_again : (l : Frms) → form.list_from (form.elements l) ≡ l
 forms_again form.nil = refl
 forms_again (form.cons f l) = ap (form.cons f) (forms_again l)
-
-not_zero : (n : ℕ) → n ≢ 0 → (n == 0) ≡ false
-not_zero zero h = absurd (h refl)
-not_zero (suc n) h = eqb-suc-zero n
-
--- a list within the limits
-pub quotation_list : (room : ℕ) (l : Dats) (d : Dat) (rest : Dats) → l ≡ cons d rest → room ≢ 0 → length_of l ≤ 1_048_576
-    → quotation room (list l) ≡ option_map value.list (quotations (room - 1) l)
-quotation_list room nil d rest e h k = cc
-quotation_list room (cons a l) d rest e h k =
-    ap (λ b. if b || nat_lt 1_048_576 (length_of l + 1) then None else option_map value.list (quotations (room - 1) (cons a l))) (not_zero room h)
-    ∙ ap (λ b. if false || b then None else option_map value.list (quotations (room - 1) (cons a l))) (le-ltb 1_048_576 (length_of l + 1) k)
-
--- these values, and then what the rest gives
-abbrev pub prepended : List Val → Option Vals → Option Vals
-prepended [] o = o
-prepended (v ∷ vs) o = with_front (Some v) (prepended vs o)
 
 pub prepended_push : (xs : List Value) (x : Value) (o : Option Vals) → prepended (map value_of (xs ++ x ∷ [])) o ≡ prepended (map value_of xs) (with_front (Some (value_of x)) o)
 prepended_push [] x o = refl
@@ -53,10 +32,6 @@ prepended_one (u ∷ vs) v o = ap (with_front (Some u)) (prepended_one vs v o)
 pub prepended_none : (vs : List Val) → prepended vs None ≡ None
 prepended_none [] = refl
 prepended_none (v ∷ vs) = ap (with_front (Some v)) (prepended_none vs)
-
-pub prepended_all : (vs : List Val) → prepended vs (Some value.nil) ≡ Some (value.list_from vs)
-prepended_all [] = refl
-prepended_all (v ∷ vs) = ap (with_front (Some v)) (prepended_all vs)
 
 -- these forms, and then what the rest gives
 abbrev pub gathered : List Frm → Result Frms SyntaxFault → Result Frms SyntaxFault

@@ -4,8 +4,7 @@ use Rattle.std.specs.Coded.{Coded, code_by, coded⊎, coded_list}
 use Rattle.std.proofs.Common.{inl, inr, ◌∙◌, ap}
 use base.Stored.{coded_unit}
 use Rattle.lisp_data.specs.Name.{Nam, name_code}
-use Rattle.lisp_data.specs.Value.{Val, Vals, values_code}
-use Rattle.lisp_data.specs.Value as value
+use Rattle.lisp_data.specs.Value.{Val, value_code}
 
 mutual
   pub data Frm : Type 0 where
@@ -43,16 +42,6 @@ list_from [] = nil
 list_from (f ∷ fs) = cons f (list_from fs)
 
 -- ---- how the logic stores a form: its nodes, each after its parts
-
-abbrev alone : Val → Vals
-alone v = value.cons v value.nil
-
-abbrev the_value : Vals → Val
-the_value value.nil = value.list value.nil
-the_value (value.cons v l) = v
-
-abbrev pub value_code : Coded Val
-value_code = code_by Vals values_code alone the_value (λ _. refl)
 
 abbrev pub Token : Type 0
 Token = Val ⊎ (Nam ⊎ (Nam ⊎ (Unit {0} ⊎ (Unit {0} ⊎ (Unit {0} ⊎ (Unit {0} ⊎ Unit {0}))))))

@@ -1,9 +1,10 @@
 -- From data to checked forms (HyperSpec 3.1.2.1, 3.4, 7.6.2).
-use Rattle.std.specs.Prelude.{◌≡◌, ℕ, ◌+◌, ◌-◌, ◌==◌, nat_lt, Bool, ◌||◌, Option, Some, None, option_map, Result, Ok, Err, codes, if◌then◌else◌}
+use Rattle.std.specs.Prelude.{◌≡◌, nat_le, List, [], ◌∷◌, Bool, ◌||◌, ◌&&◌, Option, Some, None, option_map, Result, Ok, Err, codes, if◌then◌else◌}
+use Rattle.lisp_data.specs.Limits.{most_elements, most_nesting}
 use Rattle.lisp_data.specs.Name.{Nam}
 use Rattle.lisp_data.specs.Value.{Val, Vals}
 use Rattle.lisp_data.specs.Value as value
-use Rattle.lisp_data.specs.Datum.{Dat, integer, symbol, string, list, dotted, method, Dats, nil, cons, length_of}
+use Rattle.lisp_data.specs.Datum.{Dat, integer, symbol, string, list, dotted, method, Dats, nil, cons}
 use Rattle.clos_system.specs.Form.{Frm, Frms, constant, no_value, variable, princ, make_instance, call}
 use Rattle.clos_system.specs.Form as form
 use Rattle.clos_system.specs.Condition.{name_value}
@@ -31,41 +32,41 @@ Gives view (Err e) d = Fails e d
 
 -- ---- quoted data
 
+-- a list that is neither too long nor too deep
+abbrev pub within_limits : Vals → Option Vals
+within_limits l = if nat_le (value.length_of l) most_elements && nat_le (value.nesting_in l) most_nesting then Some l else None
+
 abbrev pub with_front : Option Val → Option Vals → Option Vals
-with_front (Some v) (Some l) = Some (value.cons v l)
+with_front (Some v) (Some l) = within_limits (value.cons v l)
 with_front (Some v) None = None
 with_front None l = None
 
-abbrev pub most_elements : ℕ
-most_elements = 1_048_576
-
--- the value of a quoted datum, where lists may nest so deep: a dotted or too long list is none
+-- the value of a quoted datum: a dotted list, one too long or too deep, and a method have none
 abbrev mutual
-  pub quotation : ℕ → Dat → Option Val
-  quotation room (integer n) = Some (value.integer n)
-  quotation room (symbol name) = Some (name_value name)
-  quotation room (string s) = Some (value.string s)
-  quotation room (list nil) = Some (value.list value.nil)
-  quotation room (list (cons d l)) =
-      if (room == 0) || nat_lt most_elements (length_of l + 1) then None
-      else option_map value.list (with_front (quotation (room - 1) d) (quotations (room - 1) l))
-  quotation room (dotted l d) = None
-  quotation room (method n) = None
+  pub quotation : Dat → Option Val
+  quotation (integer n) = Some (value.integer n)
+  quotation (symbol name) = Some (name_value name)
+  quotation (string s) = Some (value.string s)
+  quotation (list l) = option_map value.list (quotations l)
+  quotation (dotted l d) = None
+  quotation (method n) = None
 
-  pub quotations : ℕ → Dats → Option Vals
-  quotations room nil = Some value.nil
-  quotations room (cons d l) = with_front (quotation room d) (quotations room l)
+  pub quotations : Dats → Option Vals
+  quotations nil = Some value.nil
+  quotations (cons d l) = with_front (quotation d) (quotations l)
+
+-- these values before others
+abbrev pub prepended : List Val → Option Vals → Option Vals
+prepended [] o = o
+prepended (v ∷ vs) o = with_front (Some v) (prepended vs o)
 
 abbrev pub quote_form : Option Val → Frm
 quote_form (Some v) = constant v
 quote_form None = no_value
 
-abbrev pub most_nesting : ℕ
-most_nesting = 1_000
-
 abbrev pub quoted : Dats → Result Frm SyntaxFault
 quoted nil = Err fault.Malformed
-quoted (cons d nil) = Ok (quote_form (quotation most_nesting d))
+quoted (cons d nil) = Ok (quote_form (quotation d))
 quoted (cons d (cons e l)) = Err fault.Malformed
 
 -- ---- forms

@@ -1,7 +1,7 @@
 -- The state of a session (HyperSpec 3.1.1, 4.3, 7.6): lists that only grow at their ends.
-use Rattle.std.specs.Prelude.{ℕ, ◌-◌, ◌==◌, List, ◌||◌, nat_le, Option, None, map, option_map, unwrap_or, slice_get, if◌then◌else◌}
+use Rattle.std.specs.Prelude.{ℕ, ◌-◌, ◌==◌, List, [], ◌||◌, nat_le, Option, None, map, option_map, unwrap_or, slice_get, if◌then◌else◌}
 use Rattle.lisp_data.specs.Value.{Val, integer, symbol, string, list, class, generic, method, instance, nil, cons}
-use Rattle.lisp_data.specs.Print.{Names, MethodParts}
+use Rattle.lisp_data.specs.Print.{Names, MethodParts, by_symbol, on_class}
 use Rattle.clos_system.specs.declared.class.Class.{Class}
 use Rattle.clos_system.specs.declared.generic.Generic.{Generic}
 use Rattle.clos_system.specs.declared.generic.Method.{Method}
@@ -49,13 +49,13 @@ abbrev pub lists_of : State → List Val → List (List ℕ)
 lists_of w vs = map (λ v. precedence w.classes (class_of w v)) vs
 
 abbrev pub parts_of : Method → MethodParts
-parts_of m = record { generic = m.generic.0; specializers = m.specializers }
+parts_of m = record { generic = m.generic.0; qualifiers = []; specializers = map on_class m.specializers }
 
 -- what the numbers in values stand for
 abbrev pub names_of : State → Names
 names_of w = record {
   class = λ n. class_name w.classes n;
-  generic = λ n. option_map (λ g. g.name) (slice_get w.generics n);
+  generic = λ n. option_map (λ g. by_symbol g.name) (slice_get w.generics n);
   method = λ n. option_map parts_of (slice_get w.methods n);
   class_of = λ i. class_of_instance w i;
 }

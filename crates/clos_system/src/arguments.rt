@@ -19,8 +19,7 @@ pub struct Values {
 impl Model for Values {
     ghost use Rattle.std.specs.Prelude.{List, map};
     ghost use Rattle.std.specs.Coded.{coded_list};
-    ghost use Rattle.lisp_data.specs.Value.{Val};
-    ghost use Rattle.clos_system.specs.Form.{value_code};
+    ghost use Rattle.lisp_data.specs.Value.{Val, value_code};
 
     ghost Value = { List Val };
 
@@ -74,8 +73,7 @@ pub struct Arguments {
 impl Model for Arguments {
     ghost use Rattle.std.specs.Prelude.{List};
     ghost use Rattle.std.specs.Coded.{coded_list};
-    ghost use Rattle.lisp_data.specs.Value.{Val};
-    ghost use Rattle.clos_system.specs.Form.{value_code};
+    ghost use Rattle.lisp_data.specs.Value.{Val, value_code};
 
     ghost Value = { List Val };
 

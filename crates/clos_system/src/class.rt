@@ -1,11 +1,13 @@
 //! Classes and their precedence (HyperSpec 4.3).
-ghost use Rattle.std.specs.Prelude.{◌≡◌, ◌<◌, ◌++◌, ◌∷◌, [], IfOk, OnErr, OnOk, List, map, position, if◌then◌else◌, is_ok, option_map, length, ℕ, slice_index, ◌==◌};
+ghost use Rattle.std.specs.Prelude.{◌≡◌, ◌<◌, ◌++◌, ◌∷◌, [], IfOk, OnErr, OnOk, List, map, position, if◌then◌else◌, is_ok, option_map, length, ℕ, slice_index, slice_get, ◌==◌};
 ghost use Rattle.std.specs.List.{list_any};
 ghost use Rattle.std.specs.Str.{bytes_eq};
 ghost use Rattle.lisp_data.specs.Name.{same_name};
+ghost use Rattle.lisp_data.specs.Print.{on_class};
+ghost use Rattle.lisp_data.specs.PrintView.{specializer_told};
 ghost use Rattle.clos_system.specs.Class.{precedence, named};
 
-use lisp_data::{ClassId, Name};
+use lisp_data::{ClassId, Name, Specializer};
 use std::alloc::{AllocError, Global};
 use std::marker::Model;
 
@@ -54,6 +56,23 @@ impl ClassIds {
         ensures { map (λ c. c.0) result.now ≡ self.now }
     {
         self.ids.as_slice()
+    }
+
+    /// The one at this place as a method's specializer, if there is one.
+    #[tactic(auto, using(crate::proofs::Lists::told_class))]
+    pub fn specializer(&self, place: usize) -> Option<Specializer<'_>>
+        ensures { option_map specializer_told result ≡ slice_get (map on_class self.now) place }
+    {
+        match self.class_at(place) {
+            Some(class) => Some(Specializer::Class(class)),
+            None => None,
+        }
+    }
+
+    fn class_at(&self, place: usize) -> Option<ClassId>
+        ensures { option_map (λ c. c.0) result ≡ slice_get self.now place }
+    {
+        self.ids.get(place).copied()
     }
 
     /// How many they are.

@@ -3,14 +3,14 @@ ghost use Rattle.std.specs.Prelude.{◌≡◌, ◌++◌, ◌∷◌, [], ℕ, IfO
 ghost use Rattle.lisp_data.specs.ValueView.{value_of};
 ghost use Rattle.lisp_data.specs.DatumView.{datum_of};
 ghost use Rattle.lisp_data.specs.Datum.{Dats, list, cons};
-ghost use Rattle.lisp_data.specs.Value as value;
+ghost use Rattle.lisp_data.specs.Value.{nil};
 ghost use Rattle.clos_system.specs.Form as form;
-ghost use Rattle.clos_system.specs.Syntax.{Gives, argument_of, quotation, quotations, quote_form, quoted, is_constant, symbol_form, one_argument, application, applied, form_of, forms_of};
+ghost use Rattle.clos_system.specs.Syntax.{Gives, argument_of, with_front, prepended, quotation, quotations, quote_form, quoted, is_constant, symbol_form, one_argument, application, applied, form_of, forms_of};
 
 use crate::condition::value_named;
 use crate::form::{Form, Forms, Node};
 use crate::names::{Operator, is_the, operator_named};
-use lisp_data::{Data, Datum, Items, Name, Value};
+use lisp_data::{Data, Datum, Items, ListFault, Name, Value};
 use std::alloc::{AllocError, AllocFailed, Global};
 
 /// Why a datum is no form.
@@ -44,21 +44,30 @@ impl<T: Drop> From<AllocFailed<T>> for SyntaxFault {
     }
 }
 
-/// How many elements a list may have.
-pub const MAX_ELEMENTS: u64 = 1_048_576;
-/// How deep lists may nest.
-pub const MAX_LIST_NESTING: u64 = 1_000;
-
-/// The list of these values.
-#[tactic(auto, using(crate::proofs::Parsing::items_again))]
-pub fn items_from(alloc: Global, mut values: Vec<Value>) -> Result<Items, AllocError>
-    ensures { IfOk result (λ r. r ≡ value.list_from (map value_of values.items)) }
+/// The list of these values, or None where it would be too long or too deep.
+#[tactic(auto, using(crate::proofs::Parsing::prepended_push, crate::proofs::Parsing::prepended_none))]
+fn items_from(alloc: Global, mut values: Vec<Value>) -> Result<Option<Items>, AllocError>
+    ensures { IfOk result (λ r. r ≡ prepended (map value_of values.items) (Some nil)) }
 {
     let mut items = Items::new();
     while let Some(value) = values.pop() {
-        items = Items::cons(alloc, value, items)?;
+        match with_front(alloc, value, items)? {
+            None => return Ok(None),
+            Some(list) => items = list,
+        }
     }
-    Ok(items)
+    Ok(Some(items))
+}
+
+/// The list of this value and these, or None where it would be too long or too deep.
+fn with_front(alloc: Global, value: Value, items: Items) -> Result<Option<Items>, AllocError>
+    ensures { IfOk result (λ r. r ≡ with_front (Some (value_of value)) (Some items)) }
+{
+    match Items::cons(alloc, value, items) {
+        Ok(list) => Ok(Some(list)),
+        Err(ListFault::Limit) => Ok(None),
+        Err(ListFault::Memory) => Err(AllocError),
+    }
 }
 
 /// These forms, in order.
@@ -73,54 +82,39 @@ pub fn forms_from(alloc: Global, mut forms: Vec<Form>) -> Result<Forms, AllocErr
     Ok(list)
 }
 
-/// The value of a quoted datum, where lists may nest so deep, or None: a dotted or too long list has none.
+/// The value of a quoted datum, or None: a dotted list, one too long or too deep, and a method have none.
 #[cycle(quote)]
-fn quoted_value(alloc: Global, datum: &Datum, room: u64) -> Result<Option<Value>, AllocError>
-    ensures { IfOk result (λ r. option_map value_of r ≡ quotation room (datum_of datum.now)) }
+fn quoted_value(alloc: Global, datum: &Datum) -> Result<Option<Value>, AllocError>
+    ensures { IfOk result (λ r. option_map value_of r ≡ quotation (datum_of datum.now)) }
 {
     match datum {
         Datum::Int(number) => Ok(Some(Value::Int(*number))),
         Datum::Sym(name) => Ok(Some(value_named(name)?)),
         Datum::Str(text) => Ok(Some(Value::Str(text.copy()?))),
-        Datum::List(elements) => quoted_list(alloc, elements, room),
+        Datum::List(elements) => match quoted_values(alloc, elements)? {
+            None => Ok(None),
+            Some(items) => Ok(Some(Value::List(items))),
+        },
         Datum::Dotted(_) => Ok(None),
         Datum::Method(_) => Ok(None),
     }
 }
 
+#[tactic(auto, using(crate::proofs::Parsing::prepended_one, crate::proofs::Parsing::prepended_none))]
 #[cycle(quote)]
-fn quoted_list(alloc: Global, elements: &Data, room: u64) -> Result<Option<Value>, AllocError>
-    ensures { IfOk result (λ r. option_map value_of r ≡ quotation room (list elements.now)) }
-{
-    match elements.split_first() {
-        None => Ok(Some(Value::List(Items::new()))),
-        Some(_) => {
-            if room == 0 || elements.len() > MAX_ELEMENTS {
-                return Ok(None);
-            }
-            match quoted_values(alloc, elements, room - 1)? {
-                None => Ok(None),
-                Some(items) => Ok(Some(Value::List(items))),
-            }
-        }
-    }
-}
-
-#[tactic(auto, using(crate::proofs::Parsing::prepended_one, crate::proofs::Parsing::prepended_none, crate::proofs::Parsing::prepended_all))]
-#[cycle(quote)]
-fn quoted_values(alloc: Global, elements: &Data, room: u64) -> Result<Option<Items>, AllocError>
-    ensures { IfOk result (λ r. r ≡ quotations room elements.now) }
+fn quoted_values(alloc: Global, elements: &Data) -> Result<Option<Items>, AllocError>
+    ensures { IfOk result (λ r. r ≡ quotations elements.now) }
 {
     let mut values = Vec::new(alloc);
     let mut rest = elements;
     while let Some((first, others)) = rest.split_first() {
-        match quoted_value(alloc, first, room)? {
+        match quoted_value(alloc, first)? {
             None => return Ok(None),
             Some(value) => values.push(value)?,
         }
         rest = others;
     }
-    Ok(Some(items_from(alloc, values)?))
+    items_from(alloc, values)
 }
 
 /// The form that quotes the one datum of a list.
@@ -137,9 +131,9 @@ fn quote(alloc: Global, rest: &Data) -> Result<Form, SyntaxFault>
 }
 
 fn quoting(alloc: Global, datum: &Datum) -> Result<Form, AllocError>
-    ensures { IfOk result (λ f. f ≡ quote_form (quotation 1000 (datum_of datum.now))) }
+    ensures { IfOk result (λ f. f ≡ quote_form (quotation (datum_of datum.now))) }
 {
-    match quoted_value(alloc, datum, MAX_LIST_NESTING)? {
+    match quoted_value(alloc, datum)? {
         Some(value) => Form::new(alloc, Node::Constant(value)),
         None => Form::new(alloc, Node::NoValue),
     }

@@ -2,7 +2,7 @@
 use crate::limits::Limits;
 use crate::session::{Reply, Session};
 use crate::transcript::{RunFault, Summary, run};
-use lisp_data::{Data, Datum, Dot, MethodId, Name, Value};
+use lisp_data::{Data, Datum, Dot, MAX_NESTING, MethodId, Name, Value};
 use lisp_reader::{ReadFault, read_form};
 use std::alloc::Global;
 use std::io::{self, Read, Write};
@@ -509,5 +509,26 @@ fn submitted_data(rt: HostRuntime) -> Result<(), Fail> {
     assert_eq!(rt; condition(&mut session, &method), 1);
     let nested = quoting(alloc, method)?;
     assert_eq!(rt; condition(&mut session, &nested), 1);
+    Ok(())
+}
+
+#[test]
+fn the_deepest_datum(rt: HostRuntime) -> Result<(), Fail> {
+    let alloc = rt.alloc();
+    let mut session = Session::new(alloc, Limits::default())?;
+    let mut quoted = Datum::Int(7);
+    let mut call = Datum::Int(7);
+    for _ in 0..MAX_NESTING {
+        quoted = quoting(alloc, quoted)?;
+        let argument = Data::cons(alloc, call, Data::new())?;
+        let name = Datum::Sym(Name::fixed("F"));
+        call = Datum::List(Data::cons(alloc, name, argument)?);
+    }
+    assert_eq!(rt;
+        (quoted.nesting(), call.nesting()),
+        (MAX_NESTING, MAX_NESTING)
+    );
+    assert!(rt; matches!(session.submit(&quoted), Reply::Value(Value::List(_))));
+    assert_eq!(rt; condition(&mut session, &call), 30);
     Ok(())
 }

@@ -338,7 +338,11 @@ fn strip_body(alloc: Global, forms: &Data) -> Result<Data, AllocError>
     }
     match last {
         None => Ok(Data::new()),
-        Some(text) => Data::cons(alloc, text.copy()?, Data::new()),
+        // A string nests in no list, so only memory is refused.
+        Some(text) => match Data::cons(alloc, text.copy()?, Data::new()) {
+            Ok(body) => Ok(body),
+            Err(_) => Err(AllocError),
+        },
     }
 }
 

@@ -6,7 +6,9 @@ ghost use Rattle.clos_system.specs.World.{seen, class_of, class_of_instance, lis
 use crate::class::{Class, ClassIds, precedence_list};
 use crate::generic::{Generic, Method};
 use crate::limits::Limits;
-use lisp_data::{ClassId, GenericId, InstanceId, MethodId, Name, Naming, Value};
+use lisp_data::{
+    ClassId, FunctionName, GenericId, InstanceId, MethodId, Name, Naming, Specializer, Value,
+};
 use std::alloc::{AllocError, Global};
 
 /// The classes that stand first in the table, with the numbers of those that values are of.
@@ -114,16 +116,27 @@ impl Naming for World {
         }
     }
 
-    fn generic_name(&self, id: GenericId) -> Option<&Name> {
+    fn generic_name(&self, id: GenericId) -> Option<FunctionName<'_>> {
         match self.generics.get(id.0 as usize) {
-            Some(generic) => Some(&generic.name),
+            Some(generic) => Some(FunctionName::Symbol(&generic.name)),
             None => None,
         }
     }
 
-    fn method_parts(&self, id: MethodId) -> Option<(GenericId, &[ClassId])> {
+    fn method_generic(&self, id: MethodId) -> Option<GenericId> {
         match self.methods.get(id.0 as usize) {
-            Some(method) => Some((method.generic, method.specializers.as_slice())),
+            Some(method) => Some(method.generic),
+            None => None,
+        }
+    }
+
+    fn qualifier(&self, _id: MethodId, _place: usize) -> Option<&Value> {
+        None
+    }
+
+    fn specializer(&self, id: MethodId, place: usize) -> Option<Specializer<'_>> {
+        match self.methods.get(id.0 as usize) {
+            Some(method) => method.specializers.specializer(place),
             None => None,
         }
     }

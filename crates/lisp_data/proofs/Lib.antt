@@ -1,0 +1,2 @@
+pub mod OnKeys
+pub mod Printing

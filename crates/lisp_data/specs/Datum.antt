@@ -1,5 +1,5 @@
 -- The data that a reader makes of a text (HyperSpec 2, 14.1).
-use Rattle.std.specs.Prelude.{◌≡◌, ◌⊎◌, ℕ, ℤ, ◌+◌, List, [], ◌∷◌, ◌++◌, refl}
+use Rattle.std.specs.Prelude.{◌≡◌, ◌⊎◌, ℕ, ℤ, ◌+◌, max, List, [], ◌∷◌, ◌++◌, refl}
 use Rattle.std.specs.Coded.{Coded, code_by, coded×, coded⊎, coded_list, coded_ℕ, coded_ℤ}
 use Rattle.std.proofs.Common.{inl, inr, ◌∙◌, ap}
 use base.Stored.{coded_unit}
@@ -37,6 +37,20 @@ abbrev pub length_of : Dats → ℕ
 length_of nil = 0
 length_of (cons d l) = length_of l + 1
 
+-- how deep lists nest in a datum, and in one of the elements with the list around it. An atom nests none
+abbrev mutual
+  pub nesting_of : Dat → ℕ
+  nesting_of (integer n) = 0
+  nesting_of (symbol s) = 0
+  nesting_of (string s) = 0
+  nesting_of (list l) = nesting_in l
+  nesting_of (dotted l d) = max (nesting_in l) (nesting_of d + 1)
+  nesting_of (method n) = 0
+
+  pub nesting_in : Dats → ℕ
+  nesting_in nil = 0
+  nesting_in (cons d l) = max (nesting_of d + 1) (nesting_in l)
+
 -- the elements as a list of the definitions
 abbrev pub elements : Dats → List Dat
 elements nil = []
@@ -50,6 +64,9 @@ list_from (d ∷ ds) = cons d (list_from ds)
 pub record Dot : Type 0 where
   pub front : Dats
   pub last : Dat
+
+abbrev pub nesting_of_dot : Dot → ℕ
+nesting_of_dot d = max (nesting_in d.front) (nesting_of d.last + 1)
 
 abbrev pub size_of_dot : Dot → ℕ
 size_of_dot d = 1 + (size_of_data d.front + size_of_datum d.last)

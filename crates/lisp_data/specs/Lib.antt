@@ -1,9 +1,13 @@
+pub mod Limits
 pub mod Name
 pub mod NameView
 pub mod Value
 pub mod ValueView
 pub mod Datum
 pub mod DatumView
+pub mod Same
+pub mod Keys
+pub mod KeyLaws
 pub mod Print
 pub mod PrintView
 pub mod Equality

@@ -1,19 +1,38 @@
 -- How values print (HyperSpec 22.1.3).
-use Rattle.std.specs.Prelude.{ℕ, Bool, true, false, List, [], ◌∷◌, ◌++◌, Option, Some, None, codes, map, option_and_then, if◌then◌else◌, ◌==◌, ◌||◌}
+use Rattle.std.specs.Prelude.{ℕ, zero, suc, Bool, true, false, List, [], ◌∷◌, ◌++◌, Option, Some, None, codes, map, option_and_then, if◌then◌else◌, ◌==◌, ◌||◌}
 use Rattle.std.specs.Fmt.{decimal, signed_decimal}
 use Rattle.std.specs.List.{flat_map}
 use Rattle.lisp_data.specs.Name.{Nam}
 use Rattle.lisp_data.specs.Value.{Val, integer, symbol, string, list, class, generic, method, instance, Vals, nil, cons}
 
--- what a method prints: the number of its function, and those of the classes that it specializes on
+-- what a function is called (HyperSpec glossary, function name): a symbol, or (SETF symbol)
+pub data Called : Type 0 where
+  by_symbol : Nam → Called
+  by_setf : Nam → Called
+
+-- what a method asks of one argument (7.6.2): a class, by its number, or to be EQL to an object
+pub data Specializer : Type 0 where
+  on_class : ℕ → Specializer
+  on_eql : Val → Specializer
+
+-- what a method prints: the number of its function, its qualifiers and its specializers
 pub record MethodParts : Type 0 where
   pub generic : ℕ
-  pub specializers : List ℕ
+  pub qualifiers : List Val
+  pub specializers : List Specializer
+
+abbrev pub qualifiers_of : Option MethodParts → List Val
+qualifiers_of None = []
+qualifiers_of (Some m) = m.qualifiers
+
+abbrev pub specializers_of : Option MethodParts → List Specializer
+specializers_of None = []
+specializers_of (Some m) = m.specializers
 
 -- what the numbers of classes, generic functions, methods and instances stand for
 pub record Names : Type 0 where
   pub class : ℕ → Option Nam
-  pub generic : ℕ → Option Nam
+  pub generic : ℕ → Option Called
   pub method : ℕ → Option MethodParts
   pub class_of : ℕ → Option ℕ
 
@@ -49,29 +68,58 @@ list_text (t ∷ ts) = codes "(" ++ (t ++ (spaced ts ++ codes ")"))
 abbrev pub class_name_text : Names → ℕ → List ℕ
 class_name_text names c = known_text (names.class c)
 
--- a method (22.1.3.13): its function's name and the list of its classes' names
-abbrev pub method_text : Names → Option MethodParts → List ℕ
-method_text names None = codes "#<METHOD ?>"
-method_text names (Some m) =
-    codes "#<METHOD " ++ (known_text (names.generic m.generic) ++ (codes " " ++ (list_text (map (class_name_text names) m.specializers) ++ codes ">")))
+-- what a function is called: a symbol, or the list of SETF and one
+unfoldable pub called_text : Option Called → List ℕ
+called_text None = codes "?"
+called_text (Some (by_symbol n)) = name_text n
+called_text (Some (by_setf n)) = codes "(SETF " ++ (name_text n ++ codes ")")
 
 -- an instance (22.1.3.13): its class's name and its number
 abbrev pub instance_text : Names → ℕ → List ℕ
 instance_text names n = codes "#<" ++ (known_text (option_and_then names.class (names.class_of n)) ++ (codes " " ++ (decimal n ++ codes ">")))
 
--- the bytes that a value prints as, readably (prin1) or not (princ)
-abbrev mutual
-  pub text_of : Bool → Names → Val → List ℕ
-  text_of readably names (integer n) = signed_decimal n
-  text_of readably names (symbol s) = name_text s
-  text_of readably names (string s) = string_text readably s
-  text_of readably names (list l) = list_text (texts_of readably names l)
-  text_of readably names (class n) = codes "#<CLASS " ++ (class_name_text names n ++ codes ">")
-  text_of readably names (generic n) = codes "#<GENERIC-FUNCTION " ++ (known_text (names.generic n) ++ codes ">")
-  text_of readably names (method n) = method_text names (names.method n)
-  text_of readably names (instance n) = instance_text names n
+module _ (readably : Bool) (names : Names) where
+  -- the bytes that a value prints as, where methods print so
+  abbrev mutual
+    pub text_with : (ℕ → List ℕ) → Val → List ℕ
+    text_with methods (integer n) = signed_decimal n
+    text_with methods (symbol s) = name_text s
+    text_with methods (string s) = string_text readably s
+    text_with methods (list l) = list_text (texts_with methods l)
+    text_with methods (class n) = codes "#<CLASS " ++ (class_name_text names n ++ codes ">")
+    text_with methods (generic n) = codes "#<GENERIC-FUNCTION " ++ (called_text (names.generic n) ++ codes ">")
+    text_with methods (method n) = methods n
+    text_with methods (instance n) = instance_text names n
 
-  -- the bytes of each element
-  pub texts_of : Bool → Names → Vals → List (List ℕ)
-  texts_of readably names nil = []
-  texts_of readably names (cons v l) = text_of readably names v ∷ texts_of readably names l
+    -- the bytes of each element
+    pub texts_with : (ℕ → List ℕ) → Vals → List (List ℕ)
+    texts_with methods nil = []
+    texts_with methods (cons v l) = text_with methods v ∷ texts_with methods l
+
+  unfoldable pub specializer_text : (ℕ → List ℕ) → Specializer → List ℕ
+  specializer_text methods (on_class c) = class_name_text names c
+  specializer_text methods (on_eql v) = codes "(EQL " ++ (text_with methods v ++ codes ")")
+
+  -- after the name of a method's function: the qualifiers each after a space, then the list of specializers
+  abbrev pub lists_text : (ℕ → List ℕ) → List Val → List Specializer → List ℕ
+  lists_text methods qualifiers specializers =
+      spaced (map (text_with methods) qualifiers) ++ (codes " " ++ (list_text (map (specializer_text methods) specializers) ++ codes ">"))
+
+  -- a method (22.1.3.13)
+  abbrev pub described : (ℕ → List ℕ) → Option MethodParts → List ℕ
+  described methods None = codes "#<METHOD ?>"
+  described methods (Some m) =
+      codes "#<METHOD " ++ (called_text (names.generic m.generic) ++ lists_text methods m.qualifiers m.specializers)
+
+  -- a method by its number, where so many methods may stand inside one another as objects of eql specializers
+  abbrev pub methods_within : ℕ → ℕ → List ℕ
+  methods_within zero n = codes "#<METHOD ?>"
+  methods_within (suc k) n = described (methods_within k) (names.method n)
+
+  -- a method by its number. The methods in its specializers were made before it, so they are fewer than its number
+  abbrev pub method_text : ℕ → List ℕ
+  method_text n = methods_within (suc n) n
+
+  -- the bytes that a value prints as, readably (prin1) or not (princ)
+  abbrev pub text_of : Val → List ℕ
+  text_of v = text_with method_text v

@@ -1,9 +1,10 @@
 -- The values of the language (HyperSpec 4.2, 14.1): what a form can give.
-use Rattle.std.specs.Prelude.{◌≡◌, ◌⊎◌, ℕ, ℤ, ◌+◌, List, [], ◌∷◌, ◌++◌, refl}
+use Rattle.std.specs.Prelude.{◌≡◌, ◌⊎◌, ℕ, ℤ, ◌+◌, ◌≤◌, max, List, [], ◌∷◌, ◌++◌, refl}
 use Rattle.std.specs.Coded.{Coded, code_by, coded⊎, coded_list, coded_ℕ, coded_ℤ}
 use Rattle.std.proofs.Common.{inl, inr, ◌∙◌, ap}
 use base.Stored.{coded_unit}
 use Rattle.lisp_data.specs.Name.{Nam, name_code}
+use Rattle.lisp_data.specs.Limits.{most_elements, most_nesting}
 
 mutual
   pub data Val : Type 0 where
@@ -40,6 +41,26 @@ abbrev mutual
 abbrev pub length_of : Vals → ℕ
 length_of nil = 0
 length_of (cons v l) = length_of l + 1
+
+-- how deep lists nest in a value, and in one of the elements with the list around it. An atom nests none
+abbrev mutual
+  pub nesting_of : Val → ℕ
+  nesting_of (integer n) = 0
+  nesting_of (symbol s) = 0
+  nesting_of (string s) = 0
+  nesting_of (list l) = nesting_in l
+  nesting_of (class n) = 0
+  nesting_of (generic n) = 0
+  nesting_of (method n) = 0
+  nesting_of (instance n) = 0
+
+  pub nesting_in : Vals → ℕ
+  nesting_in nil = 0
+  nesting_in (cons v l) = max (nesting_of v + 1) (nesting_in l)
+
+-- a list that is neither too long nor too deep
+abbrev pub IsWithinLimits : Vals → Type 0
+IsWithinLimits l = (length_of l ≤ most_elements) × (nesting_in l ≤ most_nesting)
 
 -- the elements as a list of the definitions
 abbrev pub elements : Vals → List Val
@@ -147,3 +168,13 @@ values_from-tokens l = ap (λ (s : Stacks). first_list s.1) (read_values l [] []
 
 abbrev pub values_code : Coded Vals
 values_code = code_by (List Token) (coded_list token_code) tokens_of_values values_from values_from-tokens
+
+abbrev alone : Val → Vals
+alone v = cons v nil
+
+abbrev the_value : Vals → Val
+the_value nil = list nil
+the_value (cons v l) = v
+
+abbrev pub value_code : Coded Val
+value_code = code_by Vals values_code alone the_value (λ _. refl)

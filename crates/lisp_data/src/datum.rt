@@ -1,9 +1,11 @@
 //! The data that a reader makes of a text.
-ghost use Rattle.std.specs.Prelude.{◌≡◌, IfOk, MatchOption};
-ghost use Rattle.lisp_data.specs.Datum.{Dats, nil, cons, length_of};
+ghost use Rattle.std.specs.Prelude.{◌≡◌, ◌≤◌, ◌<◌, ◌+◌, IfOk, MatchOption, MatchResult};
+ghost use Rattle.lisp_data.specs.Limits.{OnLimit, most_nesting};
+ghost use Rattle.lisp_data.specs.Datum.{Dats, nil, cons, length_of, nesting_of, nesting_in, nesting_of_dot};
 ghost use Rattle.lisp_data.specs.DatumView.{datum_of, data_of};
 
 use crate::ids::MethodId;
+use crate::limits::{ListFault, MAX_NESTING};
 use crate::name::Name;
 use crate::text::Text;
 use std::alloc::{AllocError, Global};
@@ -36,21 +38,36 @@ impl Datum {
             Datum::Method(id) => Ok(Datum::Method(*id)),
         }
     }
+
+    /// How deep lists nest in it: an atom nests none.
+    pub fn nesting(&self) -> u64
+        ensures value { result ≡ nesting_of (datum_of self.now) }
+        ensures most { result ≤ most_nesting }
+    {
+        match self {
+            Datum::List(items) => items.nesting(),
+            Datum::Dotted(dot) => dot.nesting(),
+            _ => 0,
+        }
+    }
 }
 
-/// The elements of a list, which shares its tails with other lists and knows its length. Contracts see the list.
+/// The elements of a list, nested at most `MAX_NESTING` deep. It shares its tails with other lists, and knows its
+/// length and nesting. Contracts see the list.
 #[cycle(datum)]
 pub struct Data {
     first: Link,
     length: u64,
+    nesting: u16,
 }
 
-/// The elements of a list before its dot, and the atom after it. Contracts see both.
+/// The elements of a list before its dot, and what stands after it, nested at most `MAX_NESTING` deep. Contracts see both.
 #[cycle(datum)]
 #[derive(Drop)]
 pub struct Dot {
     front: Data,
     last: Rc<Datum>,
+    depth: u16,
 }
 
 #[cycle(datum)]
@@ -68,8 +85,9 @@ struct Pair {
 }
 
 impl Model for Data {
-    ghost use Rattle.std.specs.Prelude.{◌≡◌};
-    ghost use Rattle.lisp_data.specs.Datum.{Dats, data_code, size_of_data, length_of};
+    ghost use Rattle.std.specs.Prelude.{◌≡◌, ◌≤◌};
+    ghost use Rattle.lisp_data.specs.Datum.{Dats, data_code, size_of_data, length_of, nesting_in};
+    ghost use Rattle.lisp_data.specs.Limits.{most_nesting};
 
     ghost Value = { Dats };
 
@@ -79,13 +97,16 @@ impl Model for Data {
 
     ghost view = { λ a. data_of a.first };
 
-    ghost invariant = { λ a. a.length ≡ length_of (data_of a.first) };
+    ghost invariant = { λ a. (a.length ≡ length_of (data_of a.first)) × (a.nesting ≡ nesting_in (data_of a.first))
+        × (a.nesting ≤ most_nesting) };
 
     ghost size = { size_of_data };
 }
 
 impl Model for Dot {
-    ghost use Rattle.lisp_data.specs.Datum.{dot_code, size_of_dot};
+    ghost use Rattle.std.specs.Prelude.{◌≡◌, ◌≤◌, ◌+◌, max};
+    ghost use Rattle.lisp_data.specs.Datum.{dot_code, size_of_dot, nesting_of, nesting_in};
+    ghost use Rattle.lisp_data.specs.Limits.{most_nesting};
     ghost use Rattle.lisp_data.specs.Datum as of;
 
     ghost Value = { of.Dot };
@@ -95,6 +116,9 @@ impl Model for Dot {
     ghost use Rattle.lisp_data.specs.DatumView.{datum_of};
 
     ghost view = { λ a. record { front = a.front; last = datum_of a.last.value } };
+
+    ghost invariant = { λ a. (a.depth ≡ max (nesting_in a.front) (nesting_of (datum_of a.last.value) + 1))
+        × (a.depth ≤ most_nesting) };
 
     ghost size = { size_of_dot };
 }
@@ -107,6 +131,7 @@ impl Data {
         Data {
             first: Link::End,
             length: 0,
+            nesting: 0,
         }
     }
 
@@ -117,18 +142,33 @@ impl Data {
         self.length
     }
 
-    /// The list with this element before the others.
-    pub fn cons(alloc: Global, head: Datum, tail: Data) -> Result<Data, AllocError>
-        ensures { IfOk result (λ r. r ≡ cons (datum_of head) tail) }
+    /// How deep lists nest in it, itself included: the empty list nests none.
+    pub fn nesting(&self) -> u64
+        ensures value { result ≡ nesting_in self.now }
+        ensures most { result ≤ most_nesting }
     {
-        let length = tail.len();
-        if length == u64::MAX {
-            return Err(AllocError);
+        u64::from(self.nesting)
+    }
+
+    /// The list with this element before the others, where it is not too deep.
+    pub fn cons(alloc: Global, head: Datum, tail: Data) -> Result<Data, ListFault>
+        ensures { MatchResult result
+            (λ r. r ≡ cons (datum_of head) tail)
+            (λ e. OnLimit e (most_nesting < nesting_in (cons (datum_of head) tail))) }
+    {
+        let nesting = tail.nesting().max(head.nesting() + 1);
+        if nesting > MAX_NESTING {
+            return Err(ListFault::Limit);
         }
+        // No memory holds so many elements.
+        let Some(length) = tail.len().checked_add(1) else {
+            return Err(ListFault::Memory);
+        };
         let pair = Rc::new(alloc, Pair { head, tail })?;
         Ok(Data {
             first: Link::More(pair),
-            length: length + 1,
+            length,
+            nesting: nesting as u16,
         })
     }
 
@@ -151,6 +191,7 @@ impl Data {
             Link::More(pair) => Ok(Data {
                 first: Link::More(pair.clone()?),
                 length: self.length,
+                nesting: self.nesting,
             }),
         }
     }
@@ -158,18 +199,40 @@ impl Data {
     fn into_first(self) -> Link
         ensures { data_of result ≡ self }
     {
-        let Data { first, length: _ } = self;
+        let Data {
+            first,
+            length: _,
+            nesting: _,
+        } = self;
         first
     }
 }
 
 impl Dot {
-    /// The list of these elements that ends in this atom.
-    pub fn new(alloc: Global, front: Data, last: Datum) -> Result<Dot, AllocError>
-        ensures { IfOk result (λ r. r ≡ record { front = front; last = datum_of last }) }
+    /// The list of these elements that ends in this atom, where it is not too deep.
+    pub fn new(alloc: Global, front: Data, last: Datum) -> Result<Dot, ListFault>
+        ensures { MatchResult result
+            (λ r. r ≡ record { front = front; last = datum_of last })
+            (λ e. OnLimit e (most_nesting < nesting_of_dot (record { front = front; last = datum_of last }))) }
     {
+        let nesting = front.nesting().max(last.nesting() + 1);
+        if nesting > MAX_NESTING {
+            return Err(ListFault::Limit);
+        }
         let last = Rc::new(alloc, last)?;
-        Ok(Dot { front, last })
+        Ok(Dot {
+            front,
+            last,
+            depth: nesting as u16,
+        })
+    }
+
+    /// How deep lists nest in it, itself included.
+    pub fn nesting(&self) -> u64
+        ensures value { result ≡ nesting_of_dot self.now }
+        ensures most { result ≤ most_nesting }
+    {
+        u64::from(self.depth)
     }
 
     /// The same elements and atom, in a few steps whatever their number.
@@ -179,6 +242,7 @@ impl Dot {
         Ok(Dot {
             front: self.front.copy()?,
             last: self.last.clone()?,
+            depth: self.depth,
         })
     }
 
@@ -200,7 +264,11 @@ impl Dot {
 impl Drop for Data {
     #[cycle(datum)]
     fn drop(self) {
-        let Data { first, length: _ } = self;
+        let Data {
+            first,
+            length: _,
+            nesting: _,
+        } = self;
         let mut link = first;
         loop {
             match link {

@@ -1,8 +1,10 @@
 //! When two values are the same (HyperSpec 5.3, functions EQL and EQUAL).
 ghost use Rattle.std.specs.Prelude.{◌≡◌, ◌↔◌, IfOk, IsTrue, is_err};
+ghost use Rattle.lisp_data.specs.DatumView.{datum_of};
 ghost use Rattle.lisp_data.specs.ValueView.{value_of};
 ghost use Rattle.lisp_data.specs.Equality.{is_by_object};
 
+use crate::datum::{Data, Datum};
 use crate::value::{Items, Value};
 
 /// Two non-empty lists or two strings were compared by `eql`.
@@ -58,6 +60,45 @@ fn equal_items(a: &Items, b: &Items) -> bool
                 }
                 left = xs;
                 right = ys;
+            }
+            _ => return false,
+        }
+    }
+}
+
+/// Whether both are one datum.
+#[cycle(equal_data)]
+pub fn equal_data(a: &Datum, b: &Datum) -> bool
+    ensures { IsTrue result ↔ (datum_of a.now ≡ datum_of b.now) }
+{
+    match (a, b) {
+        (Datum::Int(a), Datum::Int(b)) => a == b,
+        (Datum::Sym(a), Datum::Sym(b)) => a.is(b),
+        (Datum::Str(a), Datum::Str(b)) => a.is(b),
+        (Datum::List(a), Datum::List(b)) => equal_elements(a, b),
+        (Datum::Dotted(a), Datum::Dotted(b)) => {
+            equal_elements(a.front(), b.front()) && equal_data(a.last(), b.last())
+        }
+        (Datum::Method(a), Datum::Method(b)) => a == b,
+        _ => false,
+    }
+}
+
+#[cycle(equal_data)]
+fn equal_elements(a: &Data, b: &Data) -> bool
+    ensures { IsTrue result ↔ (a.now ≡ b.now) }
+{
+    let mut left = a;
+    let mut right = b;
+    loop {
+        match (left.split_first(), right.split_first()) {
+            (None, None) => return true,
+            (Some((d, ds)), Some((e, es))) => {
+                if !equal_data(d, e) {
+                    return false;
+                }
+                left = ds;
+                right = es;
             }
             _ => return false,
         }

@@ -1,9 +1,11 @@
 //! The names of symbols.
+ghost use Rattle.lisp_data.specs.Keys.{hash_of};
 ghost use Rattle.lisp_data.specs.Name.{same_name};
 ghost use Rattle.std.specs.Prelude.{◌≡◌, ◌↔◌, IfOk, IsTrue};
 
 use crate::text::Text;
 use std::alloc::AllocError;
+use std::hash::{FoldHasher, Hasher};
 use std::marker::Model;
 
 /// Where the characters of a name lie.
@@ -13,10 +15,12 @@ pub enum Spelling {
     Shared(Text),
 }
 
-/// The name of a symbol: its characters, in upper case, and whether it is a keyword (HyperSpec 11.1.2.3).
+/// The name of a symbol: its characters, in upper case, and whether it is a keyword (HyperSpec 11.1.2.3). It keeps a
+/// hash of its characters, so that different names mostly compare without them.
 #[derive(Drop)]
 pub struct Name {
     spelling: Spelling,
+    digest: u64,
     keyword: bool,
 }
 
@@ -30,6 +34,11 @@ impl Model for Name {
     ghost use Rattle.lisp_data.specs.NameView.{spelled};
 
     ghost view = { λ a. record { text = spelled a.spelling; keyword = a.keyword } };
+
+    ghost use Rattle.std.specs.Prelude.{◌≡◌};
+    ghost use Rattle.lisp_data.specs.Keys.{hash_of};
+
+    ghost invariant = { λ a. a.digest ≡ hash_of (spelled a.spelling) };
 }
 
 impl Name {
@@ -42,6 +51,7 @@ impl Name {
     {
         Name {
             spelling: Spelling::Fixed(text),
+            digest: text_hash(text),
             keyword: false,
         }
     }
@@ -50,8 +60,10 @@ impl Name {
     pub fn new(text: Text, keyword: bool) -> Name
         ensures { result ≡ record { text = text; keyword = keyword } }
     {
+        let digest = text_hash(text.as_str());
         Name {
             spelling: Spelling::Shared(text),
+            digest,
             keyword,
         }
     }
@@ -83,6 +95,7 @@ impl Name {
         };
         Ok(Name {
             spelling,
+            digest: self.hash_code(),
             keyword: self.keyword,
         })
     }
@@ -92,6 +105,23 @@ impl Name {
         ensures test { result ≡ same_name self.now other.now }
         ensures only { IsTrue result ↔ (self.now ≡ other.now) }
     {
-        self.keyword == other.keyword && self.as_str() == other.as_str()
+        self.hash_code() == other.hash_code()
+            && self.keyword == other.keyword
+            && self.as_str() == other.as_str()
     }
+
+    /// The hash of its characters that it keeps.
+    pub fn hash_code(&self) -> u64
+        ensures { result ≡ hash_of self.now.text }
+    {
+        self.digest
+    }
+}
+
+fn text_hash(text: &str) -> u64
+    ensures { result ≡ hash_of text.now }
+{
+    let mut hasher = FoldHasher::default();
+    hasher.write(text.as_bytes());
+    hasher.finish()
 }

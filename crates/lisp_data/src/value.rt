@@ -1,9 +1,11 @@
 //! The values that forms give.
-ghost use Rattle.std.specs.Prelude.{◌≡◌, IfOk, MatchOption};
-ghost use Rattle.lisp_data.specs.Value.{Vals, nil, cons, length_of};
+ghost use Rattle.std.specs.Prelude.{◌≡◌, ◌≤◌, IfOk, MatchOption, MatchResult};
+ghost use Rattle.lisp_data.specs.Limits.{OnLimit, most_elements, most_nesting};
+ghost use Rattle.lisp_data.specs.Value.{Vals, nil, cons, length_of, nesting_of, nesting_in, IsWithinLimits};
 ghost use Rattle.lisp_data.specs.ValueView.{value_of, items_of};
 
 use crate::ids::{ClassId, GenericId, InstanceId, MethodId};
+use crate::limits::{ListFault, MAX_ELEMENTS, MAX_NESTING};
 use crate::name::Name;
 use crate::text::Text;
 use std::alloc::{AllocError, Global};
@@ -40,13 +42,26 @@ impl Value {
             Value::Instance(id) => Ok(Value::Instance(*id)),
         }
     }
+
+    /// How deep lists nest in it: an atom nests none.
+    pub fn nesting(&self) -> u64
+        ensures value { result ≡ nesting_of (value_of self.now) }
+        ensures most { result ≤ most_nesting }
+    {
+        match self {
+            Value::List(items) => items.nesting(),
+            _ => 0,
+        }
+    }
 }
 
-/// The elements of a list, which shares its tails with other lists and knows its length. Contracts see the list.
+/// The elements of a list, at most `MAX_ELEMENTS`, nested at most `MAX_NESTING` deep. It shares its tails with other
+/// lists, and knows its length and nesting. Contracts see the list.
 #[cycle(value)]
 pub struct Items {
     first: Link,
-    length: u64,
+    length: u32,
+    nesting: u16,
 }
 
 #[cycle(value)]
@@ -65,7 +80,7 @@ struct Pair {
 
 impl Model for Items {
     ghost use Rattle.std.specs.Prelude.{◌≡◌};
-    ghost use Rattle.lisp_data.specs.Value.{Vals, values_code, size_of_values, length_of};
+    ghost use Rattle.lisp_data.specs.Value.{Vals, values_code, size_of_values, length_of, nesting_in, IsWithinLimits};
 
     ghost Value = { Vals };
 
@@ -75,7 +90,8 @@ impl Model for Items {
 
     ghost view = { λ a. items_of a.first };
 
-    ghost invariant = { λ a. a.length ≡ length_of (items_of a.first) };
+    ghost invariant = { λ a. (a.length ≡ length_of (items_of a.first)) × (a.nesting ≡ nesting_in (items_of a.first))
+        × IsWithinLimits (items_of a.first) };
 
     ghost size = { size_of_values };
 }
@@ -88,28 +104,42 @@ impl Items {
         Items {
             first: Link::End,
             length: 0,
+            nesting: 0,
         }
     }
 
     /// The number of elements.
     pub fn len(&self) -> u64
-        ensures { result ≡ length_of self.now }
+        ensures value { result ≡ length_of self.now }
+        ensures most { result ≤ most_elements }
     {
-        self.length
+        u64::from(self.length)
     }
 
-    /// The list with this element before the others.
-    pub fn cons(alloc: Global, head: Value, tail: Items) -> Result<Items, AllocError>
-        ensures { IfOk result (λ r. r ≡ cons (value_of head) tail) }
+    /// How deep lists nest in it, itself included: the empty list nests none.
+    pub fn nesting(&self) -> u64
+        ensures value { result ≡ nesting_in self.now }
+        ensures most { result ≤ most_nesting }
     {
-        let length = tail.len();
-        if length == u64::MAX {
-            return Err(AllocError);
+        u64::from(self.nesting)
+    }
+
+    /// The list with this element before the others, where it is neither too long nor too deep.
+    pub fn cons(alloc: Global, head: Value, tail: Items) -> Result<Items, ListFault>
+        ensures { MatchResult result
+            (λ r. (r ≡ cons (value_of head) tail) × IsWithinLimits r)
+            (λ e. OnLimit e (¬ (IsWithinLimits (cons (value_of head) tail)))) }
+    {
+        let length = tail.len() + 1;
+        let nesting = tail.nesting().max(head.nesting() + 1);
+        if length > MAX_ELEMENTS || nesting > MAX_NESTING {
+            return Err(ListFault::Limit);
         }
         let pair = Rc::new(alloc, Pair { head, tail })?;
         Ok(Items {
             first: Link::More(pair),
-            length: length + 1,
+            length: length as u32,
+            nesting: nesting as u16,
         })
     }
 
@@ -132,6 +162,7 @@ impl Items {
             Link::More(pair) => Ok(Items {
                 first: Link::More(pair.clone()?),
                 length: self.length,
+                nesting: self.nesting,
             }),
         }
     }
@@ -139,7 +170,11 @@ impl Items {
     fn into_first(self) -> Link
         ensures { items_of result ≡ self }
     {
-        let Items { first, length: _ } = self;
+        let Items {
+            first,
+            length: _,
+            nesting: _,
+        } = self;
         first
     }
 }
@@ -147,7 +182,11 @@ impl Items {
 impl Drop for Items {
     #[cycle(value)]
     fn drop(self) {
-        let Items { first, length: _ } = self;
+        let Items {
+            first,
+            length: _,
+            nesting: _,
+        } = self;
         let mut link = first;
         loop {
             match link {

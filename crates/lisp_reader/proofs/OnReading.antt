@@ -1,19 +1,38 @@
 -- Data at an offset of a text.
-use Rattle.std.proofs.Common.{◌≡◌, ◌≢◌, ◌∙◌, ℕ, ◌+◌, ◌-◌, ◌<◌, List, [], ◌∷◌, ◌++◌, length, get_or, drop, true, false, refl, sym, ap, subst, arith, ne_eqb}
-use Rattle.std.proofs.lemmas.Bool.{eqb-true}
-use Rattle.std.proofs.lemmas.List.{drop_more, drop_all}
+use Rattle.std.proofs.Common.{◌≡◌, ◌∙◌, ℕ, ◌+◌, ◌-◌, ◌<◌, List, [], ◌∷◌, ◌++◌, length, get_or, drop, true, false, Bool, not, ◌&&◌, refl, sym, ap, subst}
+use Rattle.std.proofs.lemmas.Bool.{eqb-true, false≢true}
+use Rattle.std.proofs.lemmas.List.{drop_more, drop-drop}
 use Rattle.lisp_data.specs.Datum.{Dat}
-use Rattle.lisp_reader.specs.Answers.{Refuses}
-use Rattle.lisp_reader.specs.Characters.{is_token_char, opens, begins_something}
-use Rattle.lisp_reader.specs.Fault.{Kind, end_inside, stray_close, bad_token, bad_hash, too_deep, not_text}
-use Rattle.lisp_reader.specs.Gaps.{Gaps, NoText}
-use Rattle.lisp_reader.specs.Reading.{Spells, Items, Fails, in_parentheses, prefixed, none, more, at_end, at_close, at_hash, at_other, at_opening, in_item, before_item, in_prefixed, after_prefix, closes, list_of, quoted}
-use Rattle.lisp_reader.specs.declared.fault.ReadFault.{ReadFault}
-use Rattle.lisp_reader.specs.declared.fault.ReadFault.TheVariants.{EndInside, StrayClose, BadToken, BadDot, BadHash, TooDeep, NotText, Memory}
+use Rattle.lisp_reader.specs.Characters.{begins_token, begins_with, goes_on}
+use Rattle.lisp_reader.specs.Fault.{Kind, bad_dot, too_deep}
+use Rattle.lisp_reader.specs.Gaps.{Gaps, GapFails}
+use Rattle.lisp_reader.specs.Prefix.{HasPrefix}
+use Rattle.lisp_reader.specs.Reading.{Spells, Items, Tail, Fails, TailFails, NoDatum, BeginsDatum, in_parentheses, with_dot, prefixed, none, more, list_too_deep, in_item, before_item, after_dot, a_token, a_string, a_list, at_token, closes, is_dot, dot_fits, list_of, prefixed_by, ending_in}
+use Rattle.lisp_reader.proofs.OnFront.{starts}
+use Rattle.lisp_reader.proofs.OneFront as front
+use Rattle.lisp_reader.proofs.OneFront.{Read, got, fault, TokenWay, a_datum, no_datum, reads-at, begins-token, got-fault}
 
--- the first byte of what stands at an offset
-pub starts : (bytes : List ℕ) (at b : ℕ) → at < length bytes → get_or bytes at 0 ≡ b → drop at bytes ≡ b ∷ drop (at + 1) bytes
-starts bytes at b within is = drop_more bytes at 0 within ∙ ap (λ (c : ℕ). c ∷ drop (at + 1) bytes) is
+-- ---- dots
+
+pub is_dot-at : (bytes : List ℕ) (at : ℕ) (more : Bool) → begins_with 46 (drop at bytes) ≡ true → more ≡ goes_on (drop (at + 1) bytes) → not more ≡ is_dot (drop at bytes)
+is_dot-at bytes at found is next = rw (is, drop-drop 1 at bytes, next) refl
+
+and_left : (a b : Bool) → (a && b) ≡ true → a ≡ true
+and_left true b is = refl
+and_left false b is = is
+
+dot-begins : (ds : List Dat) (text : List ℕ) → dot_fits ds text ≡ true → begins_with 46 text ≡ true
+dot-begins [] text is = absurd (false≢true is)
+dot-begins (d ∷ ds) text is = and_left (begins_with 46 text) (not (goes_on (drop 1 text))) is
+
+-- the byte that is said to stand at an offset
+pub byte-at : (bytes : List ℕ) (at b : ℕ) → at < length bytes → begins_with b (drop at bytes) ≡ true → get_or bytes at 0 ≡ b
+byte-at bytes at b within is = eqb-true (get_or bytes at 0) b (sym (ap (begins_with b) (drop_more bytes at 0 within)) ∙ is)
+
+pub dot-at : (bytes : List ℕ) (at : ℕ) (ds : List Dat) → at < length bytes → dot_fits ds (drop at bytes) ≡ true → get_or bytes at 0 ≡ 46
+dot-at bytes at ds within is = byte-at bytes at 46 within (dot-begins ds (drop at bytes) is)
+
+-- ---- lists
 
 -- one element more
 pub Items-push : (room : ℕ) (text : List ℕ) (ds : List Dat) (last start : List ℕ) (d : Dat) (rest : List ℕ) → Items room text ds last → Gaps last start → Spells room start d rest → Items room text (ds ++ d ∷ []) rest
@@ -22,78 +41,105 @@ Items-push room text ds last start d rest (none _ _) gaps spells =
 Items-push room text ds last start d rest (more _ _ s e after es _ gaps' spells' items) gaps spells =
     more room text s e after (es ++ d ∷ []) rest gaps' spells' (Items-push room after es last start d rest items gaps spells)
 
--- a fault further in is a fault of the whole
-pub Refuses-outer : (bytes : List ℕ) (inner outer at next : ℕ) (fault : ReadFault) → ((kind : Kind) (rest : List ℕ) → Fails inner (drop next bytes) kind rest → Fails outer (drop at bytes) kind rest) → Refuses bytes inner next fault → Refuses bytes outer at fault
-Refuses-outer bytes inner outer at next (EndInside n) lift f = (f.0, lift _ _ f.1)
-Refuses-outer bytes inner outer at next (StrayClose n) lift f = (f.0, lift _ _ f.1)
-Refuses-outer bytes inner outer at next (BadToken n) lift f = (f.0, lift _ _ f.1)
-Refuses-outer bytes inner outer at next (BadDot n) lift f = (f.0, lift _ _ f.1)
-Refuses-outer bytes inner outer at next (BadHash n) lift f = (f.0, lift _ _ f.1)
-Refuses-outer bytes inner outer at next (TooDeep n) lift f = (f.0, lift _ _ f.1)
-Refuses-outer bytes inner outer at next (NotText n) lift f = (f.0, lift _ _ f.1)
-Refuses-outer bytes inner outer at next Memory lift f = tt
+-- the elements of the list at an offset, up to another
+pub record Front (bytes : List ℕ) (room at cursor : ℕ) (ds : List Dat) : Type 0 where
+  pub within : at < length bytes
+  pub begins : get_or bytes at 0 ≡ 40
+  pub some : 0 < room
+  pub items : Items (room - 1) (drop (at + 1) bytes) ds (drop cursor bytes)
 
--- ---- lists
+list-starts : (bytes : List ℕ) (room at cursor : ℕ) (ds : List Dat) → Front bytes room at cursor ds → drop at bytes ≡ 40 ∷ drop (at + 1) bytes
+list-starts bytes room at cursor ds f = starts bytes at 40 f.within f.begins
 
-pub Spells-list : (bytes : List ℕ) (room at cursor next : ℕ) (ds : List Dat) (d : Dat) → at < length bytes → get_or bytes at 0 ≡ 40 → 0 < room → Items (room - 1) (drop (at + 1) bytes) ds (drop cursor bytes) → Gaps (drop cursor bytes) (drop next bytes) → next < length bytes → closes (drop next bytes) ≡ true → d ≡ list_of ds → Spells room (drop at bytes) d (drop (next + 1) bytes)
-Spells-list bytes room at cursor next ds d within is some items gaps inside closing same =
-    let b : get_or bytes next 0 ≡ 41 = eqb-true (get_or bytes next 0) 41 (rw (drop_more bytes next 0 inside) at closing) in
-    let gaps' : Gaps (drop cursor bytes) (41 ∷ drop (next + 1) bytes) = subst (Gaps (drop cursor bytes)) (starts bytes next 41 inside b) gaps in
-    let here : Spells room (40 ∷ drop (at + 1) bytes) (list_of ds) (drop (next + 1) bytes) = in_parentheses room (drop (at + 1) bytes) ds (drop cursor bytes) (drop (next + 1) bytes) some items gaps' in
-    let there : Spells room (drop at bytes) (list_of ds) (drop (next + 1) bytes) = subst (λ (t : List ℕ). Spells room t (list_of ds) (drop (next + 1) bytes)) (sym (starts bytes at 40 within is)) here in
+pub closing-starts : (bytes : List ℕ) (next : ℕ) → next < length bytes → closes (drop next bytes) ≡ true → drop next bytes ≡ 41 ∷ drop (next + 1) bytes
+closing-starts bytes next inside closing = starts bytes next 41 inside (byte-at bytes next 41 inside closing)
+
+pub Spells-list : (bytes : List ℕ) (room at cursor next : ℕ) (ds : List Dat) (d : Dat) → Front bytes room at cursor ds → Gaps (drop cursor bytes) (drop next bytes) → next < length bytes → closes (drop next bytes) ≡ true → d ≡ list_of ds → Spells room (drop at bytes) d (drop (next + 1) bytes)
+Spells-list bytes room at cursor next ds d f gaps inside closing same =
+    let gaps' : Gaps (drop cursor bytes) (41 ∷ drop (next + 1) bytes) = subst (Gaps (drop cursor bytes)) (closing-starts bytes next inside closing) gaps in
+    let here : Spells room (40 ∷ drop (at + 1) bytes) (list_of ds) (drop (next + 1) bytes) = in_parentheses room (drop (at + 1) bytes) ds (drop cursor bytes) (drop (next + 1) bytes) f.some f.items gaps' in
+    let there : Spells room (drop at bytes) (list_of ds) (drop (next + 1) bytes) = subst (λ (t : List ℕ). Spells room t (list_of ds) (drop (next + 1) bytes)) (sym (list-starts bytes room at cursor ds f)) here in
     subst (λ (e : Dat). Spells room (drop at bytes) e (drop (next + 1) bytes)) (sym same) there
 
-pub Fails-item : (bytes : List ℕ) (room at cursor next : ℕ) (ds : List Dat) → at < length bytes → get_or bytes at 0 ≡ 40 → 0 < room → Items (room - 1) (drop (at + 1) bytes) ds (drop cursor bytes) → Gaps (drop cursor bytes) (drop next bytes) → closes (drop next bytes) ≡ false → (kind : Kind) (rest : List ℕ) → Fails (room - 1) (drop next bytes) kind rest → Fails room (drop at bytes) kind rest
-Fails-item bytes room at cursor next ds within is some items gaps unclosed kind rest fails =
-    subst (λ (t : List ℕ). Fails room t kind rest) (sym (starts bytes at 40 within is)) (in_item room (drop (at + 1) bytes) ds (drop cursor bytes) (drop next bytes) kind rest some items gaps unclosed fails)
+pub Spells-dotted : (bytes : List ℕ) (room at cursor dot n : ℕ) (ds : List Dat) (d e : Dat) → Front bytes room at cursor ds → Gaps (drop cursor bytes) (drop dot bytes) → dot < length bytes → dot_fits ds (drop dot bytes) ≡ true → Tail (room - 1) (drop (dot + 1) bytes) d (drop n bytes) → e ≡ ending_in ds d → Spells room (drop at bytes) e (drop n bytes)
+Spells-dotted bytes room at cursor dot n ds d e f gaps inside fits tail same =
+    let s : drop dot bytes ≡ 46 ∷ drop (dot + 1) bytes = starts bytes dot 46 inside (dot-at bytes dot ds inside fits) in
+    let gaps' : Gaps (drop cursor bytes) (46 ∷ drop (dot + 1) bytes) = subst (Gaps (drop cursor bytes)) s gaps in
+    let fits' : dot_fits ds (46 ∷ drop (dot + 1) bytes) ≡ true = ap (dot_fits ds) (sym s) ∙ fits in
+    let here : Spells room (40 ∷ drop (at + 1) bytes) (ending_in ds d) (drop n bytes) = with_dot room (drop (at + 1) bytes) ds (drop cursor bytes) (drop (dot + 1) bytes) d (drop n bytes) f.some f.items gaps' fits' tail in
+    let there : Spells room (drop at bytes) (ending_in ds d) (drop n bytes) = subst (λ (t : List ℕ). Spells room t (ending_in ds d) (drop n bytes)) (sym (list-starts bytes room at cursor ds f)) here in
+    subst (λ (x : Dat). Spells room (drop at bytes) x (drop n bytes)) (sym same) there
 
-pub Fails-before_item : (bytes : List ℕ) (room at cursor : ℕ) (ds : List Dat) (rest : List ℕ) → at < length bytes → get_or bytes at 0 ≡ 40 → 0 < room → Items (room - 1) (drop (at + 1) bytes) ds (drop cursor bytes) → NoText (drop cursor bytes) rest → Fails room (drop at bytes) not_text rest
-Fails-before_item bytes room at cursor ds rest within is some items fault =
-    subst (λ (t : List ℕ). Fails room t not_text rest) (sym (starts bytes at 40 within is)) (before_item room (drop (at + 1) bytes) ds (drop cursor bytes) rest some items fault)
+pub Fails-after_dot : (bytes : List ℕ) (room at cursor dot : ℕ) (ds : List Dat) → Front bytes room at cursor ds → Gaps (drop cursor bytes) (drop dot bytes) → dot < length bytes → dot_fits ds (drop dot bytes) ≡ true → (kind : Kind) (rest : List ℕ) → TailFails (room - 1) (drop (dot + 1) bytes) kind rest → Fails room (drop at bytes) kind rest
+Fails-after_dot bytes room at cursor dot ds f gaps inside fits kind rest fails =
+    let s : drop dot bytes ≡ 46 ∷ drop (dot + 1) bytes = starts bytes dot 46 inside (dot-at bytes dot ds inside fits) in
+    let gaps' : Gaps (drop cursor bytes) (46 ∷ drop (dot + 1) bytes) = subst (Gaps (drop cursor bytes)) s gaps in
+    let fits' : dot_fits ds (46 ∷ drop (dot + 1) bytes) ≡ true = ap (dot_fits ds) (sym s) ∙ fits in
+    subst (λ (t : List ℕ). Fails room t kind rest) (sym (list-starts bytes room at cursor ds f)) (after_dot room (drop (at + 1) bytes) ds (drop cursor bytes) (drop (dot + 1) bytes) kind rest f.some f.items gaps' fits' fails)
+
+pub Fails-item : (bytes : List ℕ) (room at cursor next : ℕ) (ds : List Dat) → Front bytes room at cursor ds → Gaps (drop cursor bytes) (drop next bytes) → closes (drop next bytes) ≡ false → dot_fits ds (drop next bytes) ≡ false → (kind : Kind) (rest : List ℕ) → Fails (room - 1) (drop next bytes) kind rest → Fails room (drop at bytes) kind rest
+Fails-item bytes room at cursor next ds f gaps unclosed no_dot kind rest fails =
+    subst (λ (t : List ℕ). Fails room t kind rest) (sym (list-starts bytes room at cursor ds f)) (in_item room (drop (at + 1) bytes) ds (drop cursor bytes) (drop next bytes) kind rest f.some f.items gaps unclosed no_dot fails)
+
+pub Fails-before_item : (bytes : List ℕ) (room at cursor : ℕ) (ds : List Dat) → Front bytes room at cursor ds → (kind : Kind) (rest : List ℕ) → GapFails (drop cursor bytes) kind rest → Fails room (drop at bytes) kind rest
+Fails-before_item bytes room at cursor ds f kind rest fails =
+    subst (λ (t : List ℕ). Fails room t kind rest) (sym (list-starts bytes room at cursor ds f)) (before_item room (drop (at + 1) bytes) ds (drop cursor bytes) kind rest f.some f.items fails)
+
+pub Fails-deep_list : (bytes : List ℕ) (room at : ℕ) → at < length bytes → get_or bytes at 0 ≡ 40 → room ≡ 0 → Fails room (drop at bytes) too_deep (drop at bytes)
+Fails-deep_list bytes room at within is full =
+    subst (λ (t : List ℕ). Fails room t too_deep t) (sym (starts bytes at 40 within is)) (list_too_deep room (drop (at + 1) bytes) full)
 
 -- ---- prefixes
 
-pub Spells-prefixed : (bytes : List ℕ) (room at start n : ℕ) (d e : Dat) → at < length bytes → get_or bytes at 0 ≡ 39 → 0 < room → Gaps (drop (at + 1) bytes) (drop start bytes) → Spells (room - 1) (drop start bytes) d (drop n bytes) → e ≡ quoted d → Spells room (drop at bytes) e (drop n bytes)
-Spells-prefixed bytes room at start n d e within is some gaps spells same =
-    let there : Spells room (drop at bytes) (quoted d) (drop n bytes) = subst (λ (t : List ℕ). Spells room t (quoted d) (drop n bytes)) (sym (starts bytes at 39 within is)) (prefixed room (drop (at + 1) bytes) (drop start bytes) d (drop n bytes) some gaps spells) in
-    subst (λ (e : Dat). Spells room (drop at bytes) e (drop n bytes)) (sym same) there
+pub Spells-prefixed : (bytes : List ℕ) (room at after start n : ℕ) (operator : List ℕ) (d e : Dat) → HasPrefix (drop at bytes) operator (drop after bytes) → 0 < room → Gaps (drop after bytes) (drop start bytes) → Spells (room - 1) (drop start bytes) d (drop n bytes) → e ≡ prefixed_by operator d → Spells room (drop at bytes) e (drop n bytes)
+Spells-prefixed bytes room at after start n operator d e prefix some gaps spells same =
+    subst (λ (x : Dat). Spells room (drop at bytes) x (drop n bytes)) (sym same) (prefixed room (drop at bytes) operator (drop after bytes) (drop start bytes) d (drop n bytes) some prefix gaps spells)
 
-pub Fails-prefixed : (bytes : List ℕ) (room at start : ℕ) → at < length bytes → get_or bytes at 0 ≡ 39 → 0 < room → Gaps (drop (at + 1) bytes) (drop start bytes) → (kind : Kind) (rest : List ℕ) → Fails (room - 1) (drop start bytes) kind rest → Fails room (drop at bytes) kind rest
-Fails-prefixed bytes room at start within is some gaps kind rest fails =
-    subst (λ (t : List ℕ). Fails room t kind rest) (sym (starts bytes at 39 within is)) (in_prefixed room (drop (at + 1) bytes) (drop start bytes) kind rest some gaps fails)
+-- ---- what begins a datum
 
-pub Fails-after_prefix : (bytes : List ℕ) (room at : ℕ) (rest : List ℕ) → at < length bytes → get_or bytes at 0 ≡ 39 → 0 < room → NoText (drop (at + 1) bytes) rest → Fails room (drop at bytes) not_text rest
-Fails-after_prefix bytes room at rest within is some fault =
-    subst (λ (t : List ℕ). Fails room t not_text rest) (sym (starts bytes at 39 within is)) (after_prefix room (drop (at + 1) bytes) rest some fault)
+pub BeginsDatum-string : (bytes : List ℕ) (at : ℕ) → at < length bytes → get_or bytes at 0 ≡ 34 → BeginsDatum (drop at bytes)
+BeginsDatum-string bytes at within is = subst BeginsDatum (sym (starts bytes at 34 within is)) (a_string (drop (at + 1) bytes))
 
--- ---- faults at the first byte
+pub BeginsDatum-list : (bytes : List ℕ) (at : ℕ) → at < length bytes → get_or bytes at 0 ≡ 40 → BeginsDatum (drop at bytes)
+BeginsDatum-list bytes at within is = subst BeginsDatum (sym (starts bytes at 40 within is)) (a_list (drop (at + 1) bytes))
 
-pub Fails-end : (bytes : List ℕ) (room at : ℕ) → at ≡ length bytes → Fails room (drop at bytes) end_inside (drop at bytes)
-Fails-end bytes room at end =
-    subst (λ (t : List ℕ). Fails room t end_inside t) (sym (drop_all at bytes (omega arith))) (at_end room)
+token-datum : (room b : ℕ) (t : List ℕ) (d : Dat) (rest : List ℕ) → begins_token b ≡ true → Spells room (b ∷ t) d rest → BeginsDatum (b ∷ t)
+token-datum room b t d rest is spells =
+    let way : TokenWay (b ∷ t) (got d rest) = reads-at room (b ∷ t) (got d rest) front.a_token (begins-token b t is) spells in
+    elim way [
+      | a_datum e denotes same ↦ a_token b t e is denotes
+      | no_datum kind denotes same ↦ got-fault d rest kind (b ∷ t) same
+    ]
 
-pub Fails-close : (bytes : List ℕ) (room at : ℕ) → at < length bytes → get_or bytes at 0 ≡ 41 → Fails room (drop at bytes) stray_close (drop at bytes)
-Fails-close bytes room at within is =
-    subst (λ (t : List ℕ). Fails room t stray_close t) (sym (starts bytes at 41 within is)) (at_close room (drop (at + 1) bytes))
+pub BeginsDatum-token : (bytes : List ℕ) (room at : ℕ) (d : Dat) (rest : List ℕ) → at < length bytes → begins_token (get_or bytes at 0) ≡ true → Spells room (drop at bytes) d rest → BeginsDatum (drop at bytes)
+BeginsDatum-token bytes room at d rest within is spells =
+    let e = drop_more bytes at 0 within in
+    subst BeginsDatum (sym e) (token-datum room (get_or bytes at 0) (drop (at + 1) bytes) d rest is (subst (λ (t : List ℕ). Spells room t d rest) e spells))
 
-pub Fails-hash : (bytes : List ℕ) (room at : ℕ) → at < length bytes → get_or bytes at 0 ≡ 35 → Fails room (drop at bytes) bad_hash (drop at bytes)
-Fails-hash bytes room at within is =
-    subst (λ (t : List ℕ). Fails room t bad_hash t) (sym (starts bytes at 35 within is)) (at_hash room (drop (at + 1) bytes))
+abbrev kind_of_read : Read → Kind
+kind_of_read (got d rest) = bad_dot
+kind_of_read (fault kind at) = kind
 
-pub Fails-other : (bytes : List ℕ) (room at : ℕ) → at < length bytes → begins_something (get_or bytes at 0) ≡ false → Fails room (drop at bytes) bad_token (drop at bytes)
-Fails-other bytes room at within is =
-    subst (λ (t : List ℕ). Fails room t bad_token t) (sym (drop_more bytes at 0 within)) (at_other room (get_or bytes at 0) (drop (at + 1) bytes) is)
+abbrev place_of_read : Read → List ℕ
+place_of_read (got d rest) = rest
+place_of_read (fault kind at) = at
 
-pub Fails-opening : (bytes : List ℕ) (room at : ℕ) → at < length bytes → opens (get_or bytes at 0) ≡ true → room ≡ 0 → Fails room (drop at bytes) too_deep (drop at bytes)
-Fails-opening bytes room at within is full =
-    subst (λ (t : List ℕ). Fails room t too_deep t) (sym (drop_more bytes at 0 within)) (at_opening room (get_or bytes at 0) (drop (at + 1) bytes) is full)
+token-none : (room b : ℕ) (t : List ℕ) (kind : Kind) (at : List ℕ) → begins_token b ≡ true → Fails room (b ∷ t) kind at → NoDatum (b ∷ t) kind × (at ≡ b ∷ t)
+token-none room b t kind at is fails =
+    let way : TokenWay (b ∷ t) (fault kind at) = reads-at room (b ∷ t) (fault kind at) front.a_token (begins-token b t is) fails in
+    elim way [
+      | a_datum e denotes same ↦ got-fault e _ kind at (sym same)
+      | no_datum other denotes same ↦ (subst (NoDatum (b ∷ t)) (sym (ap kind_of_read same)) (at_token b t other is denotes), ap place_of_read same)
+    ]
 
-pub begins_nothing : (b : ℕ) → is_token_char b ≡ false → b ≢ 40 → b ≢ 39 → b ≢ 41 → b ≢ 34 → begins_something b ≡ false
-begins_nothing b no_token no_list no_prefix no_close no_string =
-    rw (no_token, ne_eqb b 40 no_list, ne_eqb b 39 no_prefix, ne_eqb b 41 no_close, ne_eqb b 34 no_string) refl
+pub NoDatum-token : (bytes : List ℕ) (room at : ℕ) (kind : Kind) (place : List ℕ) → at < length bytes → begins_token (get_or bytes at 0) ≡ true → Fails room (drop at bytes) kind place → NoDatum (drop at bytes) kind × (place ≡ drop at bytes)
+NoDatum-token bytes room at kind place within is fails =
+    let e = drop_more bytes at 0 within in
+    let p = token-none room (get_or bytes at 0) (drop (at + 1) bytes) kind place is (subst (λ (t : List ℕ). Fails room t kind place) e fails) in
+    (subst (λ (t : List ℕ). NoDatum t kind) (sym e) p.0, p.1 ∙ sym e)
 
-pub opens-list : (b : ℕ) → b ≡ 40 → opens b ≡ true
-opens-list b is = rw is refl
+-- ---- after a dot
 
-pub opens-prefix : (b : ℕ) → b ≡ 39 → opens b ≡ true
-opens-prefix b is = rw is refl
+pub tail-place : (bytes : List ℕ) (room dot : ℕ) → dot < length bytes → get_or bytes dot 0 ≡ 46 → TailFails room (drop (dot + 1) bytes) bad_dot (46 ∷ drop (dot + 1) bytes) → TailFails room (drop (dot + 1) bytes) bad_dot (drop dot bytes)
+tail-place bytes room dot within is fails =
+    subst (TailFails room (drop (dot + 1) bytes) bad_dot) (sym (starts bytes dot 46 within is)) fails

@@ -4,10 +4,11 @@ use Rattle.std.specs.Str.{IsValidUpTo, chars}
 use Rattle.std.specs.Prelude.{encode_utf8_all, encode_utf8}
 use Rattle.std.proofs.lemmas.Bool.{eqb-true, false≢true}
 use Rattle.std.proofs.lemmas.Str.{chars_past_char}
-use Rattle.std.proofs.lemmas.List.{drop_more, drop_all, drop-drop, length-drop, length-take-le, at_drop_more}
+use Rattle.std.proofs.lemmas.List.{drop_all, drop-drop, length-drop, length-take-le, at_drop_more}
 use Rattle.lisp_data.specs.Datum.{string}
 use Rattle.lisp_reader.specs.Fault.{end_inside, not_text}
 use Rattle.lisp_reader.specs.Reading.{Spells, Fails, in_quotes, in_string, no_quote}
+use Rattle.lisp_reader.proofs.OnFront.{starts}
 use Rattle.lisp_reader.specs.Strings.{body_len, body, after_body, unescaped, characters}
 
 -- one byte more of a body
@@ -61,9 +62,6 @@ written-kept out more written bs rest taken c text split kept pushed before =
     rw (pushed, append_assoc) here
 
 -- ---- a string at an offset
-
-starts : (bytes : List ℕ) (at b : ℕ) → at < length bytes → get_or bytes at 0 ≡ b → drop at bytes ≡ b ∷ drop (at + 1) bytes
-starts bytes at b within is = drop_more bytes at 0 within ∙ ap (λ (c : ℕ). c ∷ drop (at + 1) bytes) is
 
 pub Reads-string : (bytes : List ℕ) (room at len : ℕ) (text content : List ℕ) → at < length bytes → get_or bytes at 0 ≡ 34 → text ≡ drop (at + 1) bytes → len ≡ body_len false text → len ≤ length text → len ≢ length text → IsUtf8 (take len text) → content ≡ characters (take len text) → (at < at + 1 + len + 1) × (at + 1 + len + 1 ≤ length bytes) × Spells room (drop at bytes) (string content) (drop (at + 1 + len + 1) bytes)
 Reads-string bytes room at len text content within is rest end fits more utf8 same =

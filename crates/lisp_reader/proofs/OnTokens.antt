@@ -16,7 +16,7 @@ use Rattle.std.proofs.lemmas.Str.Ascii.{IsAscii-from_reads}
 use Rattle.lisp_data.specs.Datum.{Dat}
 use Rattle.lisp_reader.specs.Characters.{is_token_char, begins_token}
 use Rattle.lisp_reader.specs.Fault.{Kind}
-use Rattle.lisp_reader.specs.Reading.{Spells, Fails, of_token, at_token}
+use Rattle.lisp_reader.specs.Reading.{Spells, Fails, of_token, at_front, at_token}
 use Rattle.lisp_reader.specs.declared.token.Class.{Class}
 use Rattle.lisp_reader.specs.Token.{run, after_run, class_of, Means, Refused, Denotes, DenotesNone, is_integer, is_digits, all_digits, is_empty, is_point, is_keyword, value}
 
@@ -71,7 +71,7 @@ Fails-token bytes room at word k kind within begins is class refused =
     let e : drop at bytes ≡ b ∷ rest = drop_more bytes at 0 within in
     let denotes : DenotesNone word kind = subst (λ (c : Class). Refused c word kind) class refused in
     let denotes' : DenotesNone (run (b ∷ rest)) kind = subst (λ (t : List ℕ). DenotesNone t kind) (is ∙ ap run e) denotes in
-    (omega arith, subst (λ (t : List ℕ). Fails room t kind t) (sym e) (at_token room b rest kind begins denotes'))
+    (omega arith, subst (λ (t : List ℕ). Fails room t kind t) (sym e) (at_front room (b ∷ rest) kind (at_token b rest kind begins denotes')))
 
 -- ---- integers
 

@@ -2,24 +2,23 @@
 use Rattle.std.proofs.Common.{◌≡◌, ◌≢◌, ◌∙◌, ℕ, List, [], refl, sym, ap, subst}
 use Rattle.lisp_data.specs.Datum.{Dat}
 use Rattle.lisp_reader.specs.Answers.{Next, NextFails, next, in_gaps, unfinished, in_datum, most_open, Outcome, nothing_left, a_datum, a_fault, Gives}
-use Rattle.lisp_reader.specs.Fault.{Kind, end_inside, not_text}
-use Rattle.lisp_reader.specs.Gaps.{Gaps, NoText}
+use Rattle.lisp_reader.specs.Fault.{Kind, end_inside}
+use Rattle.lisp_reader.specs.Gaps.{Gaps, GapFails}
 use Rattle.lisp_reader.specs.Reading.{Spells, Fails}
-use Rattle.lisp_reader.proofs.OneGap.{Gaps-unique, Gaps-clash, NoText-unique}
-use Rattle.lisp_reader.proofs.OneDatum.{Spells-unique, spells-by}
-use Rattle.lisp_reader.proofs.OneFault.{Fails-clash, Fails-unique}
+use Rattle.lisp_reader.proofs.OneGap.{Gaps-unique, Gaps-clash, GapFails-unique}
+use Rattle.lisp_reader.proofs.OneReading.{Spells-unique, spells-none, Fails-clash, Fails-unique}
 
 nothing-datum : (text : List ℕ) (d : Dat) (rest : List ℕ) → Gaps text [] → Next text d rest → ⊥
 nothing-datum text d rest gaps (next _ start _ _ g spells) =
-    spells-by most_open [] d rest (subst (λ (t : List ℕ). Spells most_open t d rest) (Gaps-unique text [] start gaps g) spells)
+    spells-none most_open d rest (subst (λ (t : List ℕ). Spells most_open t d rest) (Gaps-unique text [] start gaps g) spells)
 
 nothing-fault : (text : List ℕ) (kind : Kind) (at : List ℕ) → Gaps text [] → NextFails text kind at → ⊥
-nothing-fault text kind at gaps (in_gaps _ _ no_text) = Gaps-clash text [] at gaps no_text
+nothing-fault text kind at gaps (in_gaps _ _ _ fails) = Gaps-clash text [] kind at gaps fails
 nothing-fault text kind at gaps (unfinished _ start _ g some fails) = some (Gaps-unique text [] start gaps g)
 nothing-fault text kind at gaps (in_datum _ start _ _ g some fails other) = some (Gaps-unique text [] start gaps g)
 
 datum-fault : (text start : List ℕ) (d : Dat) (rest : List ℕ) (kind : Kind) (at : List ℕ) → Gaps text start → Spells most_open start d rest → NextFails text kind at → ⊥
-datum-fault text start d rest kind at gaps spells (in_gaps _ _ no_text) = Gaps-clash text start at gaps no_text
+datum-fault text start d rest kind at gaps spells (in_gaps _ _ _ fails) = Gaps-clash text start kind at gaps fails
 datum-fault text start d rest kind at gaps spells (unfinished _ other to g some fails) =
     Fails-clash most_open other end_inside to d rest fails (subst (λ (t : List ℕ). Spells most_open t d rest) (Gaps-unique text other start g gaps) spells)
 datum-fault text start d rest kind at gaps spells (in_datum _ other _ _ g some fails no_end) =
@@ -29,20 +28,20 @@ datum-datum : (text start : List ℕ) (d : Dat) (rest : List ℕ) (e : Dat) (to 
 datum-datum text start d rest e to gaps spells (next _ other _ _ g more) =
     Spells-unique most_open start d rest e to spells (subst (λ (t : List ℕ). Spells most_open t e to) (Gaps-unique text start other gaps g) more)
 
-gaps-fault : (text at : List ℕ) (other : Kind) (to : List ℕ) → NoText text at → NextFails text other to → (other ≡ not_text) × (to ≡ at)
-gaps-fault text at other to no_text (in_gaps _ _ more) = (refl, NoText-unique text at to no_text more)
-gaps-fault text at other to no_text (unfinished _ start _ g some fails) = absurd (Gaps-clash text start at g no_text)
-gaps-fault text at other to no_text (in_datum _ start _ _ g some fails no_end) = absurd (Gaps-clash text start at g no_text)
+gaps-fault : (text : List ℕ) (kind : Kind) (at : List ℕ) (other : Kind) (to : List ℕ) → GapFails text kind at → NextFails text other to → (other ≡ kind) × (to ≡ at)
+gaps-fault text kind at other to mine (in_gaps _ _ _ more) = GapFails-unique text kind at other to mine more
+gaps-fault text kind at other to mine (unfinished _ start _ g some fails) = absurd (Gaps-clash text start kind at g mine)
+gaps-fault text kind at other to mine (in_datum _ start _ _ g some fails no_end) = absurd (Gaps-clash text start kind at g mine)
 
 end-fault : (text start at : List ℕ) (other : Kind) (to : List ℕ) → Gaps text start → Fails most_open start end_inside at → NextFails text other to → (other ≡ end_inside) × (to ≡ start)
-end-fault text start at other to gaps fails (in_gaps _ _ no_text) = absurd (Gaps-clash text start to gaps no_text)
+end-fault text start at other to gaps fails (in_gaps _ _ _ bad) = absurd (Gaps-clash text start other to gaps bad)
 end-fault text start at other to gaps fails (unfinished _ _ x g some more) = (refl, Gaps-unique text start to gaps g)
 end-fault text start at other to gaps fails (in_datum _ begin _ _ g some more no_end) =
     let more' = subst (λ (t : List ℕ). Fails most_open t other to) (Gaps-unique text start begin gaps g) more in
     absurd (no_end (Fails-unique most_open start end_inside at other to fails more').0)
 
 inner-fault : (text start : List ℕ) (kind : Kind) (at : List ℕ) (other : Kind) (to : List ℕ) → Gaps text start → Fails most_open start kind at → kind ≢ end_inside → NextFails text other to → (other ≡ kind) × (to ≡ at)
-inner-fault text start kind at other to gaps fails no_end (in_gaps _ _ no_text) = absurd (Gaps-clash text start to gaps no_text)
+inner-fault text start kind at other to gaps fails no_end (in_gaps _ _ _ bad) = absurd (Gaps-clash text start other to gaps bad)
 inner-fault text start kind at other to gaps fails no_end (unfinished _ begin x g some more) =
     let more' = subst (λ (t : List ℕ). Fails most_open t end_inside x) (Gaps-unique text start begin gaps g) more in
     absurd (no_end (sym (Fails-unique most_open start kind at end_inside x fails more').0))
@@ -51,7 +50,7 @@ inner-fault text start kind at other to gaps fails no_end (in_datum _ begin _ _ 
     Fails-unique most_open start kind at other to fails more'
 
 fault-fault : (text : List ℕ) (kind : Kind) (at : List ℕ) (other : Kind) (to : List ℕ) → NextFails text kind at → NextFails text other to → (other ≡ kind) × (to ≡ at)
-fault-fault text kind at other to (in_gaps _ _ no_text) h = gaps-fault text at other to no_text h
+fault-fault text kind at other to (in_gaps _ _ _ fails) h = gaps-fault text kind at other to fails h
 fault-fault text kind at other to (unfinished _ _ x g some fails) h = end-fault text at x other to g fails h
 fault-fault text kind at other to (in_datum _ start _ _ g some fails no_end) h = inner-fault text start kind at other to g fails no_end h
 

@@ -1,11 +1,11 @@
 -- What reading a text from an offset on answers.
-use Rattle.std.specs.Prelude.{◌≡◌, ◌≢◌, ℕ, ◌≤◌, ◌<◌, List, [], length, drop, Option, Some, None, Result, Ok, Err}
+use Rattle.std.specs.Prelude.{◌≡◌, ◌≢◌, ℕ, ◌+◌, ◌≤◌, ◌<◌, List, [], ◌∷◌, length, drop, Option, Some, None, Result, Ok, Err}
 use Rattle.lisp_data.specs.Datum.{Dat}
 use Rattle.lisp_data.specs.DatumView.{datum_of}
 use Rattle.lisp_data.specs.declared.datum.Datum.{Datum}
-use Rattle.lisp_reader.specs.Fault.{Kind, end_inside, not_text, OnFault}
-use Rattle.lisp_reader.specs.Gaps.{Gaps, NoText}
-use Rattle.lisp_reader.specs.Reading.{Spells, Fails}
+use Rattle.lisp_reader.specs.Fault.{Kind, end_inside, OnFault}
+use Rattle.lisp_reader.specs.Gaps.{Gaps, GapFails}
+use Rattle.lisp_reader.specs.Reading.{Spells, Fails, Tail, TailFails, EndFails}
 use Rattle.lisp_reader.specs.declared.fault.ReadFault.{ReadFault}
 
 -- how many lists and prefixes may be open at once
@@ -17,9 +17,9 @@ pub data Next : List ℕ → Dat → List ℕ → Type 0 where
   next : (text start : List ℕ) (d : Dat) (rest : List ℕ) → Gaps text start → Spells most_open start d rest → Next text d rest
 
 -- why a text has no next datum, and the text from where the fault stands: for an end inside the next
--- datum, from where that begins
+-- datum or a comment, from where that begins
 pub data NextFails : List ℕ → Kind → List ℕ → Type 0 where
-  in_gaps : (text at : List ℕ) → NoText text at → NextFails text not_text at
+  in_gaps : (text : List ℕ) (kind : Kind) (at : List ℕ) → GapFails text kind at → NextFails text kind at
   unfinished : (text start at : List ℕ) → Gaps text start → start ≢ [] → Fails most_open start end_inside at → NextFails text end_inside start
   in_datum : (text start : List ℕ) (kind : Kind) (at : List ℕ) → Gaps text start → start ≢ [] → Fails most_open start kind at → kind ≢ end_inside → NextFails text kind at
 
@@ -56,3 +56,27 @@ Reads bytes room at found =
 abbrev pub Refuses : List ℕ → ℕ → ℕ → ReadFault → Type 0
 Refuses bytes room at fault =
     OnFault fault (λ kind n. (n ≤ length bytes) × Fails room (drop at bytes) kind (drop n bytes))
+
+-- the gaps at an offset are at fault
+abbrev pub GapRefuses : List ℕ → ℕ → ReadFault → Type 0
+GapRefuses bytes at fault =
+    OnFault fault (λ kind n. (n ≤ length bytes) × GapFails (drop at bytes) kind (drop n bytes))
+
+-- one datum after the dot at `dot` and the closing parenthesis, with the offset after that
+abbrev pub ReadsTail : List ℕ → ℕ → ℕ → Datum × ℕ → Type 0
+ReadsTail bytes room dot found =
+    (dot < found.1) × (found.1 ≤ length bytes) × Tail room (drop (dot + 1) bytes) (datum_of found.0) (drop found.1 bytes)
+
+-- or the fault that stands in their place
+abbrev pub RefusesTail : List ℕ → ℕ → ℕ → ReadFault → Type 0
+RefusesTail bytes room dot fault =
+    OnFault fault (λ kind n. (n ≤ length bytes) × TailFails room (drop (dot + 1) bytes) kind (drop n bytes))
+
+-- the offset after the closing parenthesis that follows gaps
+abbrev pub Ends : List ℕ → ℕ → ℕ → Type 0
+Ends bytes from n = (from < n) × (n ≤ length bytes) × Gaps (drop from bytes) (41 ∷ drop n bytes)
+
+-- or the fault of what follows them
+abbrev pub RefusesEnd : List ℕ → ℕ → ReadFault → Type 0
+RefusesEnd bytes from fault =
+    OnFault fault (λ kind n. (n ≤ length bytes) × EndFails (drop from bytes) kind (drop n bytes))

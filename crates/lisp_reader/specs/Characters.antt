@@ -1,5 +1,5 @@
 -- The kinds of characters (HyperSpec 2.1.4).
-use Rattle.std.specs.Prelude.{ℕ, Bool, ◌==◌, ◌&&◌, ◌||◌, not, List, [], ◌∷◌}
+use Rattle.std.specs.Prelude.{ℕ, Bool, false, ◌==◌, ◌&&◌, ◌||◌, not, List, [], ◌∷◌}
 use Rattle.std.specs.Int.{is_in_range}
 use Rattle.std.specs.List.{list_any}
 
@@ -19,10 +19,20 @@ is_token_char b = is_in_range 0x21 0x7E b && not (list_any (λ c. c == b) macros
 abbrev pub begins_token : ℕ → Bool
 begins_token b = is_token_char b && not (b == 35)
 
--- one that begins a list or a prefix: ( or '
+-- one that begins a list or a prefix other than #': ( ' ` ,
 abbrev pub opens : ℕ → Bool
-opens b = b == 40 || b == 39
+opens b = b == 40 || b == 39 || b == 96 || b == 44
 
--- one that begins a datum, a fault of its own or a gap; any other begins nothing
+-- one that begins a datum or a fault of its own; any other begins nothing
 abbrev pub begins_something : ℕ → Bool
 begins_something b = is_token_char b || opens b || b == 41 || b == 34
+
+-- that character stands at the front of the text
+abbrev pub begins_with : ℕ → List ℕ → Bool
+begins_with c [] = false
+begins_with c (b ∷ text) = b == c
+
+-- a character of a token stands there
+abbrev pub goes_on : List ℕ → Bool
+goes_on [] = false
+goes_on (b ∷ text) = is_token_char b

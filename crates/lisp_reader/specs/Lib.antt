@@ -1,7 +1,10 @@
 pub mod Answers
 pub mod Characters
 pub mod Fault
+pub mod Front
 pub mod Gaps
+pub mod Prefix
+pub mod Printed
 pub mod Reading
 pub mod Strings
 pub mod Token

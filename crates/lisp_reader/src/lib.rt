@@ -7,8 +7,10 @@
 
 mod characters;
 pub mod fault;
+mod front;
 mod gaps;
 pub mod laws;
+mod lists;
 pub mod read;
 mod strings;
 mod token;

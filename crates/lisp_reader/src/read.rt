@@ -1,17 +1,21 @@
 //! Data: lists, prefixes and what stands in them (HyperSpec 2.2, 2.4).
-ghost use Rattle.std.specs.Prelude.{◌≡◌, ◌+◌, ◌<◌, ◌≤◌, [], ◌∷◌, length, drop, map, slice_index, IfOk, IfSome, IsTrue, MatchResult};
+ghost use Rattle.std.specs.Prelude.{◌≡◌, ℕ, ◌+◌, ◌<◌, ◌≤◌, length, drop, map, slice_index, false, IfOk, IfSome, IsTrue, MatchResult};
+ghost use Rattle.lisp_reader.specs.Answers.{Answers, most_open, Reads, Refuses, ReadsTail, RefusesTail, Ends, RefusesEnd};
+ghost use Rattle.lisp_reader.specs.Front.{BeginsPrefix};
+ghost use Rattle.lisp_reader.specs.Reading.{closes, dot_fits, is_dot};
+ghost use Rattle.lisp_data.specs.Datum.{nesting_of};
 ghost use Rattle.lisp_data.specs.DatumView.{datum_of};
-ghost use Rattle.lisp_data.specs.Datum.{list, list_from};
-ghost use Rattle.lisp_reader.specs.Answers.{Answers, Reads, Refuses};
-ghost use Rattle.lisp_reader.specs.Reading.{closes, list_of, named};
+ghost use Rattle.lisp_reader.specs.Gaps.{Gaps};
 
-use crate::characters::is_token_char;
+use crate::characters::{begins_with, goes_on};
 use crate::fault::ReadFault;
+use crate::front::{Front, Prefix, front_at};
 use crate::gaps::skip_gaps;
+use crate::lists::{ending_in, list_of, prefixed_by};
 use crate::strings::read_string;
 use crate::token::read_token;
-use lisp_data::{Data, Datum, Name};
-use std::alloc::{AllocError, Global};
+use lisp_data::Datum;
+use std::alloc::Global;
 
 /// How many lists and prefixes may be open at once.
 pub const MAX_NESTING: usize = 200;
@@ -25,6 +29,7 @@ pub fn read_form(
     requires { from ≤ length bytes.now }
     ensures answer { Answers bytes.now from result }
     ensures advances { IfOk result (λ found. IfSome found (λ datum. from < datum.1)) }
+    ensures shallow { IfOk result (λ found. IfSome found (λ datum. nesting_of (datum_of datum.0) ≤ most_open)) }
 {
     let start = skip_gaps(bytes, from)?;
     if start == bytes.len() {
@@ -37,7 +42,7 @@ pub fn read_form(
 }
 
 /// The datum that begins at `at` and the offset after it, where `room` more lists and prefixes may open.
-/// The text's end inside it is a fault at the end.
+/// The text's end inside it is a fault somewhere in it.
 #[cycle(reader)]
 fn read_datum(
     alloc: Global,
@@ -45,20 +50,16 @@ fn read_datum(
     at: usize,
     room: usize,
 ) -> Result<(Datum, usize), ReadFault>
-    requires { at ≤ length bytes.now }
+    requires within { at ≤ length bytes.now }
+    requires few { room ≤ most_open }
     ensures { MatchResult result (Reads bytes.now room at) (Refuses bytes.now room at) }
 {
-    if at == bytes.len() {
-        return Err(ReadFault::EndInside(at));
-    }
-    match bytes[at] {
-        b'(' => read_list(alloc, bytes, at, room),
-        b'\'' => read_prefixed(alloc, bytes, at, room),
-        b'"' => read_string(alloc, bytes, at),
-        b')' => Err(ReadFault::StrayClose(at)),
-        b'#' => Err(ReadFault::BadHash(at)),
-        first if is_token_char(first) => read_token(alloc, bytes, at),
-        _ => Err(ReadFault::BadToken(at)),
+    match front_at(bytes, at) {
+        Front::Token => read_token(alloc, bytes, at),
+        Front::String => read_string(alloc, bytes, at),
+        Front::List => read_list(alloc, bytes, at, room),
+        Front::Prefixed(prefix) => read_prefixed(alloc, bytes, at, room, prefix),
+        Front::Nothing(fault) => Err(fault),
     }
 }
 
@@ -72,6 +73,7 @@ fn read_list(
 ) -> Result<(Datum, usize), ReadFault>
     requires within { at < length bytes.now }
     requires begins { slice_index bytes.now at ≡ 40 }
+    requires few { room ≤ most_open }
     ensures { MatchResult result (Reads bytes.now room at) (Refuses bytes.now room at) }
 {
     if room == 0 {
@@ -84,30 +86,85 @@ fn read_list(
         if closes(bytes, next) {
             return Ok((list_of(alloc, items)?, next + 1));
         }
+        if dot_fits(&items, bytes, next) {
+            let (last, end) = read_tail(alloc, bytes, next, room - 1)?;
+            return Ok((ending_in(alloc, items, last)?, end));
+        }
         let (item, after) = read_datum(alloc, bytes, next, room - 1)?;
         items.push(item)?;
         cursor = after;
     }
 }
 
-/// The datum that begins with the prefix at `at`.
+/// The datum after the dot at `dot`, and the offset after the closing parenthesis that follows it.
+#[cycle(reader)]
+fn read_tail(
+    alloc: Global,
+    bytes: &[u8],
+    dot: usize,
+    room: usize,
+) -> Result<(Datum, usize), ReadFault>
+    requires within { dot < length bytes.now }
+    requires begins { slice_index bytes.now dot ≡ 46 }
+    requires few { room ≤ most_open }
+    ensures { MatchResult result (ReadsTail bytes.now room dot) (RefusesTail bytes.now room dot) }
+{
+    let start = skip_gaps(bytes, dot + 1)?;
+    if closes(bytes, start) {
+        return Err(ReadFault::BadDot(dot));
+    }
+    let (last, after) = read_datum(alloc, bytes, start, room)?;
+    let end = list_end(alloc, bytes, after)?;
+    Ok((last, end))
+}
+
+/// The datum that begins with this prefix at `at`.
 #[cycle(reader)]
 fn read_prefixed(
     alloc: Global,
     bytes: &[u8],
     at: usize,
     room: usize,
+    prefix: Prefix,
 ) -> Result<(Datum, usize), ReadFault>
-    requires within { at < length bytes.now }
-    requires begins { slice_index bytes.now at ≡ 39 }
+    requires begins { BeginsPrefix bytes.now at prefix }
+    requires few { room ≤ most_open }
     ensures { MatchResult result (Reads bytes.now room at) (Refuses bytes.now room at) }
 {
     if room == 0 {
         return Err(ReadFault::TooDeep(at));
     }
-    let start = skip_gaps(bytes, at + 1)?;
+    let start = skip_gaps(bytes, at + prefix.len)?;
     let (datum, after) = read_datum(alloc, bytes, start, room - 1)?;
-    Ok((prefixed(alloc, "QUOTE", datum)?, after))
+    Ok((prefixed_by(alloc, prefix.operator, datum)?, after))
+}
+
+/// The offset after the closing parenthesis that has to stand after `from`, where no other datum may.
+fn list_end(alloc: Global, bytes: &[u8], from: usize) -> Result<usize, ReadFault>
+    requires { from ≤ length bytes.now }
+    ensures { MatchResult result (Ends bytes.now from) (RefusesEnd bytes.now from) }
+{
+    let next = skip_gaps(bytes, from)?;
+    if closes(bytes, next) {
+        return Ok(next + 1);
+    }
+    Err(surplus(alloc, bytes, next))
+}
+
+/// The fault of what stands at `at`, where the list should close.
+fn surplus(alloc: Global, bytes: &[u8], at: usize) -> ReadFault
+    requires within { at ≤ length bytes.now }
+    requires unclosed { closes (drop at bytes.now) ≡ false }
+    ensures { (from : ℕ) → Gaps (drop from bytes.now) (drop at bytes.now) → RefusesEnd bytes.now from result }
+{
+    match front_at(bytes, at) {
+        Front::Nothing(fault) => fault,
+        Front::Token => match read_token(alloc, bytes, at) {
+            Ok(_) => ReadFault::BadDot(at),
+            Err(fault) => fault,
+        },
+        Front::String | Front::List | Front::Prefixed(_) => ReadFault::BadDot(at),
+    }
 }
 
 /// Whether a closing parenthesis stands at `at`.
@@ -116,28 +173,23 @@ fn closes(bytes: &[u8], at: usize) -> bool
     ensures value { result ≡ closes (drop at bytes.now) }
     ensures within { IsTrue result → at < length bytes.now }
 {
-    at < bytes.len() && bytes[at] == b')'
+    begins_with(bytes, at, b')')
 }
 
-/// The list of this symbol and this datum.
-fn prefixed(alloc: Global, operator: &'static str, datum: Datum) -> Result<Datum, AllocError>
-    ensures { IfOk result (λ d. datum_of d ≡ list (list_from (named operator.now ∷ datum_of datum ∷ []))) }
+/// Whether a dot stands at `at`, where there are elements before it.
+fn dot_fits(items: &Vec<Datum>, bytes: &[u8], at: usize) -> bool
+    requires { at ≤ length bytes.now }
+    ensures value { result ≡ dot_fits (map datum_of items.now.items) (drop at bytes.now) }
+    ensures within { IsTrue result → at < length bytes.now }
 {
-    let tail = Data::cons(alloc, datum, Data::new())?;
-    let items = Data::cons(alloc, Datum::Sym(Name::fixed(operator)), tail)?;
-    Ok(Datum::List(items))
+    !items.is_empty() && is_dot(bytes, at)
 }
 
-/// The list of these elements. With none it is the symbol NIL.
-fn list_of(alloc: Global, mut items: Vec<Datum>) -> Result<Datum, AllocError>
-    ensures { IfOk result (λ d. datum_of d ≡ list_of (map datum_of items.items)) }
+/// Whether the token that begins at `at` is a dot.
+fn is_dot(bytes: &[u8], at: usize) -> bool
+    requires { at ≤ length bytes.now }
+    ensures value { result ≡ is_dot (drop at bytes.now) }
+    ensures within { IsTrue result → at < length bytes.now }
 {
-    if items.is_empty() {
-        return Ok(Datum::Sym(Name::fixed("NIL")));
-    }
-    let mut list = Data::new();
-    while let Some(item) = items.pop() {
-        list = Data::cons(alloc, item, list)?;
-    }
-    Ok(Datum::List(list))
+    begins_with(bytes, at, b'.') && !goes_on(bytes, at + 1)
 }

@@ -1,5 +1,6 @@
 use Rattle.std.proofs.Common.{◌≤◌, ◌-◌, List, ℕ, length, drop}
-use Rattle.lisp_reader.specs.Gaps.{Gaps, NoText}
+use Rattle.lisp_reader.specs.Fault.{Kind}
+use Rattle.lisp_reader.specs.Gaps.{Gaps, GapFails}
 use Rattle.lisp_reader.proofs.gaps.skip_gaps.Given as goal
 
 -- the gaps from here on are the rest of those from the start
@@ -8,7 +9,7 @@ invariant-loop-at l = record {
   begun : l.fn.from ≤ l.at;
   within : l.at ≤ length l.bytes;
   gaps : (rest : List ℕ) → Gaps (drop l.at l.bytes) rest → Gaps (drop l.fn.from l.bytes) rest;
-  no_text : (at : List ℕ) → NoText (drop l.at l.bytes) at → NoText (drop l.fn.from l.bytes) at;
+  fails : (kind : Kind) (at : List ℕ) → GapFails (drop l.at l.bytes) kind at → GapFails (drop l.fn.from l.bytes) kind at;
 }
 
 abbrev pub decreases-loop-at : goal.decreases-loop-at

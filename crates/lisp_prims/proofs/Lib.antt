@@ -1,0 +1,5 @@
+pub mod OnNumbers
+pub mod OnQuotients
+pub mod OnEquality
+pub mod OnMaking
+pub mod OnRounding

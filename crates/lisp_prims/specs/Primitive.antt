@@ -1,0 +1,106 @@
+-- The functions of values, by their names (HyperSpec 5.3, 12.2, 14.2, 17.3).
+use Rattle.std.specs.Prelude.{ℕ, Bool, true, false, if◌then◌else◌, List, [], ◌∷◌, Option, Some, None, Result, Ok, codes}
+use Rattle.std.specs.Borrow.{Bor}
+use Rattle.std.specs.Str.{bytes_eq}
+use Rattle.lisp_data.specs.Name.{Nam}
+use Rattle.lisp_data.specs.Value.{Val, integer, symbol, list, nil}
+use Rattle.lisp_prims.specs.Arithmetic.{number_of}
+use Rattle.lisp_prims.specs.Comparison.{order_of}
+use Rattle.lisp_prims.specs.Fault.{Condition, given}
+use Rattle.lisp_prims.specs.Lists.{length_from, list_value}
+use Rattle.lisp_prims.specs.Predicates.{truth_of}
+use Rattle.lisp_prims.specs.declared.primitive.Primitive.{Primitive}
+use Rattle.lisp_prims.specs.declared.primitive.Primitive.TheVariants.{Number, Order, Test, Length, Listed}
+use Rattle.lisp_prims.specs.declared.arithmetic.Arithmetic.TheVariants.{Sum, Product, Difference, Greatest, Least, Increment, Decrement, Absolute, Floor, Truncate, Modulus, Remainder}
+use Rattle.lisp_prims.specs.declared.comparison.Comparison.TheVariants.{Same, Less, Greater, AtMost, AtLeast}
+use Rattle.lisp_prims.specs.declared.predicates.Predicate.TheVariants.{Null, Atom, Consp, Listp, Symbolp, Integerp, Stringp, Zerop, Plusp, Minusp, Evenp, Oddp, Eql, Equal}
+use Rattle.lisp_prims.specs.declared.lists.ListFunction.TheVariants.{Car, Cdr, Second, Third, Nth, Cons, List as Listing, ListStar, Append, Reverse}
+
+-- true is the symbol T, false is NIL
+abbrev pub truth : Bool → Val
+truth true = symbol (record { text = codes "T"; keyword = false })
+truth false = list nil
+
+-- the answer of a function to its arguments: a value or a condition
+abbrev pub answer : Primitive → List Val → Result Val Condition
+answer (Number f) args = given (number_of f args) (λ n. Ok (integer n))
+answer (Order f) args = given (order_of f args) (λ b. Ok (truth b))
+answer (Test f) args = given (truth_of f args) (λ b. Ok (truth b))
+answer Length args = given (length_from args) (λ n. Ok (integer n))
+answer (Listed f) args = list_value f args
+
+-- whether its value is always a number or a truth value
+abbrev pub gives_number_or_truth : Primitive → Bool
+gives_number_or_truth (Number f) = true
+gives_number_or_truth (Order f) = true
+gives_number_or_truth (Test f) = true
+gives_number_or_truth Length = true
+gives_number_or_truth (Listed f) = false
+
+abbrev pub entry : List ℕ → Primitive → List ℕ × Primitive
+entry text p = (text, p)
+
+-- each name with its function
+abbrev pub names : List (List ℕ × Primitive)
+names =
+    entry (codes "+") (Number Sum)
+    ∷ entry (codes "*") (Number Product)
+    ∷ entry (codes "-") (Number Difference)
+    ∷ entry (codes "MAX") (Number Greatest)
+    ∷ entry (codes "MIN") (Number Least)
+    ∷ entry (codes "1+") (Number Increment)
+    ∷ entry (codes "1-") (Number Decrement)
+    ∷ entry (codes "ABS") (Number Absolute)
+    ∷ entry (codes "ZEROP") (Test Zerop)
+    ∷ entry (codes "PLUSP") (Test Plusp)
+    ∷ entry (codes "MINUSP") (Test Minusp)
+    ∷ entry (codes "EVENP") (Test Evenp)
+    ∷ entry (codes "ODDP") (Test Oddp)
+    ∷ entry (codes "FLOOR") (Number Floor)
+    ∷ entry (codes "TRUNCATE") (Number Truncate)
+    ∷ entry (codes "MOD") (Number Modulus)
+    ∷ entry (codes "REM") (Number Remainder)
+    ∷ entry (codes "=") (Order Same)
+    ∷ entry (codes "<") (Order Less)
+    ∷ entry (codes ">") (Order Greater)
+    ∷ entry (codes "<=") (Order AtMost)
+    ∷ entry (codes ">=") (Order AtLeast)
+    ∷ entry (codes "NOT") (Test Null)
+    ∷ entry (codes "NULL") (Test Null)
+    ∷ entry (codes "EQ") (Test Eql)
+    ∷ entry (codes "EQL") (Test Eql)
+    ∷ entry (codes "EQUAL") (Test Equal)
+    ∷ entry (codes "ATOM") (Test Atom)
+    ∷ entry (codes "CONSP") (Test Consp)
+    ∷ entry (codes "LISTP") (Test Listp)
+    ∷ entry (codes "SYMBOLP") (Test Symbolp)
+    ∷ entry (codes "INTEGERP") (Test Integerp)
+    ∷ entry (codes "STRINGP") (Test Stringp)
+    ∷ entry (codes "CAR") (Listed Car)
+    ∷ entry (codes "CDR") (Listed Cdr)
+    ∷ entry (codes "FIRST") (Listed Car)
+    ∷ entry (codes "SECOND") (Listed Second)
+    ∷ entry (codes "THIRD") (Listed Third)
+    ∷ entry (codes "REST") (Listed Cdr)
+    ∷ entry (codes "NTH") (Listed Nth)
+    ∷ entry (codes "CONS") (Listed Cons)
+    ∷ entry (codes "LIST") (Listed Listing)
+    ∷ entry (codes "LIST*") (Listed ListStar)
+    ∷ entry (codes "APPEND") (Listed Append)
+    ∷ entry (codes "NCONC") (Listed Append)
+    ∷ entry (codes "REVERSE") (Listed Reverse)
+    ∷ entry (codes "LENGTH") Length
+    ∷ []
+
+-- the function of these characters
+abbrev pub entry_of : List (List ℕ × Primitive) → List ℕ → Option Primitive
+entry_of [] text = None
+entry_of (e ∷ es) text = if bytes_eq e.0 text then Some e.1 else entry_of es text
+
+-- an entry of the code's table
+abbrev pub told : Bor (List ℕ) × Primitive → List ℕ × Primitive
+told e = (e.0.now, e.1)
+
+-- the function of a name, which is no keyword
+abbrev pub primitive_of : Nam → Option Primitive
+primitive_of name = if name.keyword then None else entry_of names name.text

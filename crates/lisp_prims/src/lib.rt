@@ -1,0 +1,18 @@
+//! Functions of values: numbers, tests and lists (HyperSpec 5.3, 12.2, 14.2, 17.3).
+#![tactic(auto)]
+
+pub mod arguments;
+pub mod arithmetic;
+pub mod comparison;
+pub mod fault;
+pub mod laws;
+pub mod lists;
+pub mod predicates;
+pub mod primitive;
+#[cfg(test)]
+mod tests;
+pub mod width;
+
+pub use fault::PrimFault;
+pub use primitive::{Primitive, call, serves};
+pub use width::Integer;
