@@ -1,19 +1,16 @@
 -- Steps of the loops that parse lists.
-use Rattle.std.proofs.Common.{◌≡◌, ◌≢◌, ◌≤◌, ◌+◌, ◌-◌, ◌==◌, ◌||◌, ℕ, zero, suc, map, true, false, List, [], ◌∷◌, ◌++◌, Option, Some, None, Result, Ok, Err, refl, ap, sym, ◌∙◌}
-use Rattle.std.specs.Prelude.{nat_lt, if◌then◌else◌, option_map}
-use Rattle.std.proofs.Math.Dec.{eqb-suc-zero}
-use Rattle.std.proofs.lemmas.Bool.{le-ltb}
+use Rattle.std.proofs.Common.{◌≡◌, map, true, false, List, [], ◌∷◌, ◌++◌, Option, Some, None, Result, Ok, Err, refl, ap, sym, ◌∙◌}
+use Rattle.std.specs.Prelude.{if◌then◌else◌}
 use Rattle.lisp_data.specs.Value.{Val, Vals}
-use Rattle.lisp_data.specs.Value as value
 use Rattle.lisp_data.specs.ValueView.{value_of}
-use Rattle.lisp_data.specs.Datum.{Dat, Dats, list, nil, cons, length_of}
+use Rattle.lisp_data.specs.Datum.{Dat, Dats, cons}
 use Rattle.lisp_data.specs.declared.value.Value.{Value}
 use Rattle.std.specs.List.{list_any}
 use Rattle.lisp_data.specs.Name.{Nam, same_name}
 use Rattle.clos_system.specs.TopSyntax.{Parameter, parameter_of, parameters_after}
 use Rattle.clos_system.specs.Form.{Frm, Frms}
 use Rattle.clos_system.specs.Form as form
-use Rattle.clos_system.specs.Syntax.{prepended, ◌>>=◌, with_front, Fails, quotation, quotations}
+use Rattle.clos_system.specs.Syntax.{prepended, ◌>>=◌, with_front, Fails}
 use Rattle.clos_system.specs.declared.syntax.SyntaxFault.{SyntaxFault}
 use Rattle.clos_system.specs.declared.syntax.SyntaxFault.TheVariants.{Malformed, Unserved, Memory}
 

@@ -1,6 +1,5 @@
 -- From data to checked forms (HyperSpec 3.1.2.1, 3.4, 7.6.2).
-use Rattle.std.specs.Prelude.{◌≡◌, nat_le, List, [], ◌∷◌, Bool, ◌||◌, ◌&&◌, Option, Some, None, option_map, Result, Ok, Err, codes, if◌then◌else◌}
-use Rattle.lisp_data.specs.Limits.{most_elements, most_nesting}
+use Rattle.std.specs.Prelude.{◌≡◌, List, [], ◌∷◌, Bool, ◌||◌, Option, Some, None, option_map, Result, Ok, Err, codes, if◌then◌else◌}
 use Rattle.lisp_data.specs.Name.{Nam}
 use Rattle.lisp_data.specs.Value.{Val, Vals}
 use Rattle.lisp_data.specs.Value as value
@@ -34,7 +33,7 @@ Gives view (Err e) d = Fails e d
 
 -- a list that is neither too long nor too deep
 abbrev pub within_limits : Vals → Option Vals
-within_limits l = if nat_le (value.length_of l) most_elements && nat_le (value.nesting_in l) most_nesting then Some l else None
+within_limits l = if value.is_within_limits l then Some l else None
 
 abbrev pub with_front : Option Val → Option Vals → Option Vals
 with_front (Some v) (Some l) = within_limits (value.cons v l)

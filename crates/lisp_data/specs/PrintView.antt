@@ -1,8 +1,7 @@
 -- What is told of functions and methods, and what is still to be printed, as the definitions have it.
-use Rattle.std.specs.Prelude.{ℕ, suc, ◌+◌, ◌*◌, ◌≤◌, ◌≡◌, ◌++◌, Bool, List, [], ◌∷◌, Option, Some, None, map, drop, length, codes}
-use Rattle.std.specs.Borrow.{Bor}
+use Rattle.std.specs.Prelude.{ℕ, ◌+◌, ◌*◌, ◌≤◌, ◌≡◌, ◌++◌, Bool, List, [], ◌∷◌, Option, Some, None, map, drop, length, codes}
 use Rattle.lisp_data.specs.ValueView.{value_of}
-use Rattle.lisp_data.specs.Print.{Names, MethodParts, Called, by_symbol, by_setf, Specializer, on_class, on_eql, qualifiers_of, specializers_of}
+use Rattle.lisp_data.specs.Print.{Names, Called, by_symbol, by_setf, Specializer, on_class, on_eql, qualifiers_of, specializers_of}
 use Rattle.lisp_data.specs.Print.{spaced, list_text, described, text_with, texts_with, specializer_text, lists_text, methods_within, method_text}
 use Rattle.lisp_data.specs.declared.ids.ClassId.{ClassId}
 use Rattle.lisp_data.specs.declared.ids.GenericId.{GenericId}

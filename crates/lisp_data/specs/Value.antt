@@ -1,5 +1,5 @@
 -- The values of the language (HyperSpec 4.2, 14.1): what a form can give.
-use Rattle.std.specs.Prelude.{◌≡◌, ◌⊎◌, ℕ, ℤ, ◌+◌, ◌≤◌, max, List, [], ◌∷◌, ◌++◌, refl}
+use Rattle.std.specs.Prelude.{◌≡◌, ◌⊎◌, ℕ, ℤ, ◌+◌, ◌≤◌, nat_le, max, Bool, ◌&&◌, List, [], ◌∷◌, ◌++◌, refl}
 use Rattle.std.specs.Coded.{Coded, code_by, coded⊎, coded_list, coded_ℕ, coded_ℤ}
 use Rattle.std.proofs.Common.{inl, inr, ◌∙◌, ap}
 use base.Stored.{coded_unit}
@@ -61,6 +61,9 @@ abbrev mutual
 -- a list that is neither too long nor too deep
 abbrev pub IsWithinLimits : Vals → Type 0
 IsWithinLimits l = (length_of l ≤ most_elements) × (nesting_in l ≤ most_nesting)
+
+abbrev pub is_within_limits : Vals → Bool
+is_within_limits l = nat_le (length_of l) most_elements && nat_le (nesting_in l) most_nesting
 
 -- the elements as a list of the definitions
 abbrev pub elements : Vals → List Val

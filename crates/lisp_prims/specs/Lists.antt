@@ -1,8 +1,7 @@
 -- Lists (HyperSpec 14.2, 17.3).
-use Rattle.std.specs.Prelude.{ℕ, zero, suc, ℤ, pos, Bool, ◌&&◌, if◌then◌else◌, nat_le, List, [], ◌∷◌, length, reverse, Result, Ok, Err}
+use Rattle.std.specs.Prelude.{ℕ, zero, suc, ℤ, pos, if◌then◌else◌, List, [], ◌∷◌, length, reverse, Result, Ok, Err}
 use Rattle.std.specs.Str.{chars}
-use Rattle.lisp_data.specs.Limits.{most_elements, most_nesting}
-use Rattle.lisp_data.specs.Value.{Val, integer, string, list, Vals, nil, cons, length_of, nesting_in, elements}
+use Rattle.lisp_data.specs.Value.{Val, integer, string, list, Vals, nil, cons, is_within_limits, length_of, elements}
 use Rattle.lisp_prims.specs.Arguments.{any, one_of, two_of}
 use Rattle.lisp_prims.specs.Fault.{Condition, program_error, type_error, unsupported, given}
 use Rattle.lisp_prims.specs.Width.{in_range}
@@ -43,9 +42,6 @@ abbrev pub length_from : List Val → Result ℤ Condition
 length_from args = given (one_of size_of args) (λ n. in_range (pos n))
 
 -- ---- lists that are made
-
-abbrev pub is_within_limits : Vals → Bool
-is_within_limits l = nat_le (length_of l) most_elements && nat_le (nesting_in l) most_nesting
 
 -- one element more
 abbrev pub consed : Val → Vals → Result Vals Condition

@@ -1,4 +1,3 @@
-use Rattle.std.proofs.Common.{◌≡◌}
 use Rattle.lisp_data.specs.Print.{text_of}
 use Rattle.lisp_data.specs.ValueView.{value_of}
 use Rattle.lisp_data.proofs.Printing.{turn_prints, turn_pays}

@@ -1,4 +1,3 @@
-use Rattle.std.proofs.Common.{◌≡◌, sym}
 use Rattle.std.proofs.lemmas.Result.{on_ok_weaker}
 use Rattle.lisp_data.specs.Print.{specializer_text}
 use Rattle.lisp_data.proofs.print.print_specializer.Goals as goal
