@@ -1,8 +1,3 @@
-pub mod Lists
-pub mod Order
-pub mod Turns
-pub mod Quiet
-pub mod Running
 pub mod Parsing
 pub mod Steps
 pub mod StepQuiet

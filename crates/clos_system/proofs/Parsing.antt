@@ -8,8 +8,8 @@ use Rattle.lisp_data.specs.declared.value.Value.{Value}
 use Rattle.std.specs.List.{list_any}
 use Rattle.lisp_data.specs.Name.{Nam, same_name}
 use Rattle.clos_system.specs.TopSyntax.{Parameter, parameter_of, parameters_after}
-use Rattle.clos_system.specs.Form.{Frm, Frms}
-use Rattle.clos_system.specs.Form as form
+use Rattle.clos_eval.specs.Form.{Frm, Frms}
+use Rattle.clos_eval.specs.Form as form
 use Rattle.clos_system.specs.Syntax.{prepended, ◌>>=◌, with_front, Fails}
 use Rattle.clos_system.specs.declared.syntax.SyntaxFault.{SyntaxFault}
 use Rattle.clos_system.specs.declared.syntax.SyntaxFault.TheVariants.{Malformed, Unserved, Memory}

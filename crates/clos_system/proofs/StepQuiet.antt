@@ -3,22 +3,22 @@ use Rattle.std.proofs.Common.{ℕ, ◌+◌, ◌==◌, List, [], Option, Some, No
 use Rattle.std.specs.Prelude.{nat_lt, ◌&&◌, if◌then◌else◌}
 use Rattle.lisp_data.specs.Name.{Nam}
 use Rattle.lisp_data.specs.Datum.{Dat}
-use Rattle.clos_system.specs.Form.{Frms}
-use Rattle.clos_system.specs.Class.{named}
-use Rattle.clos_system.specs.Generic.{function_named}
-use Rattle.clos_system.specs.World.{State}
-use Rattle.clos_system.specs.Meaning.{Out, known}
-use Rattle.clos_system.specs.Machine.{leaves}
+use Rattle.clos_eval.specs.Form.{Frms}
+use Rattle.clos_eval.specs.Class.{named}
+use Rattle.clos_eval.specs.Generic.{function_named}
+use Rattle.clos_eval.specs.World.{State}
+use Rattle.clos_eval.specs.Meaning.{Out, known}
+use Rattle.clos_eval.specs.Machine.{leaves}
 use Rattle.clos_system.specs.Step.{define_class, new_class, superclass_number, define_method, on_function, new_method, specializer_numbers, performed, checked, step, room_of}
 use Rattle.clos_system.specs.TopSyntax.{top_of}
-use Rattle.clos_system.specs.declared.condition.Condition.{Condition}
-use Rattle.clos_system.specs.declared.generic.Generic.{Generic}
-use Rattle.clos_system.specs.declared.machine.Task.TheVariants.{Plain}
+use Rattle.clos_eval.specs.declared.condition.Condition.{Condition}
+use Rattle.clos_eval.specs.declared.generic.Generic.{Generic}
+use Rattle.clos_eval.specs.declared.machine.Task.TheVariants.{Plain}
 use Rattle.clos_system.specs.declared.syntax.SyntaxFault.{SyntaxFault}
 use Rattle.clos_system.specs.declared.syntax.SyntaxFault.TheVariants as fault
 use Rattle.clos_system.specs.declared.top.Top.{Top}
 use Rattle.clos_system.specs.declared.top.Top.TheVariants.{DefineClass, DefineMethod, Expression}
-use Rattle.clos_system.proofs.Quiet.{evaluation_quiet}
+use Rattle.clos_eval.proofs.Quiet.{evaluation_quiet}
 
 either : (b : Bool) (x y : Out) (w : State) → leaves x w 0 → leaves y w 0 → leaves (if b then x else y) w 0
 either true x y w p q = p

@@ -4,23 +4,23 @@ use Rattle.std.specs.Str.{bytes_eq}
 use Rattle.lisp_data.specs.Name.{Nam}
 use Rattle.lisp_data.specs.Value.{class, method}
 use Rattle.lisp_data.specs.Datum.{Dat}
-use Rattle.clos_system.specs.Form.{Frms}
-use Rattle.clos_system.specs.Class.{named}
-use Rattle.clos_system.specs.Generic.{function_named, specializers_of}
-use Rattle.clos_system.specs.Condition.{name_value}
+use Rattle.clos_eval.specs.Form.{Frms}
+use Rattle.clos_eval.specs.Class.{named}
+use Rattle.clos_eval.specs.Generic.{function_named, specializers_of}
+use Rattle.clos_eval.specs.Condition.{name_value}
 use Rattle.clos_system.specs.TopSyntax.{top_of}
-use Rattle.clos_system.specs.World.{State}
-use Rattle.clos_system.specs.Meaning.{Gave, Stopped, Run, stopped, step_then, meaning, known}
-use Rattle.clos_system.specs.declared.class.Superclasses.TheVariants.{Direct}
-use Rattle.clos_system.specs.declared.class.ClassIds.{ClassIds}
-use Rattle.clos_system.specs.declared.condition.Condition.{Condition}
-use Rattle.clos_system.specs.declared.condition.Stop.{Stop}
-use Rattle.clos_system.specs.declared.condition.Stop.TheVariants.{Refused, Storage}
-use Rattle.clos_system.specs.declared.condition.ConditionKind.TheVariants.{ProgramError, UndefinedClass, LambdaListCongruence, Unsupported, TableLimit}
-use Rattle.clos_system.specs.declared.generic.Generic.{Generic}
-use Rattle.clos_system.specs.declared.generic.Method.{Method}
-use Rattle.clos_system.specs.declared.generic.MethodIds.{MethodIds}
-use Rattle.clos_system.specs.declared.machine.Task.TheVariants.{Plain}
+use Rattle.clos_eval.specs.World.{State}
+use Rattle.clos_eval.specs.Meaning.{Gave, Stopped, Run, stopped, step_then, meaning, known}
+use Rattle.clos_eval.specs.declared.class.Superclasses.TheVariants.{Direct}
+use Rattle.clos_eval.specs.declared.class.ClassIds.{ClassIds}
+use Rattle.clos_eval.specs.declared.condition.Condition.{Condition}
+use Rattle.clos_eval.specs.declared.condition.Stop.{Stop}
+use Rattle.clos_eval.specs.declared.condition.Stop.TheVariants.{Refused, Storage}
+use Rattle.clos_eval.specs.declared.condition.ConditionKind.TheVariants.{ProgramError, UndefinedClass, LambdaListCongruence, Unsupported, TableLimit}
+use Rattle.clos_eval.specs.declared.generic.Generic.{Generic}
+use Rattle.clos_eval.specs.declared.generic.Method.{Method}
+use Rattle.clos_eval.specs.declared.generic.MethodIds.{MethodIds}
+use Rattle.clos_eval.specs.declared.machine.Task.TheVariants.{Plain}
 use Rattle.clos_system.specs.declared.syntax.SyntaxFault.{SyntaxFault}
 use Rattle.clos_system.specs.declared.syntax.SyntaxFault.TheVariants as fault
 use Rattle.clos_system.specs.declared.top.Top.{Top}

@@ -4,9 +4,9 @@ use Rattle.lisp_data.specs.Name.{Nam}
 use Rattle.lisp_data.specs.Value.{Val, Vals}
 use Rattle.lisp_data.specs.Value as value
 use Rattle.lisp_data.specs.Datum.{Dat, integer, symbol, string, list, dotted, method, Dats, nil, cons}
-use Rattle.clos_system.specs.Form.{Frm, Frms, constant, no_value, variable, princ, make_instance, call}
-use Rattle.clos_system.specs.Form as form
-use Rattle.clos_system.specs.Condition.{name_value}
+use Rattle.clos_eval.specs.Form.{Frm, Frms, constant, no_value, variable, princ, make_instance, call}
+use Rattle.clos_eval.specs.Form as form
+use Rattle.clos_eval.specs.Condition.{name_value}
 use Rattle.clos_system.specs.Names.{operator_of, is_called}
 use Rattle.clos_system.specs.declared.names.Operator.{Operator}
 use Rattle.clos_system.specs.declared.names.Operator.TheVariants.{Quote, Princ, MakeInstance, Definition, Unserved, Function}

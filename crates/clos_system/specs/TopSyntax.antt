@@ -3,7 +3,7 @@ use Rattle.std.specs.Prelude.{List, [], ◌∷◌, ◌++◌, Bool, true, false, 
 use Rattle.std.specs.List.{list_any}
 use Rattle.lisp_data.specs.Name.{Nam, same_name}
 use Rattle.lisp_data.specs.Datum.{Dat, integer, symbol, string, list, dotted, method, Dats, nil, cons}
-use Rattle.clos_system.specs.Condition.{nil_name}
+use Rattle.clos_eval.specs.Condition.{nil_name}
 use Rattle.clos_system.specs.Names.{is_called, is_one_of, definitions, special_operators, functions, system_functions, closed_functions, parameter_kinds, refused_kinds}
 use Rattle.clos_system.specs.Syntax.{◌>>=◌, form_of, forms_of, is_constant}
 use Rattle.clos_system.specs.declared.syntax.SyntaxFault.{SyntaxFault}

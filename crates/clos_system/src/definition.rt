@@ -3,18 +3,18 @@
 ghost use Rattle.std.specs.Prelude.{◌≡◌, ◌++◌, ◌∷◌, [], ℕ, ◌+◌, ◌<◌, IfOk, OnOk, OnErr, option_map, option_copied, map, length, slice_get, slice_set, Some, None, vec_len, vec_capacity};
 ghost use Rattle.std.specs.Str.{bytes_eq};
 ghost use Rattle.lisp_data.specs.ValueView.{value_of};
-ghost use Rattle.clos_system.specs.Class.{named};
-ghost use Rattle.clos_system.specs.Generic.{specializers_of, function_named};
-ghost use Rattle.clos_system.specs.World.{State, seen};
-ghost use Rattle.clos_system.specs.Meaning.{Run, Gave, Stopped, step_then};
-ghost use Rattle.clos_system.specs.Machine.{Answers, Designates};
+ghost use Rattle.clos_eval.specs.Class.{named};
+ghost use Rattle.clos_eval.specs.Generic.{specializers_of, function_named};
+ghost use Rattle.clos_eval.specs.World.{State, seen};
+ghost use Rattle.clos_eval.specs.Meaning.{Run, Gave, Stopped, step_then};
+ghost use Rattle.clos_eval.specs.Machine.{Answers, Designates};
 ghost use Rattle.clos_system.specs.Step.{superclass_number, class_added, new_class, define_class, specializer_number, specializer_numbers, found_after, without_same, function_added, new_function, method_added, new_method, on_function, define_method, FindsSpecializers, Prepares};
 
-use crate::class::{Class, ClassIds, Superclasses, class_named};
-use crate::condition::{ConditionKind, Stop, about_name, plain};
-use crate::form::Forms;
-use crate::generic::{Generic, Method, MethodIds, Parameters, generic_named, method_numbered};
-use crate::world::World;
+use clos_eval::class::{Class, ClassIds, Superclasses, class_named};
+use clos_eval::condition::{ConditionKind, Stop, about_name, plain};
+use clos_eval::form::Forms;
+use clos_eval::generic::{Generic, Method, MethodIds, Parameters, generic_named, method_numbered};
+use clos_eval::world::World;
 use lisp_data::{ClassId, GenericId, MethodId, Name, Value};
 use std::alloc::{AllocError, Global};
 

@@ -2,22 +2,22 @@
 ghost use Rattle.std.specs.Prelude.{◌≡◌, ℕ, IfOk};
 ghost use Rattle.lisp_data.specs.ValueView.{value_of};
 ghost use Rattle.lisp_data.specs.DatumView.{datum_of};
-ghost use Rattle.clos_system.specs.World.{State, seen};
-ghost use Rattle.clos_system.specs.Meaning.{Run};
-ghost use Rattle.clos_system.specs.Machine.{Answers};
+ghost use Rattle.clos_eval.specs.World.{State, seen};
+ghost use Rattle.clos_eval.specs.Meaning.{Run};
+ghost use Rattle.clos_eval.specs.Machine.{Answers};
 ghost use Rattle.clos_system.specs.Step.{step, performed};
-ghost use Rattle.clos_system.specs.Initial.{initial};
+ghost use Rattle.clos_eval.specs.Initial.{initial};
 ghost use Rattle.clos_system.specs.Session.{state_of, Replies};
 
-use crate::arguments::Values;
-use crate::condition::{ConditionKind, Stop, plain};
+use clos_eval::arguments::Values;
+use clos_eval::condition::{ConditionKind, Stop, plain};
 use crate::definition::{defclass, defmethod};
-use crate::eval::evaluate;
-use crate::limits::Limits;
-use crate::predefined::predefined_classes;
+use clos_eval::eval::evaluate;
+use clos_eval::limits::Limits;
+use clos_eval::predefined::predefined_classes;
 use crate::syntax::SyntaxFault;
 use crate::top::{Top, parse_top};
-use crate::world::World;
+use clos_eval::world::World;
 use lisp_data::{Datum, Value};
 use std::alloc::{AllocError, Global};
 

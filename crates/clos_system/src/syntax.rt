@@ -4,11 +4,11 @@ ghost use Rattle.lisp_data.specs.ValueView.{value_of};
 ghost use Rattle.lisp_data.specs.DatumView.{datum_of};
 ghost use Rattle.lisp_data.specs.Datum.{Dats, list, cons};
 ghost use Rattle.lisp_data.specs.Value.{nil};
-ghost use Rattle.clos_system.specs.Form as form;
+ghost use Rattle.clos_eval.specs.Form as form;
 ghost use Rattle.clos_system.specs.Syntax.{Gives, argument_of, with_front, prepended, quotation, quotations, quote_form, quoted, is_constant, symbol_form, one_argument, application, applied, form_of, forms_of};
 
-use crate::condition::value_named;
-use crate::form::{Form, Forms, Node};
+use clos_eval::condition::value_named;
+use clos_eval::form::{Form, Forms, Node};
 use crate::names::{Operator, is_the, operator_named};
 use lisp_data::{Data, Datum, Items, ListFault, Name, Value};
 use std::alloc::{AllocError, AllocFailed, Global};

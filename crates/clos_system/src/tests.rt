@@ -1,5 +1,5 @@
 //! What no clause says: the transcripts of texts, and readers and writers that fail.
-use crate::limits::Limits;
+use clos_eval::limits::Limits;
 use crate::session::{Reply, Session};
 use crate::transcript::{RunFault, Summary, run};
 use lisp_data::{Data, Datum, Dot, MAX_NESTING, MethodId, Name, Value};

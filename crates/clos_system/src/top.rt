@@ -7,8 +7,8 @@ ghost use Rattle.std.specs.List.{list_any};
 ghost use Rattle.clos_system.specs.Syntax.{Gives, forms_of};
 ghost use Rattle.clos_system.specs.TopSyntax.{has_method, any_has_method, symbol_in, is_nil, named_symbol, superclass_of, no_slots, defclass_of, class_top, function_name, Parameter, bound_name, plain_parameter, specializer_of, specialized, pair_of, parameter_of, parameters_after, lambda_list_of, is_declaration, is_string, body_of, method_top, defmethod_of, expression_of, operator_top, any_top, top_of};
 
-use crate::form::{Form, Forms};
-use crate::generic::Parameters;
+use clos_eval::form::{Form, Forms};
+use clos_eval::generic::Parameters;
 use crate::names::{
     is_closed_function, is_definition, is_function, is_parameter_kind, is_refused_kind,
     is_special_operator, is_system_function, is_the,

@@ -1,6 +1,6 @@
 use Rattle.std.proofs.Common.{arith}
 use Rattle.lisp_data.specs.DatumView.{datum_of}
-use Rattle.clos_system.specs.World.{seen}
+use Rattle.clos_eval.specs.World.{seen}
 use Rattle.clos_system.proofs.StepQuiet.{step_quiet}
 use Rattle.clos_system.proofs.session.perform.Goals as goal
 

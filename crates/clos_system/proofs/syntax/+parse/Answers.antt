@@ -1,7 +1,7 @@
 use Rattle.std.proofs.Common.{Ok, arith, ap, sym, ◌∙◌}
 use Rattle.lisp_data.specs.Datum.{size_of_data}
 use Rattle.lisp_data.specs.DatumView.{datum_of}
-use Rattle.clos_system.specs.Form as form
+use Rattle.clos_eval.specs.Form as form
 use Rattle.clos_system.specs.Syntax.{◌>>=◌, form_of, forms_of}
 use Rattle.clos_system.proofs.Parsing.{gathered, gathered_one, gathered_all, fault_first}
 use Rattle.clos_system.proofs.syntax.+parse.Goals as goal

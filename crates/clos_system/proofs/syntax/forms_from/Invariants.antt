@@ -1,5 +1,5 @@
 use Rattle.std.proofs.Common.{◌≡◌, ◌++◌, vec_len}
-use Rattle.clos_system.specs.Form.{list_from, elements}
+use Rattle.clos_eval.specs.Form.{list_from, elements}
 use Rattle.clos_system.proofs.syntax.forms_from.Given as goal
 
 abbrev pub invariant-loop-form : goal.invariant-loop-form

@@ -1,0 +1,35 @@
+-- Outcomes through the levels of the machine.
+use Rattle.std.proofs.Common.{◌≡◌, ℕ, List, [], ◌∷◌, Option, Some, None, refl, ap, sym, ◌∙◌}
+use Rattle.clos_eval.specs.World.{State}
+use Rattle.clos_eval.specs.Meaning.{Eval, Stopped, meaning, method_run}
+use Rattle.clos_eval.specs.Machine.{below, passed, resume, inside}
+use Rattle.clos_eval.specs.declared.arguments.Context.{Context}
+use Rattle.clos_eval.specs.declared.condition.Condition.{Condition}
+use Rattle.clos_eval.specs.declared.machine.Frame.{Frame}
+use Rattle.clos_eval.specs.declared.machine.Frame.TheVariants.{Princ, MakeInstance, Collect, Body, Known, Passing}
+use Rattle.clos_eval.specs.declared.machine.Level.{Level}
+use Rattle.clos_eval.specs.declared.machine.Machine.{Machine}
+use Rattle.clos_eval.specs.declared.generic.Method.{Method}
+use Rattle.clos_eval.specs.declared.condition.ConditionKind.TheVariants.{ProgramError}
+use Rattle.lisp_data.specs.Value.{Val}
+
+-- a condition passes through each frame
+passed_stopped : (ev : Eval) (env : Context) (f : Frame) (c : Condition) (w : State) (s : ℕ) → passed ev env f (Stopped c w s) ≡ Stopped c w s
+passed_stopped ev env Princ c w s = refl
+passed_stopped ev env MakeInstance c w s = refl
+passed_stopped ev env (Collect n fs vs) c w s = refl
+passed_stopped ev env (Body fs saved) c w s = refl
+passed_stopped ev env (Known saved) c w s = refl
+passed_stopped ev env Passing c w s = refl
+
+-- a condition passes through all levels
+pub stopped_through : (ls : List Level) (env : Context) (c : Condition) (w : State) (s : ℕ) → resume ls env (Stopped c w s) ≡ Stopped c w s
+stopped_through [] env c w s = refl
+stopped_through (l ∷ ls) env c w s =
+    ap (resume ls (below env l.frame)) (passed_stopped (meaning l.room) env l.frame c w s) ∙ stopped_through ls (below env l.frame) c w s
+
+-- there is no such method
+pub no_method : (m : Machine) (ev : Eval) (vs : List Val) (o : Option Method) (c : Condition) (w : State) (t : ℕ) → None ≡ o → c ≡ record { kind = ProgramError; items = [] }
+    → inside m (method_run ev vs o) w t ≡ Stopped c w t
+no_method m ev vs None c w t e k = stopped_through m.levels m.context (record { kind = ProgramError; items = [] }) w t ∙ ap (λ x. Stopped x w t) (sym k)
+no_method m ev vs (Some x) c w t e k = cc

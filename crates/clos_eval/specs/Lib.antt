@@ -1,0 +1,13 @@
+pub mod Form
+pub mod FormView
+pub mod Class
+pub mod Generic
+pub mod Arguments
+pub mod Effective
+pub mod EffectiveView
+pub mod ParametersView
+pub mod Condition
+pub mod World
+pub mod Meaning
+pub mod Machine
+pub mod Initial

@@ -1,0 +1,111 @@
+-- What a state of the machine stands for: the rest of the definition.
+use Rattle.std.specs.Prelude.{◌≡◌, ℕ, suc, ◌+◌, ◌*◌, ◌≤◌, List, [], ◌∷◌, ◌++◌, Result, Ok, Err, length}
+use Rattle.lisp_data.specs.Value.{Val}
+use Rattle.lisp_data.specs.ValueView.{value_of}
+use Rattle.lisp_data.specs.declared.ids.ClassId.{ClassId}
+use Rattle.lisp_data.specs.declared.value.Value.{Value}
+use Rattle.clos_eval.specs.World.{State}
+use Rattle.clos_eval.specs.Meaning.{Out, Gave, Stopped, Run, Eval, then_do, step_then, written, made, designated, collect, called, sequence, meaning}
+use Rattle.clos_eval.specs.declared.arguments.Context.{Context}
+use Rattle.clos_eval.specs.declared.condition.Condition.{Condition}
+use Rattle.clos_eval.specs.declared.condition.Stop.{Stop}
+use Rattle.clos_eval.specs.declared.condition.Stop.TheVariants.{Refused, Storage}
+use Rattle.clos_eval.specs.declared.machine.Doing.{Doing}
+use Rattle.clos_eval.specs.declared.machine.Doing.TheVariants.{Start, Give}
+use Rattle.clos_eval.specs.declared.machine.Frame.{Frame}
+use Rattle.clos_eval.specs.declared.machine.Frame.TheVariants.{Princ, MakeInstance, Collect, Body, Known, Passing}
+use Rattle.clos_eval.specs.declared.machine.Level.{Level}
+use Rattle.clos_eval.specs.declared.machine.Machine.{Machine}
+
+-- the context under a frame
+abbrev pub below : Context → Frame → Context
+below env Princ = env
+below env MakeInstance = env
+below env (Collect name rest values) = env
+below env (Body rest saved) = saved
+below env (Known saved) = saved
+below env Passing = env
+
+-- what a frame does with the outcome of what it waits for
+abbrev pub passed : Eval → Context → Frame → Out → Out
+passed ev env Princ o = then_do o (λ v. step_then (written v))
+passed ev env MakeInstance o = then_do o (λ v u. made ev env (designated u v) u)
+passed ev env (Collect name rest values) o = then_do o (λ v. collect ev env rest (values ++ v ∷ []) (called ev name))
+passed ev env (Body rest saved) o = then_do o (λ v. sequence ev env rest v)
+passed ev env (Known saved) o = o
+passed ev env Passing o = o
+
+-- what the levels do with an outcome, the top one first
+abbrev pub resume : List Level → Context → Out → Out
+resume [] env o = o
+resume (l ∷ ls) env o = resume ls (below env l.frame) (passed (meaning l.room) env l.frame o)
+
+abbrev pub doing_run : ℕ → Context → Doing → Run
+doing_run room env (Start task) w s = meaning room env task w s
+doing_run room env (Give value) w s = Gave (value_of value) w s
+
+-- how the run ends from this state of the machine
+abbrev pub denote : Machine → Doing → Run
+denote m d w s = resume m.levels m.context (doing_run m.room m.context d w s)
+
+-- how it ends where a form has begun, or its level was taken off, and `run` is left to do
+abbrev pub inside : Machine → Run → Run
+inside m run w s = resume m.levels m.context (run w s)
+
+-- A control handler changes the machine alone.
+abbrev pub Leads : Run → State → Result Doing Stop → Machine → Type 0
+Leads run w (Ok d) m = (t : ℕ) → denote m d w t ≡ run w t
+Leads run w (Err (Refused c)) m = (t : ℕ) → run w t ≡ Stopped c w t
+Leads run w (Err Storage) m = Unit {0}
+
+-- A turn may take steps and change the state; want of memory leaves both.
+abbrev pub Turns : Run → State → ℕ → Result Doing Stop → Machine → State → ℕ → Type 0
+Turns run w s (Ok d) m w' s' = (k : ℕ) × (s ≡ k + s') × ((t : ℕ) → denote m d w' t ≡ run w (k + t))
+Turns run w s (Err (Refused c)) m w' s' = run w s ≡ Stopped c w' s'
+Turns run w s (Err Storage) m w' s' = (w' ≡ w) × (s' ≡ s)
+
+-- where an outcome leaves the state and the steps
+abbrev pub leaves : Out → State → ℕ → Type 0
+leaves (Gave v w s) w' s' = (w ≡ w') × (s ≡ s')
+leaves (Stopped c w s) w' s' = (w ≡ w') × (s ≡ s')
+
+-- The answer is the run's; where memory was refused, the state is that of the run with the steps taken as its budget.
+abbrev pub Answers : Run → State → ℕ → Result Value Stop → State → ℕ → Type 0
+Answers run w s (Ok v) w' s' = run w s ≡ Gave (value_of v) w' s'
+Answers run w s (Err (Refused c)) w' s' = run w s ≡ Stopped c w' s'
+Answers run w s (Err Storage) w' s' = (k : ℕ) × (s ≡ k + s') × leaves (run w k) w' 0
+
+-- what is left to do, which each turn makes smaller
+abbrev pub given : Doing → ℕ
+given (Start task) = 0
+given (Give value) = 1
+
+abbrev pub weight : ℕ → Machine → Doing → ℕ
+weight steps m d = 4 * steps + (2 * length m.levels + given d)
+
+-- A handler adds at most a level, or gives a value.
+abbrev pub Grows : List Level → Result Doing Stop → Machine → Type 0
+Grows old (Ok d) m = 2 * length m.levels + given d ≤ 2 * length old + 2
+Grows old (Err e) m = Unit {0}
+
+-- the class that a value designates, or why there is none
+abbrev pub Designates : Result ℕ Condition → Result ClassId Stop → Type 0
+Designates d (Ok c) = d ≡ Ok c.0
+Designates d (Err (Refused c)) = d ≡ Err c
+Designates d (Err Storage) = Unit {0}
+
+-- what a frame does with a value
+abbrev pub given_to : Machine → Frame → Val → Run
+given_to m f v w s = resume m.levels (below m.context f) (passed (meaning m.room) m.context f (Gave v w s))
+
+-- A change takes one step, and touches the state alone; want of memory leaves both.
+abbrev pub Changes : Run → Val → State → ℕ → Result (Unit {0}) Stop → State → ℕ → Type 0
+Changes change v w s (Ok u) w' s' = (s ≡ suc s') × ((t : ℕ) → step_then change w (suc t) ≡ Gave v w' t)
+Changes change v w s (Err (Refused c)) w' s' = (w' ≡ w) × (s' ≡ s) × (step_then change w s ≡ Stopped c w s)
+Changes change v w s (Err Storage) w' s' = (w' ≡ w) × (s' ≡ s)
+
+-- The run has come to here: after some steps it goes on as `rest` does from here.
+pub record Reached (run : Run) (w0 : State) (s0 : ℕ) (rest : Run) (w : State) (s : ℕ) : Type 0 where
+  pub taken : ℕ
+  pub steps : s0 ≡ taken + s
+  pub same : (t : ℕ) → rest w t ≡ run w0 (taken + t)

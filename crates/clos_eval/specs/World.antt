@@ -1,0 +1,61 @@
+-- The state of a session (HyperSpec 3.1.1, 4.3, 7.6): lists that only grow at their ends.
+use Rattle.std.specs.Prelude.{ℕ, ◌-◌, ◌==◌, List, [], ◌||◌, nat_le, Option, None, map, option_map, unwrap_or, slice_get, if◌then◌else◌}
+use Rattle.lisp_data.specs.Value.{Val, integer, symbol, string, list, class, generic, method, instance, nil, cons}
+use Rattle.lisp_data.specs.Print.{Names, MethodParts, by_symbol, on_class}
+use Rattle.clos_eval.specs.declared.class.Class.{Class}
+use Rattle.clos_eval.specs.declared.generic.Generic.{Generic}
+use Rattle.clos_eval.specs.declared.generic.Method.{Method}
+use Rattle.clos_eval.specs.declared.limits.Limits.{Limits}
+use Rattle.clos_eval.specs.declared.world.World.{World}
+use Rattle.clos_eval.specs.Class.{precedence, class_name}
+
+pub record State : Type 0 where
+  pub classes : List Class  -- the predefined ones first, then in order of definition
+  pub generics : List Generic
+  pub methods : List Method  -- all ever made
+  pub instances : List ℕ  -- of each its class; the first has the number 1
+  pub written : List ℕ
+  pub limits : Limits
+
+-- a session's tables as lists
+abbrev pub seen : World → State
+seen w = record {
+  classes = w.classes.items;
+  generics = w.generics.items;
+  methods = w.methods.items;
+  instances = map (λ c. c.0) w.instances.items;
+  written = w.written.items;
+  limits = w.limits;
+}
+
+-- the class of an instance
+abbrev pub class_of_instance : State → ℕ → Option ℕ
+class_of_instance w i = if i == 0 then None else slice_get w.instances (i - 1)
+
+-- the class of a value (4.3.7)
+abbrev pub class_of : State → Val → ℕ
+class_of w (integer n) = 2
+class_of w (symbol s) = 7
+class_of w (string s) = 11
+class_of w (list nil) = 6
+class_of w (list (cons v l)) = 10
+class_of w (class n) = if (n == 1) || nat_le 22 n then 18 else 19
+class_of w (generic n) = 16
+class_of w (method n) = 20
+class_of w (instance i) = unwrap_or (class_of_instance w i) 1
+
+-- the precedence lists of the classes of these arguments
+abbrev pub lists_of : State → List Val → List (List ℕ)
+lists_of w vs = map (λ v. precedence w.classes (class_of w v)) vs
+
+abbrev pub parts_of : Method → MethodParts
+parts_of m = record { generic = m.generic.0; qualifiers = []; specializers = map on_class m.specializers }
+
+-- what the numbers in values stand for
+abbrev pub names_of : State → Names
+names_of w = record {
+  class = λ n. class_name w.classes n;
+  generic = λ n. option_map (λ g. by_symbol g.name) (slice_get w.generics n);
+  method = λ n. option_map parts_of (slice_get w.methods n);
+  class_of = λ i. class_of_instance w i;
+}

@@ -1,0 +1,373 @@
+//! What the machine does at each kind of task and frame: the handlers that change the machine alone.
+ghost use Rattle.std.specs.Prelude.{◌≡◌, ◌∷◌, [], ℕ, ◌+◌, ◌*◌, ◌≤◌, length, map, IfOk, Some, slice_get, ◌++◌};
+ghost use Rattle.lisp_data.specs.Value.{Val, list, nil};
+ghost use Rattle.lisp_data.specs.ValueView.{value_of};
+ghost use Rattle.clos_eval.specs.World.{State, seen};
+ghost use Rattle.clos_eval.specs.Meaning.{Run, Gave, known, meaning, begun, body, combined, system, collect, called, called_generic, method_run, sequence, then_do, variable_value, dispatched};
+ghost use Rattle.clos_eval.specs.Arguments.{argument_named};
+ghost use Rattle.clos_eval.specs.Generic.{ordered};
+ghost use Rattle.clos_eval.specs.World.{lists_of};
+ghost use Rattle.clos_eval.specs.declared.machine.Task.TheVariants.{Plain};
+ghost use Rattle.clos_eval.specs.declared.machine.Frame.TheVariants.{Body, Collect};
+ghost use Rattle.clos_eval.specs.Machine.{Leads, Grows, inside, denote, resume, below, passed, given_to};
+
+use crate::arguments::{Arguments, Context, Values};
+use crate::condition::{ConditionKind, Stop, about_call, about_name, plain};
+use crate::effective::{EffectiveForm, EffectiveNode, combined};
+use crate::form::{Form, Forms, Node};
+use crate::generic::{
+    Generic, Method, Parameters, generic_named, method_numbered, ordered_methods,
+};
+use crate::machine::{Doing, Frame, Level, Machine, SystemCall, Task};
+use crate::world::World;
+use lisp_data::{Items, MethodId, Name, Value};
+use std::alloc::{AllocError, Global};
+use std::mem;
+
+/// Evaluates this next, and then does what the frame does with its value.
+pub fn begin(machine: &mut Machine, next: Task, frame: Frame) -> Result<Doing, Stop>
+    ensures leads { (run : Run) (w : State) → below machine.old.context frame ≡ machine.old.context
+        → ((t : ℕ) → passed (meaning machine.old.room) machine.old.context frame (meaning machine.old.room machine.old.context next w t) ≡ run w t)
+        → Leads (inside machine.old run) w result machine.new }
+    ensures small { Grows machine.old.levels result machine.new }
+{
+    let room = machine.room;
+    machine.levels.push(Level { frame, room })?;
+    Ok(Doing::Start(next))
+}
+
+/// Gives this value.
+pub fn done(machine: &Machine, value: Value) -> Doing
+    ensures leads { (run : Run) (w : State) → ((t : ℕ) → run w t ≡ Gave (value_of value) w t)
+        → Leads (inside machine.now run) w (Ok result) machine.now }
+    ensures small { Grows machine.now.levels (Ok result) machine.now }
+{
+    let _ = machine;
+    Doing::Give(value)
+}
+
+/// Evaluates this next in a context of its own; the machine's comes back after it.
+fn enter_effect(machine: &mut Machine, context: Context, next: Task) -> Result<Doing, Stop>
+    ensures leads { (run : Run) (w : State)
+        → ((t : ℕ) → meaning machine.old.room context next w t ≡ run w t)
+        → Leads (inside machine.old run) w result machine.new }
+    ensures small { Grows machine.old.levels result machine.new }
+{
+    let room = machine.room;
+    let saved = mem::replace(&mut machine.context, context);
+    let frame = Frame::Known(saved);
+    machine.levels.push(Level { frame, room })?;
+    Ok(Doing::Start(next))
+}
+
+/// Evaluates the forms of a body, of which this is the first, in a context of their own.
+fn enter_body(
+    machine: &mut Machine,
+    context: Context,
+    first: Form,
+    rest: Forms,
+) -> Result<Doing, Stop>
+    ensures leads { (run : Run) (w : State)
+        → ((t : ℕ) → then_do (meaning machine.old.room context (Plain first) w t) (λ v. sequence (meaning machine.old.room) context rest v) ≡ run w t)
+        → Leads (inside machine.old run) w result machine.new }
+    ensures small { Grows machine.old.levels result machine.new }
+{
+    let room = machine.room;
+    let saved = mem::replace(&mut machine.context, context);
+    let frame = Frame::Body(rest, saved);
+    machine.levels.push(Level { frame, room })?;
+    Ok(Doing::Start(Task::Plain(first)))
+}
+
+/// A form begins.
+#[tactic(auto, using(crate::proofs::Turns::stopped_through))]
+fn start_form(
+    alloc: Global,
+    machine: &mut Machine,
+    world: &World,
+    form: &Form,
+) -> Result<Doing, Stop>
+    ensures leads { Leads (inside machine.old (body (meaning machine.old.room) machine.old.context form.now)) (seen world.now) result machine.new }
+    ensures small { Grows machine.old.levels result machine.new }
+{
+    match form.node() {
+        Node::Constant(value) => Ok(done(machine, value.copy()?)),
+        Node::NoValue => Err(Stop::Refused(plain(alloc, ConditionKind::Unsupported))),
+        Node::Variable(name) => variable(alloc, machine, world, name),
+        Node::Princ(inner) => {
+            let next = Task::Plain(inner.copy()?);
+            begin(machine, next, Frame::Princ)
+        }
+        Node::MakeInstance(inner) => {
+            let next = Task::Plain(inner.copy()?);
+            begin(machine, next, Frame::MakeInstance)
+        }
+        Node::Call(name, forms) => collect_next(
+            alloc,
+            machine,
+            world,
+            name.copy()?,
+            forms,
+            Values::new(alloc),
+        ),
+    }
+}
+
+/// A variable gives its value.
+#[tactic(auto, using(crate::proofs::Turns::stopped_through))]
+fn variable(alloc: Global, machine: &mut Machine, world: &World, name: &Name) -> Result<Doing, Stop>
+    ensures leads { Leads (inside machine.old (variable_value name.now (argument_named machine.old.context.parameters machine.old.context.arguments name.now))) (seen world.now) result machine.new }
+    ensures small { Grows machine.old.levels result machine.new }
+{
+    let _ = world;
+    match machine.context.argument(name) {
+        Some(value) => Ok(Doing::Give(value.copy()?)),
+        None => {
+            let condition = about_name(alloc, ConditionKind::UnboundVariable, name)?;
+            Err(Stop::Refused(condition))
+        }
+    }
+}
+
+/// The next argument of a call, or the call itself.
+fn collect_next(
+    alloc: Global,
+    machine: &mut Machine,
+    world: &World,
+    name: Name,
+    forms: &Forms,
+    values: Values,
+) -> Result<Doing, Stop>
+    ensures leads { (run : Run)
+        → ((t : ℕ) → collect (meaning machine.old.room) machine.old.context forms.now values (called (meaning machine.old.room) name) (seen world.now) t ≡ run (seen world.now) t)
+        → Leads (inside machine.old run) (seen world.now) result machine.new }
+    ensures small { Grows machine.old.levels result machine.new }
+{
+    match forms.split_first() {
+        None => call(alloc, machine, world, &name, values),
+        Some((first, others)) => {
+            let next = Task::Plain(first.copy()?);
+            let rest = others.copy()?;
+            begin(machine, next, Frame::Collect(name, rest, values))
+        }
+    }
+}
+
+/// A call of the function of this name.
+#[tactic(auto, using(crate::proofs::Turns::stopped_through))]
+fn call(
+    alloc: Global,
+    machine: &mut Machine,
+    world: &World,
+    name: &Name,
+    values: Values,
+) -> Result<Doing, Stop>
+    ensures leads { Leads (inside machine.old (called (meaning machine.old.room) name.now values)) (seen world.now) result machine.new }
+    ensures small { Grows machine.old.levels result machine.new }
+{
+    match generic_named(&world.generics, name) {
+        None => {
+            let condition = about_name(alloc, ConditionKind::UndefinedFunction, name)?;
+            Err(Stop::Refused(condition))
+        }
+        Some(id) => match world.generics.get(id.0 as usize) {
+            None => Err(Stop::Refused(plain(alloc, ConditionKind::ProgramError))),
+            Some(generic) => call_generic(alloc, machine, world, generic, values),
+        },
+    }
+}
+
+/// A call of a generic function: its applicable methods are worked out and combined (HyperSpec 7.6.6).
+#[tactic(auto, using(crate::proofs::Turns::stopped_through))]
+fn call_generic(
+    alloc: Global,
+    machine: &mut Machine,
+    world: &World,
+    generic: &Generic,
+    values: Values,
+) -> Result<Doing, Stop>
+    ensures leads { Leads (inside machine.old (called_generic (meaning machine.old.room) values (Some generic.now))) (seen world.now) result machine.new }
+    ensures small { Grows machine.old.levels result machine.new }
+{
+    if values.len() as u64 != generic.required {
+        return Err(Stop::Refused(plain(alloc, ConditionKind::ProgramError)));
+    }
+    let arguments = Arguments::new(alloc, values)?;
+    let next = dispatch(alloc, world, generic, &arguments)?;
+    let parameters = Parameters::none();
+    let context = Context {
+        parameters,
+        arguments,
+    };
+    enter_effect(machine, context, next)
+}
+
+/// The effective form of a call, or the call of no-applicable-method.
+fn dispatch(
+    alloc: Global,
+    world: &World,
+    generic: &Generic,
+    arguments: &Arguments,
+) -> Result<Task, AllocError>
+    ensures { IfOk result (λ r. r ≡ dispatched generic.now.name arguments.now (ordered (seen world.now).methods (lists_of (seen world.now) arguments.now) generic.now.methods)) }
+{
+    let lists = world.precedence_lists(alloc, arguments.as_slice())?;
+    let mut order = ordered_methods(alloc, &world.methods, &lists, &generic.methods)?;
+    if order.len() == 0 {
+        let name = generic.name.copy()?;
+        let arguments = arguments.copy()?;
+        return Ok(Task::System(SystemCall::SignalNoApplicable(name, arguments)));
+    }
+    let method = order.get(0);
+    order.remove(0);
+    Ok(Task::Effect(combined(alloc, method, order)?))
+}
+
+/// An effective form begins.
+fn start_effective(
+    alloc: Global,
+    machine: &mut Machine,
+    world: &World,
+    form: &EffectiveForm,
+) -> Result<Doing, Stop>
+    ensures leads { Leads (inside machine.old (combined (meaning machine.old.room) machine.old.context form.now)) (seen world.now) result machine.new }
+    ensures small { Grows machine.old.levels result machine.new }
+{
+    match form.node() {
+        EffectiveNode::CallMethod(method, _next) => run_method(alloc, machine, world, *method),
+        EffectiveNode::Progn(inner) => {
+            let next = Task::Effect(inner.copy()?);
+            begin(machine, next, Frame::Passing)
+        }
+        EffectiveNode::Prog1(inner) => {
+            let next = Task::Effect(inner.copy()?);
+            begin(machine, next, Frame::Passing)
+        }
+    }
+}
+
+/// A method runs on the arguments of its effective form.
+#[tactic(auto, using(crate::proofs::Turns::stopped_through))]
+fn run_method(
+    alloc: Global,
+    machine: &mut Machine,
+    world: &World,
+    id: MethodId,
+) -> Result<Doing, Stop>
+    ensures leads { Leads (inside machine.old (method_run (meaning machine.old.room) machine.old.context.arguments (slice_get (seen world.now).methods id.0))) (seen world.now) result machine.new }
+    ensures small { Grows machine.old.levels result machine.new }
+{
+    match method_numbered(&world.methods, id) {
+        None => Err(Stop::Refused(plain(alloc, ConditionKind::ProgramError))),
+        Some(method) => run_body(machine, world, method),
+    }
+}
+
+/// The body of a method begins, with its parameters bound to the arguments.
+fn run_body(machine: &mut Machine, world: &World, method: &Method) -> Result<Doing, Stop>
+    ensures leads { (run : Run)
+        → ((t : ℕ) → method_run (meaning machine.old.room) machine.old.context.arguments (Some method.now) (seen world.now) t ≡ run (seen world.now) t)
+        → Leads (inside machine.old run) (seen world.now) result machine.new }
+    ensures small { Grows machine.old.levels result machine.new }
+{
+    let _ = world;
+    match method.body.split_first() {
+        None => Ok(done(machine, Value::List(Items::new()))),
+        Some((first, others)) => {
+            let parameters = method.parameters.copy()?;
+            let arguments = machine.context.arguments.copy()?;
+            let context = Context {
+                parameters,
+                arguments,
+            };
+            let first = first.copy()?;
+            let rest = others.copy()?;
+            enter_body(machine, context, first, rest)
+        }
+    }
+}
+
+/// The effective form of a system generic function begins.
+#[tactic(auto, using(crate::proofs::Turns::stopped_through))]
+fn start_system(
+    alloc: Global,
+    machine: &mut Machine,
+    world: &World,
+    call: SystemCall,
+) -> Result<Doing, Stop>
+    ensures leads { Leads (inside machine.old (system (meaning machine.old.room) machine.old.context call)) (seen world.now) result machine.new }
+    ensures small { Grows machine.old.levels result machine.new }
+{
+    let _ = world;
+    match call {
+        SystemCall::SignalNoApplicable(name, arguments) => {
+            let kind = ConditionKind::NoApplicableMethod;
+            let condition = about_call(alloc, kind, &name, arguments.as_slice())?;
+            Err(Stop::Refused(condition))
+        }
+        SystemCall::Initialize(id) => {
+            let next = Task::System(SystemCall::InitializeShared(id));
+            begin(machine, next, Frame::Passing)
+        }
+        SystemCall::InitializeShared(id) => Ok(done(machine, Value::Instance(id))),
+    }
+}
+
+/// A task begins, with less room.
+pub fn start(alloc: Global, machine: &mut Machine, world: &World, task: Task) -> Result<Doing, Stop>
+    ensures leads { Leads (inside machine.old (begun (meaning machine.old.room) machine.old.context task)) (seen world.now) result machine.new }
+    ensures small { Grows machine.old.levels result machine.new }
+{
+    match task {
+        Task::Plain(form) => start_form(alloc, machine, world, &form),
+        Task::Effect(form) => start_effective(alloc, machine, world, &form),
+        Task::System(call) => start_system(alloc, machine, world, call),
+    }
+}
+
+/// The rest of a body follows the value of one of its forms.
+pub fn next_of_body(
+    machine: &mut Machine,
+    world: &World,
+    rest: &Forms,
+    saved: Context,
+    value: Value,
+) -> Result<Doing, Stop>
+    ensures leads { Leads (given_to machine.old (Body rest.now saved) (value_of value)) (seen world.now) result machine.new }
+    ensures small { Grows machine.old.levels result machine.new }
+{
+    let _ = world;
+    match rest.split_first() {
+        None => {
+            machine.context = saved;
+            Ok(Doing::Give(value))
+        }
+        Some((first, others)) => {
+            let room = machine.room;
+            let next = Task::Plain(first.copy()?);
+            let rest = others.copy()?;
+            let frame = Frame::Body(rest, saved);
+            machine.levels.push(Level { frame, room })?;
+            Ok(Doing::Start(next))
+        }
+    }
+}
+
+/// The next argument's value is there.
+pub fn next_argument(
+    alloc: Global,
+    machine: &mut Machine,
+    world: &World,
+    name: Name,
+    rest: &Forms,
+    mut values: Values,
+    value: Value,
+) -> Result<Doing, Stop>
+    ensures leads { (run : Run)
+        → ((t : ℕ) → collect (meaning machine.old.room) machine.old.context rest.now (values ++ value_of value ∷ []) (called (meaning machine.old.room) name) (seen world.now) t ≡ run (seen world.now) t)
+        → Leads (inside machine.old run) (seen world.now) result machine.new }
+    ensures small { Grows machine.old.levels result machine.new }
+{
+    values.push(value)?;
+    collect_next(alloc, machine, world, name, rest, values)
+}

@@ -1,0 +1,15 @@
+//! The meaning of forms: the state of a session, and the machine that evaluates forms in it.
+#![tactic(auto)]
+
+pub mod arguments;
+pub mod class;
+pub mod condition;
+mod control;
+mod effective;
+pub mod eval;
+pub mod form;
+pub mod generic;
+pub mod limits;
+mod machine;
+pub mod predefined;
+pub mod world;

@@ -1,0 +1,115 @@
+//! The machine that evaluates forms without recursion: what comes next, and the levels that wait for values.
+ghost use Rattle.std.specs.Prelude.{◌≡◌, ◌∷◌, [], ℕ, ◌<◌, ◌≤◌, length, OnOk, OnErr, IfOk, MatchOption};
+
+use crate::arguments::{Arguments, Context, Values};
+use crate::effective::EffectiveForm;
+use crate::form::{Form, Forms};
+use lisp_data::{InstanceId, Name, Value};
+use std::alloc::{AllocError, Global};
+use std::marker::Model;
+
+/// What is evaluated.
+#[derive(Drop)]
+pub enum Task {
+    Plain(Form),
+    Effect(EffectiveForm),
+    System(SystemCall),
+}
+
+/// The effective form of a call of a system generic function, whose one method is the system's.
+#[derive(Drop)]
+pub enum SystemCall {
+    /// The function no-applicable-method, of the generic function of this name and its arguments.
+    SignalNoApplicable(Name, Arguments),
+    /// The function initialize-instance.
+    Initialize(InstanceId),
+    /// The function shared-initialize.
+    InitializeShared(InstanceId),
+}
+
+/// What comes next.
+#[derive(Drop)]
+pub enum Doing {
+    Start(Task),
+    /// The value goes to the top level.
+    Give(Value),
+}
+
+/// What is done with a value when it is there.
+#[derive(Drop)]
+pub enum Frame {
+    /// Its text is written.
+    Princ,
+    /// An instance of the class that it designates is made.
+    MakeInstance,
+    /// It is the next argument of the function of this name.
+    Collect(Name, Forms, Values),
+    /// The rest of a method's body follows; the context goes back to the caller's.
+    Body(Forms, Context),
+    /// The context goes back to the caller's.
+    Known(Context),
+    /// Nothing.
+    Passing,
+}
+
+/// A frame, and the room for depth of what it waits for.
+#[derive(Drop)]
+pub struct Level {
+    pub frame: Frame,
+    pub room: u64,
+}
+
+/// The levels that wait. Contracts see the list, the top one first.
+#[derive(Drop)]
+pub struct Levels {
+    levels: Vec<Level>,
+}
+
+impl Model for Levels {
+    ghost use Rattle.std.specs.Prelude.{List, reverse};
+    ghost use Rattle.clos_eval.specs.declared.machine.Level.{Level};
+    ghost use Rattle.std.specs.Coded.{coded_list};
+    ghost use Rattle.clos_eval.specs.contracts.machine.Level as level;
+
+    ghost Value = { List Level };
+
+    ghost coded = { coded_list level.the_row.coded };
+
+    ghost view = { λ a. reverse a.levels.items };
+}
+
+impl Levels {
+    /// No levels.
+    pub fn new(alloc: Global) -> Levels
+        ensures { result ≡ [] }
+    {
+        Levels {
+            levels: Vec::new(alloc),
+        }
+    }
+
+    /// One more level on top.
+    pub fn push(&mut self, level: Level) -> Result<(), AllocError>
+        ensures ok { OnOk result (self.new ≡ level ∷ self.old) }
+        ensures err { OnErr result (self.new ≡ self.old) }
+    {
+        self.levels.push(level)?;
+        Ok(())
+    }
+
+    /// Takes off the top level.
+    pub fn pop(&mut self) -> Option<Level>
+        ensures { MatchOption result ((self.old ≡ []) × (self.new ≡ [])) (λ l. self.old ≡ l ∷ self.new) }
+    {
+        self.levels.pop()
+    }
+}
+
+/// A state of the machine.
+#[derive(Drop)]
+pub struct Machine {
+    pub levels: Levels,
+    pub context: Context,
+    /// How many more forms may nest.
+    pub room: u64,
+}
