@@ -1,5 +1,5 @@
 -- The variables of let, let*, setq and dotimes (HyperSpec 5.3, 6.2).
-use Rattle.std.specs.Prelude.{List, [], ◌∷◌, ◌++◌, map, Bool, true, not, ◌&&◌, Option, Some, None, is_some, codes, if◌then◌else◌}
+use Rattle.std.specs.Prelude.{List, [], ◌∷◌, ◌++◌, Bool, true, not, ◌&&◌, Option, Some, None, is_some, codes, if◌then◌else◌}
 use Rattle.std.specs.List.{list_any}
 use Rattle.lisp_data.specs.Name.{Nam, same_name}
 use Rattle.lisp_data.specs.Datum.{Dat, integer, symbol, string, list, dotted, method, Dats, nil, cons}
@@ -7,7 +7,7 @@ use Rattle.clos_syntax_core.specs.Body.{body_parts}
 use Rattle.clos_syntax_core.specs.Fault.{◌>>=◌}
 use Rattle.clos_syntax_core.specs.FunctionName.{variable_in, unless_constant}
 use Rattle.clos_syntax_core.specs.Names.{is_called}
-use Rattle.clos_syntax_core.specs.Operator.{Opr, Bound, let_form, let_in_order, setq, dotimes}
+use Rattle.clos_syntax_core.specs.Operator.{Bound, let_form, let_in_order, setq, dotimes}
 use Rattle.clos_syntax_core.specs.Part.{Part, Shape, shape, in_role, optional, at_most_one}
 use Rattle.clos_syntax_core.specs.declared.part.Role.TheVariants.{Expression}
 
@@ -42,9 +42,12 @@ abbrev pub names_of : List Entry → List Nam
 names_of [] = []
 names_of (e ∷ es) = e.name ∷ names_of es
 
+abbrev pub bound_by : Entry → Bound
+bound_by e = record { name = e.name; has_init = is_some e.init }
+
 abbrev pub bounds_of : List Entry → List Bound
 bounds_of [] = []
-bounds_of (e ∷ es) = record { name = e.name; has_init = is_some e.init } ∷ bounds_of es
+bounds_of (e ∷ es) = bound_by e ∷ bounds_of es
 
 abbrev pub inits_of : List Entry → List Part
 inits_of [] = []

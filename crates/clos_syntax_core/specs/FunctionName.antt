@@ -1,5 +1,5 @@
 -- Names of functions (HyperSpec glossary, function name), and symbols where one is wanted.
-use Rattle.std.specs.Prelude.{Option, Some, None, codes, if◌then◌else◌, option_map}
+use Rattle.std.specs.Prelude.{Option, Some, None, codes, if◌then◌else◌}
 use Rattle.lisp_data.specs.Name.{Nam}
 use Rattle.lisp_data.specs.Print.{Called, by_symbol, by_setf}
 use Rattle.lisp_data.specs.Datum.{Dat, integer, symbol, string, list, dotted, method, Dats, nil, cons}

@@ -8,7 +8,6 @@ use Rattle.clos_syntax_core.specs.Form.{Frm, form, Frms, nil, cons}
 use Rattle.clos_syntax_core.specs.Part.{Part, in_roles}
 use Rattle.clos_syntax_core.specs.Shape.{shape_of}
 use Rattle.clos_syntax_core.specs.declared.part.Context.{Context}
-use Rattle.clos_syntax_core.specs.declared.part.Role.{Role}
 use Rattle.clos_syntax_core.specs.declared.part.Role.TheVariants.{Expression}
 
 -- the form of each part, where each has one, before these forms

@@ -1,5 +1,5 @@
 -- What a datum is as a form, by its operator (HyperSpec 3.1.2.1).
-use Rattle.std.specs.Prelude.{List, [], Option, Some, None, nat_le, ◌&&◌, option_map, if◌then◌else◌}
+use Rattle.std.specs.Prelude.{[], Option, Some, None, nat_le, ◌&&◌, if◌then◌else◌}
 use Rattle.lisp_data.specs.Name.{Nam}
 use Rattle.lisp_data.specs.Value as value
 use Rattle.lisp_data.specs.Value.{Val}

@@ -3,9 +3,10 @@ ghost use Rattle.std.specs.Prelude.{◌≡◌, ◌++◌, OnOk, IfOk, map, option
 ghost use Rattle.std.specs.List.{list_any};
 ghost use Rattle.lisp_data.specs.DatumView.{datum_of};
 ghost use Rattle.lisp_data.specs.Name.{same_name};
-ghost use Rattle.clos_syntax_core.specs.Binding.{are_distinct, assignments_in, binding_in, bounds_of, counted, counter_in, dotimes_shape, dotimes_with, each, each_in, inits_of, let_in_order_shape, let_shape, let_with, listed_binding, listed_counter, names_of, setq_shape};
+ghost use Rattle.clos_syntax_core.specs.Binding.{are_distinct, assignments_in, binding_in, bound_by, bounds_of, counted, counter_in, dotimes_shape, dotimes_with, each, each_in, inits_of, let_in_order_shape, let_shape, let_with, listed_binding, listed_counter, names_of, setq_shape};
 ghost use Rattle.clos_syntax_core.specs.BindingView.{counter_of, entry_of};
 ghost use Rattle.clos_syntax_core.specs.Body.{body_parts};
+ghost use Rattle.clos_syntax_core.specs.BoundView.{bound};
 ghost use Rattle.clos_syntax_core.specs.Fault.{Gives};
 ghost use Rattle.clos_syntax_core.specs.PartView.{part_of, shape_told};
 
@@ -80,10 +81,7 @@ pub(crate) fn let_in_order_shape<'a>(
 }
 
 /// The variables of a list of bindings, which may be written NIL.
-fn parse_bindings<'a>(
-    alloc: Global,
-    bindings: &'a Datum,
-) -> Result<Vec<Entry<'a>>, SyntaxFault>
+fn parse_bindings<'a>(alloc: Global, bindings: &'a Datum) -> Result<Vec<Entry<'a>>, SyntaxFault>
     ensures { Gives (λ es. map entry_of es.items) result (each_in binding_in (datum_of bindings.now)) }
 {
     match bindings {
@@ -158,12 +156,18 @@ fn bindings_of(alloc: Global, entries: &[Entry<'_>]) -> Result<Bindings, AllocEr
 {
     let mut bindings = Vec::new(alloc);
     for entry in entries {
-        bindings.push(Binding {
-            name: entry.name.copy()?,
-            has_init: entry.init.is_some(),
-        })?;
+        bindings.push(binding_of(*entry)?)?;
     }
     Ok(Bindings::new(bindings))
+}
+
+fn binding_of(entry: Entry<'_>) -> Result<Binding, AllocError>
+    ensures { IfOk result (λ b. bound b ≡ bound_by (entry_of entry.entry)) }
+{
+    Ok(Binding {
+        name: entry.name.copy()?,
+        has_init: entry.init.is_some(),
+    })
 }
 
 /// The values of these variables, and then a body.
@@ -223,10 +227,7 @@ pub(crate) fn setq_shape<'a>(alloc: Global, rest: &'a Data) -> Result<Shape<'a>,
 }
 
 /// Names, each with the datum of its new value.
-fn parse_assignments<'a>(
-    alloc: Global,
-    elements: &'a Data,
-) -> Result<Vec<Entry<'a>>, SyntaxFault>
+fn parse_assignments<'a>(alloc: Global, elements: &'a Data) -> Result<Vec<Entry<'a>>, SyntaxFault>
     ensures { Gives (λ es. map entry_of es.items) result (assignments_in elements.now) }
 {
     let mut entries = Vec::new(alloc);

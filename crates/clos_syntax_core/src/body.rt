@@ -1,7 +1,7 @@
 //! Bodies: what leads one and is ignored (HyperSpec 3.4.11, 3.3).
-ghost use Rattle.std.specs.Prelude.{◌≡◌, ◌++◌, OnOk, map};
+ghost use Rattle.std.specs.Prelude.{◌≡◌, ◌++◌, OnOk, map, option_map};
 ghost use Rattle.lisp_data.specs.DatumView.{datum_of};
-ghost use Rattle.clos_syntax_core.specs.Body.{body_parts, heads_declaration, is_declaration, is_declare, is_string};
+ghost use Rattle.clos_syntax_core.specs.Body.{after_string, body_of, body_parts, heads_declaration, is_declaration, is_declare, is_string};
 ghost use Rattle.clos_syntax_core.specs.PartView.{part_of};
 
 use crate::names::is_the;
@@ -13,18 +13,29 @@ use std::alloc::AllocError;
 pub(crate) fn push_body<'a>(parts: &mut Vec<Part<'a>>, forms: &'a Data) -> Result<(), AllocError>
     ensures { OnOk result (map part_of parts.new.items ≡ map part_of parts.old.items ++ body_parts forms.now) }
 {
-    let mut last: Option<&'a Datum> = None;
+    let (last, rest) = past_declarations(forms);
+    match rest.split_first() {
+        None => push_optional(parts, last),
+        Some(_) => push_parts(parts, Role::Expression, rest),
+    }
+}
+
+/// The last of the strings that lead a body, and what follows the strings and declarations that do.
+fn past_declarations(forms: &Data) -> (Option<&Datum>, &Data)
+    ensures { after_string (option_map (λ d. datum_of d.now) result.0) result.1.now ≡ body_of forms.now }
+{
+    let mut last = None;
     let mut rest = forms;
     while let Some((first, others)) = rest.split_first() {
         if !is_declaration(first) {
             if !is_string(first) {
-                return push_parts(parts, Role::Expression, rest);
+                return (last, rest);
             }
             last = Some(first);
         }
         rest = others;
     }
-    push_optional(parts, last)
+    (last, rest)
 }
 
 fn is_declaration(datum: &Datum) -> bool

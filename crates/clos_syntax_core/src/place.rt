@@ -47,11 +47,7 @@ fn listed_place(alloc: Global, elements: &Data) -> Result<Shape<'_>, SyntaxFault
 }
 
 /// A call of an operator that is no form's own.
-fn named_place<'a>(
-    alloc: Global,
-    name: &Name,
-    rest: &'a Data,
-) -> Result<Shape<'a>, SyntaxFault>
+fn named_place<'a>(alloc: Global, name: &Name, rest: &'a Data) -> Result<Shape<'a>, SyntaxFault>
     ensures { Gives shape_told result (named_place name.now rest.now) }
 {
     if is_the(name, "SLOT-VALUE") {

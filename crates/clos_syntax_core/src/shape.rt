@@ -65,11 +65,7 @@ fn symbol_operator(name: &Name) -> Result<Operator, AllocError>
 }
 
 /// A form that is its own value. The empty list is NIL.
-fn listed_shape(
-    alloc: Global,
-    context: Context,
-    elements: &Data,
-) -> Result<Shape<'_>, SyntaxFault>
+fn listed_shape(alloc: Global, context: Context, elements: &Data) -> Result<Shape<'_>, SyntaxFault>
     ensures { Gives shape_told result (listed_shape context elements.now) }
 {
     match elements.split_first() {
@@ -202,11 +198,7 @@ fn if_shape<'a>(alloc: Global, rest: &'a Data) -> Result<Shape<'a>, SyntaxFault>
 }
 
 /// At least one form.
-fn headed<'a>(
-    alloc: Global,
-    operator: Operator,
-    rest: &'a Data,
-) -> Result<Shape<'a>, SyntaxFault>
+fn headed<'a>(alloc: Global, operator: Operator, rest: &'a Data) -> Result<Shape<'a>, SyntaxFault>
     ensures { Gives shape_told result (headed (operator_of operator) rest.now) }
 {
     if rest.len() == 0 {

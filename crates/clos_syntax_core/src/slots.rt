@@ -14,14 +14,11 @@ use crate::fault::SyntaxFault;
 use crate::function_name::{only_symbol, unless_constant, variable_name};
 use crate::names::is_the;
 use crate::operator::Operator;
-use crate::part::{Role, Shape, push_part};
+use crate::part::{Part, Role, Shape, push_part};
 use lisp_data::{Data, Datum, Name};
 use std::alloc::{AllocError, Global};
 
-pub(crate) fn with_slots_shape<'a>(
-    alloc: Global,
-    rest: &'a Data,
-) -> Result<Shape<'a>, SyntaxFault>
+pub(crate) fn with_slots_shape<'a>(alloc: Global, rest: &'a Data) -> Result<Shape<'a>, SyntaxFault>
     ensures { Gives shape_told result (with_slots_shape rest.now) }
 {
     match rest.split_first() {

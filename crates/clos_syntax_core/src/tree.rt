@@ -39,7 +39,11 @@ pub fn parse_forms<'a>(
 
 /// The forms of a body, without its leading declarations, and without the leading strings that a form follows
 /// (HyperSpec 3.4.11).
-pub fn parse_body<'a>(alloc: Global, context: Context, forms: &'a Data) -> Result<Forms, SyntaxFault>
+pub fn parse_body<'a>(
+    alloc: Global,
+    context: Context,
+    forms: &'a Data,
+) -> Result<Forms, SyntaxFault>
     ensures { Gives (λ fs. fs) result (body_forms_of context forms.now) }
 {
     let mut parts: Vec<Part<'a>> = Vec::new(alloc);
@@ -49,12 +53,7 @@ pub fn parse_body<'a>(alloc: Global, context: Context, forms: &'a Data) -> Resul
 
 /// The form of a datum in its role, where there is so much room.
 #[cycle(tree)]
-fn tree_at(
-    alloc: Global,
-    room: u64,
-    context: Context,
-    part: Part<'_>,
-) -> Result<Form, SyntaxFault>
+fn tree_at(alloc: Global, room: u64, context: Context, part: Part<'_>) -> Result<Form, SyntaxFault>
     ensures { Gives (λ f. f) result (tree_at room context (part_of part.entry)) }
 {
     if room == 0 {
