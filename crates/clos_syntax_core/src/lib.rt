@@ -1,0 +1,31 @@
+//! From data to checked forms: what a datum is as a form of the language (HyperSpec 3.1.2.1).
+#![tactic(auto)]
+
+mod binding;
+mod body;
+pub mod bound;
+pub mod fault;
+pub mod form;
+pub mod function_name;
+pub mod names;
+pub mod operator;
+pub mod part;
+mod place;
+pub mod quotation;
+mod shape;
+mod slots;
+pub mod special;
+pub mod tree;
+
+pub use bound::{Binding, Bindings, Names, SlotBinding, SlotBindings};
+pub use fault::SyntaxFault;
+pub use form::{Form, Forms};
+pub use function_name::{parse_function_name, symbol_name, variable_name};
+pub use names::{
+    is_closed_function, is_definition, is_function, is_system_function, is_the, names_constant,
+};
+pub use operator::{FunctionName, Operator, Place};
+pub use part::Context;
+pub use quotation::quoted_value;
+pub use special::is_special_operator;
+pub use tree::{parse_body, parse_form, parse_forms};
