@@ -3,18 +3,28 @@ use Rattle.std.proofs.Common.{◌≡◌, ℕ, zero, suc, ◌==◌, List, [], ◌
 use Rattle.std.specs.Prelude.{nat_lt, if◌then◌else◌}
 use Rattle.lisp_data.specs.Name.{Nam}
 use Rattle.lisp_data.specs.Value.{Val}
-use Rattle.clos_eval.specs.Form.{Frms, nil, cons}
+use Rattle.lisp_data.specs.ValueView.{value_of}
+use Rattle.lisp_data.specs.Value as value
+use Rattle.lisp_prims.specs.Fault as prims
+use Rattle.lisp_prims.specs.Primitive.{answer}
+use Rattle.clos_syntax_core.specs.Form.{Frms, nil, cons, parts_in}
+use Rattle.clos_eval.specs.Callee.{callee_of, only_value}
+use Rattle.clos_eval.specs.declared.callee.Callee.{Callee}
+use Rattle.clos_eval.specs.declared.callee.Callee.TheVariants.{Output, Terpri, Primitive, MakeInstance, Defined}
+use Rattle.clos_eval.specs.declared.callee.Output as output
+use Rattle.clos_eval.specs.declared.machine.Control.{Control}
+use Rattle.clos_eval.specs.declared.machine.Control.TheVariants.{Progn, Prog1, If, When, Unless, And, Or}
 use Rattle.clos_eval.specs.Generic.{function_named, ordered}
 use Rattle.clos_eval.specs.World.{State, lists_of}
-use Rattle.clos_eval.specs.Meaning.{Out, Gave, Stopped, Run, Eval, then_do, step_then, stopped, meaning, made, designated, collect, called, called_function, called_generic, sequence, known, dispatched, allocated}
+use Rattle.clos_eval.specs.Meaning.{Out, Gave, Stopped, Run, Eval, then_do, step_then, stopped, meaning, made, designated, collect, called, called_function, called_generic, applied, answered, output_of, line_ended, instance_made, is_true, while_true, until_true, followed, branch, keeping, clauses, clause, tested, sequence, known, dispatched, allocated}
 use Rattle.clos_eval.specs.Machine.{below, passed, resume, leaves, denote}
 use Rattle.clos_eval.specs.declared.arguments.Context.{Context}
 use Rattle.clos_eval.specs.declared.condition.Condition.{Condition}
 use Rattle.clos_eval.specs.declared.condition.ConditionKind.TheVariants.{StepLimit}
 use Rattle.clos_eval.specs.declared.generic.Generic.{Generic}
-use Rattle.clos_eval.specs.declared.machine.Doing.TheVariants.{Start}
+use Rattle.clos_eval.specs.declared.machine.Doing.TheVariants.{Start, Apply}
 use Rattle.clos_eval.specs.declared.machine.Frame.{Frame}
-use Rattle.clos_eval.specs.declared.machine.Frame.TheVariants.{Princ, MakeInstance, Collect, Body, Known, Passing}
+use Rattle.clos_eval.specs.declared.machine.Frame.TheVariants.{Rest, Keep, Clause, Collect, Body, Known, Passing}
 use Rattle.clos_eval.specs.declared.machine.Level.{Level}
 use Rattle.clos_eval.specs.declared.machine.Machine.{Machine}
 use Rattle.clos_eval.specs.declared.machine.Task.{Task}
@@ -50,25 +60,90 @@ function_quiet : (n : ℕ) (name : Nam) (vs : List Val) (o : Option ℕ) (w : St
 function_quiet n name vs None w = (refl, refl)
 function_quiet n name vs (Some g) w = generic_quiet n vs (slice_get w.generics g) w
 
-collect_quiet : (n : ℕ) (env : Context) (fs : Frms) (vs : List Val) (name : Nam) (w : State) → leaves (collect (meaning n) env fs vs (called (meaning n) name) w 0) w 0
-collect_quiet n env nil vs name w = function_quiet n name vs (function_named w.generics name) w
-collect_quiet n env (cons f fs) vs name w = then_quiet n env (Plain f) (λ v. collect (meaning n) env fs (vs ++ v ∷ []) (called (meaning n) name)) w
+output_quiet : (o : output.Output) (x : Option Val) (w : State) → leaves (output_of o x w 0) w 0
+output_quiet o None w = (refl, refl)
+output_quiet o (Some v) w = (refl, refl)
+
+line_quiet : (vs : List Val) (w : State) → leaves (line_ended vs w 0) w 0
+line_quiet [] w = (refl, refl)
+line_quiet (v ∷ vs) w = (refl, refl)
+
+answered_quiet : (x : Result Val prims.Condition) (w : State) → leaves (answered x w 0) w 0
+answered_quiet (Ok v) w = (refl, refl)
+answered_quiet (Err c) w = (refl, refl)
+
+instance_quiet : (n : ℕ) (env : Context) (x : Option Val) (w : State) → leaves (instance_made (meaning n) env x w 0) w 0
+instance_quiet n env None w = (refl, refl)
+instance_quiet n env (Some v) w = made_quiet (meaning n) env (designated w v) w
+
+applied_quiet : (n : ℕ) (env : Context) (c : Callee) (name : Nam) (vs : List Val) (w : State) → leaves (applied (meaning n) env c name vs w 0) w 0
+applied_quiet n env (Output o) name vs w = output_quiet o (only_value vs) w
+applied_quiet n env Terpri name vs w = line_quiet vs w
+applied_quiet n env (Primitive p) name vs w = answered_quiet (answer p vs) w
+applied_quiet n env MakeInstance name vs w = instance_quiet n env (only_value vs) w
+applied_quiet n env Defined name vs w = function_quiet n name vs (function_named w.generics name) w
+
+collect_quiet : (n : ℕ) (env : Context) (fs : Frms) (vs : List Val) (name : Nam) (w : State) → leaves (collect (meaning n) env fs vs (called (meaning n) env name) w 0) w 0
+collect_quiet n env nil vs name w = applied_quiet n env (callee_of name) name vs w
+collect_quiet n env (cons f fs) vs name w = then_quiet n env (Plain f) (λ v. collect (meaning n) env fs (vs ++ v ∷ []) (called (meaning n) env name)) w
 
 sequence_quiet : (n : ℕ) (env : Context) (fs : Frms) (v : Val) (w : State) → leaves (sequence (meaning n) env fs v w 0) w 0
 sequence_quiet n env nil v w = (refl, refl)
 sequence_quiet n env (cons f fs) v w = then_quiet n env (Plain f) (λ u. sequence (meaning n) env fs u) w
 
+while_quiet : (n : ℕ) (env : Context) (fs : Frms) (v : Val) (w : State) → leaves (while_true (meaning n) env fs v w 0) w 0
+while_quiet n env nil v w = (refl, refl)
+while_quiet n env (cons f fs) v w = then_quiet n env (Plain f) (λ u t k. if is_true u then while_true (meaning n) env fs u t k else Gave u t k) w
+
+until_quiet : (n : ℕ) (env : Context) (fs : Frms) (v : Val) (w : State) → leaves (until_true (meaning n) env fs v w 0) w 0
+until_quiet n env nil v w = (refl, refl)
+until_quiet n env (cons f fs) v w = then_quiet n env (Plain f) (λ u t k. if is_true u then Gave u t k else until_true (meaning n) env fs u t k) w
+
+keeping_quiet : (n : ℕ) (env : Context) (fs : Frms) (v : Val) (w : State) → leaves (keeping (meaning n) env fs v w 0) w 0
+keeping_quiet n env nil v w = (refl, refl)
+keeping_quiet n env (cons f fs) v w = then_quiet n env (Plain f) (λ u. keeping (meaning n) env fs v) w
+
+branch_quiet : (n : ℕ) (env : Context) (b : Bool) (fs : Frms) (w : State) → leaves (branch (meaning n) env b fs w 0) w 0
+branch_quiet n env b nil w = (refl, refl)
+branch_quiet n env true (cons f fs) w = task_quiet n env (Plain f) w
+branch_quiet n env false (cons f fs) w = sequence_quiet n env fs (value.list value.nil) w
+
+followed_quiet : (n : ℕ) (env : Context) (c : Control) (fs : Frms) (v : Val) (w : State) → leaves (followed (meaning n) env c fs v w 0) w 0
+followed_quiet n env Progn fs v w = sequence_quiet n env fs v w
+followed_quiet n env Prog1 fs v w = keeping_quiet n env fs v w
+followed_quiet n env If fs v w = branch_quiet n env (is_true v) fs w
+followed_quiet n env When fs v w =
+    choice_quiet (is_true v) (sequence (meaning n) env fs (value.list value.nil) w 0) _ w (sequence_quiet n env fs (value.list value.nil) w) (refl, refl)
+followed_quiet n env Unless fs v w =
+    choice_quiet (is_true v) _ (sequence (meaning n) env fs (value.list value.nil) w 0) w (refl, refl) (sequence_quiet n env fs (value.list value.nil) w)
+followed_quiet n env And fs v w = choice_quiet (is_true v) (while_true (meaning n) env fs v w 0) _ w (while_quiet n env fs v w) (refl, refl)
+followed_quiet n env Or fs v w = choice_quiet (is_true v) _ (until_true (meaning n) env fs v w 0) w (refl, refl) (until_quiet n env fs v w)
+
+clause_quiet : (n : ℕ) (env : Context) (fs : Frms) (rest : Run) (w : State) → leaves (clause (meaning n) env fs rest w 0) w 0
+clause_quiet n env nil rest w = (refl, refl)
+clause_quiet n env (cons f fs) rest w = then_quiet n env (Plain f) (λ v. tested (meaning n) env fs rest v) w
+
+clauses_quiet : (n : ℕ) (env : Context) (cs : Frms) (w : State) → leaves (clauses (meaning n) env cs w 0) w 0
+clauses_quiet n env nil w = (refl, refl)
+clauses_quiet n env (cons c cs) w = clause_quiet n env (parts_in c) (λ t k. clauses (meaning n) env cs t k) w
+
+tested_quiet : (n : ℕ) (env : Context) (fs cs : Frms) (v : Val) (w : State) → leaves (tested (meaning n) env fs (clauses (meaning n) env cs) v w 0) w 0
+tested_quiet n env fs cs v w =
+    choice_quiet (is_true v) (sequence (meaning n) env fs v w 0) (clauses (meaning n) env cs w 0) w (sequence_quiet n env fs v w) (clauses_quiet n env cs w)
+
 given_quiet : (n : ℕ) (env : Context) (f : Frame) (v : Val) (w : State) → leaves (passed (meaning n) env f (Gave v w 0)) w 0
-given_quiet n env Princ v w = (refl, refl)
-given_quiet n env MakeInstance v w = made_quiet (meaning n) env (designated w v) w
+given_quiet n env (Rest c fs) v w = followed_quiet n env c fs v w
+given_quiet n env (Keep fs u) v w = keeping_quiet n env fs (value_of u) w
+given_quiet n env (Clause fs cs) v w = tested_quiet n env fs cs v w
 given_quiet n env (Collect name rest values) v w = collect_quiet n env rest (values ++ v ∷ []) name w
 given_quiet n env (Body rest saved) v w = sequence_quiet n env rest v w
 given_quiet n env (Known saved) v w = (refl, refl)
 given_quiet n env Passing v w = (refl, refl)
 
 stop_quiet : (n : ℕ) (env : Context) (f : Frame) (c : Condition) (u : State) (k : ℕ) (w : State) → leaves (Stopped c u k) w 0 → leaves (passed (meaning n) env f (Stopped c u k)) w 0
-stop_quiet n env Princ c u k w h = h
-stop_quiet n env MakeInstance c u k w h = h
+stop_quiet n env (Rest d fs) c u k w h = h
+stop_quiet n env (Keep fs v) c u k w h = h
+stop_quiet n env (Clause fs cs) c u k w h = h
 stop_quiet n env (Collect name rest values) c u k w h = h
 stop_quiet n env (Body rest saved) c u k w h = h
 stop_quiet n env (Known saved) c u k w h = h
@@ -83,6 +158,9 @@ passed_quiet n env f (Gave v u k) w h =
 resume_quiet : (ls : List Level) (env : Context) (o : Out) (w : State) → leaves o w 0 → leaves (resume ls env o) w 0
 resume_quiet [] env o w h = h
 resume_quiet (l ∷ ls) env o w h = resume_quiet ls (below env l.frame) (passed (meaning l.room) env l.frame o) w (passed_quiet l.room env l.frame o w h)
+
+pub apply_quiet : (m : Machine) (name : Nam) (vs : List Val) (w : State) → leaves (denote m (Apply name vs) w 0) w 0
+apply_quiet m name vs w = resume_quiet m.levels m.context (called (meaning m.room) m.context name vs w 0) w (applied_quiet m.room m.context (callee_of name) name vs w)
 
 -- where the machine starts a task, or gives a value
 pub start_quiet : (m : Machine) (task : Task) (w : State) → leaves (denote m (Start task) w 0) w 0

@@ -1,5 +1,5 @@
 -- How the turns of the machine make a run.
-use Rattle.std.proofs.Common.{◌≡◌, ℕ, zero, suc, ◌+◌, ◌-◌, ◌<◌, ◌≤◌, List, [], ◌∷◌, Result, Ok, Err, length, refl, ap, sym, subst, ◌∙◌, add_assoc, add-zero, arith}
+use Rattle.std.proofs.Common.{◌≡◌, map, Option, Some, None, ℕ, zero, suc, ◌+◌, ◌-◌, ◌<◌, ◌≤◌, List, [], ◌∷◌, Result, Ok, Err, length, refl, ap, sym, subst, ◌∙◌, add_assoc, add-zero, arith}
 use Rattle.std.specs.Prelude.{if◌then◌else◌}
 use Rattle.std.proofs.lemmas.Bool.{le-ltb, lt-ltb}
 use Rattle.lisp_data.specs.Value.{Val, Vals, nil, list}
@@ -8,17 +8,23 @@ use Rattle.lisp_data.specs.declared.value.Value.{Value}
 use Rattle.lisp_data.specs.Name.{Nam}
 use Rattle.lisp_data.specs.declared.ids.ClassId.{ClassId}
 use Rattle.clos_eval.specs.Class.{named}
-use Rattle.clos_eval.specs.Condition.{nil_name}
+use Rattle.lisp_prims.specs.Fault as prims
+use Rattle.lisp_prims.specs.Fault.{StandsFor, AnswersUnlessMemory}
+use Rattle.lisp_prims.specs.declared.fault.PrimFault.{PrimFault}
+use Rattle.lisp_prims.specs.declared.fault.PrimFault.TheVariants as prims_fault
+use Rattle.lisp_prims.specs.declared.fault.PrimFault.TheVariants.{Memory}
+use Rattle.clos_eval.specs.Condition.{nil_name, condition_of, Signals}
+use Rattle.clos_eval.specs.declared.callee.Output.{Output}
+use Rattle.clos_eval.specs.declared.condition.Condition.{Condition}
 use Rattle.clos_eval.specs.World.{State}
-use Rattle.clos_eval.specs.Meaning.{Gave, Stopped, Run, Eval, step_then, stopped, meaning, begun, made, designated, class_found, written, allocated}
+use Rattle.clos_eval.specs.Meaning.{Gave, Stopped, Run, Eval, step_then, stopped, meaning, begun, made, designated, class_found, written, output_of, line_ended, answered, instance_made, allocated}
 use Rattle.clos_eval.specs.Machine.{resume, inside, denote, given_to, leaves, Leads, Turns, Changes, Designates, Answers, Reached}
 use Rattle.clos_eval.specs.declared.arguments.Context.{Context}
-use Rattle.clos_eval.specs.declared.condition.ConditionKind.TheVariants.{StepLimit, DepthLimit, TableLimit}
+use Rattle.clos_eval.specs.declared.condition.ConditionKind.TheVariants.{ProgramError, Unsupported, StepLimit, DepthLimit, TableLimit}
 use Rattle.clos_eval.specs.declared.condition.Stop.{Stop}
 use Rattle.clos_eval.specs.declared.condition.Stop.TheVariants.{Refused, Storage}
 use Rattle.clos_eval.specs.declared.machine.Doing.{Doing}
 use Rattle.clos_eval.specs.declared.machine.Doing.TheVariants.{Start, Give}
-use Rattle.clos_eval.specs.declared.machine.Frame.TheVariants.{Princ}
 use Rattle.clos_eval.specs.declared.machine.Level.{Level}
 use Rattle.clos_eval.specs.declared.machine.Machine.{Machine}
 use Rattle.clos_eval.specs.declared.machine.Task.{Task}
@@ -34,23 +40,62 @@ turns_of_leads run w s (Ok d) m h = (0, sym (omega arith), λ t. h t ∙ ap (run
 turns_of_leads run w s (Err (Refused c)) m h = h s
 turns_of_leads run w s (Err Storage) m h = (refl, refl)
 
--- ---- the value of a princ form is written
+-- ---- bytes are written
 
-pub wrote : (m : Machine) (value : Value) (w : State) (s : ℕ) (w' : State) (s' : ℕ) → Changes (written (value_of value)) (value_of value) w s (Ok tt) w' s'
-    → Turns (given_to m Princ (value_of value)) w s (Ok (Give value)) m w' s'
-wrote m value w s w' s' h = (
+pub wrote : (m : Machine) (bytes : List ℕ) (value : Value) (w : State) (s : ℕ) (w' : State) (s' : ℕ)
+    → Changes (written bytes (value_of value)) (value_of value) w s (Ok tt) w' s'
+    → Turns (inside m (step_then (written bytes (value_of value)))) w s (Ok (Give value)) m w' s'
+wrote m bytes value w s w' s' h = (
   1,
   h.0 ∙ omega arith,
   λ t. sym (ap (resume m.levels m.context)
-      (ap (λ k. step_then (written (value_of value)) w k) (one_more t) ∙ h.1 t)),
+      (ap (λ k. step_then (written bytes (value_of value)) w k) (one_more t) ∙ h.1 t)),
 )
 
-pub not_written : (m : Machine) (v : Val) (w : State) (s : ℕ) (stop : Stop) (w' : State) (s' : ℕ) (m' : Machine) → Changes (written v) v w s (Err stop) w' s'
-    → Turns (given_to m Princ v) w s (Err stop) m' w' s'
-not_written m v w s (Refused c) w' s' m' h =
+pub not_written : (m : Machine) (bytes : List ℕ) (v : Val) (w : State) (s : ℕ) (stop : Stop) (w' : State) (s' : ℕ) (m' : Machine) → Changes (written bytes v) v w s (Err stop) w' s'
+    → Turns (inside m (step_then (written bytes v))) w s (Err stop) m' w' s'
+not_written m bytes v w s (Refused c) w' s' m' h =
     ap (resume m.levels m.context) h.2 ∙ stopped_through m.levels m.context c w s
     ∙ ap (λ u. Stopped c u s) (sym h.0) ∙ ap (λ k. Stopped c w' k) (sym h.1)
-not_written m v w s Storage w' s' m' h = h
+not_written m bytes v w s Storage w' s' m' h = h
+
+-- ---- a call that is refused
+
+pub nothing_printed : (m : Machine) (o : Output) (x : Option Val) (c : Condition) (w : State) (s : ℕ) → None ≡ x → c ≡ record { kind = ProgramError; items = [] }
+    → inside m (output_of o x) w s ≡ Stopped c w s
+nothing_printed m o None c w s e k = stopped_through m.levels m.context (record { kind = ProgramError; items = [] }) w s ∙ ap (λ d. Stopped d w s) (sym k)
+nothing_printed m o (Some v) c w s e k = cc
+
+pub line_refused : (m : Machine) (xs : List Value) (vs : List Val) (c : Condition) (w : State) (s : ℕ) → 1 ≤ length xs → map value_of xs ≡ vs
+    → c ≡ record { kind = ProgramError; items = [] } → inside m (line_ended vs) w s ≡ Stopped c w s
+line_refused m [] vs c w s h e k = absurd (omega (arith, h))
+line_refused m (x ∷ xs) vs c w s h e k =
+    subst (λ us. inside m (line_ended us) w s ≡ Stopped c w s) e
+    (stopped_through m.levels m.context (record { kind = ProgramError; items = [] }) w s ∙ ap (λ d. Stopped d w s) (sym k))
+
+pub nothing_made : (m : Machine) (ev : Eval) (env : Context) (x : Option Val) (c : Condition) (w : State) (s : ℕ) → None ≡ x → c ≡ record { kind = Unsupported; items = [] }
+    → inside m (instance_made ev env x) w s ≡ Stopped c w s
+nothing_made m ev env None c w s e k = stopped_through m.levels m.context (record { kind = Unsupported; items = [] }) w s ∙ ap (λ d. Stopped d w s) (sym k)
+nothing_made m ev env (Some v) c w s e k = cc
+
+signalled : (m : Machine) (c : prims.Condition) (d : Condition) (w : State) (t : ℕ) → d ≡ condition_of c → inside m (answered (Err c)) w t ≡ Stopped d w t
+signalled m c d w t h = stopped_through m.levels m.context (condition_of c) w t ∙ ap (λ x. Stopped x w t) (sym h)
+
+pub not_computed : (m m' : Machine) (x : Result Val prims.Condition) (f : PrimFault) (stop : Stop) (w : State)
+    → AnswersUnlessMemory {A = Value} value_of (Err f) x → ((c : prims.Condition) → StandsFor f c → Signals c stop) → (f ≡ Memory → stop ≡ Storage)
+    → Leads (inside m (answered x)) w (Err stop) m'
+not_computed m m' x f Storage w a h k = tt
+not_computed m m' x Memory (Refused d) w a h k = absurd (cc (k refl))
+not_computed m m' (Ok v) prims_fault.ProgramError (Refused d) w a h k = absurd a
+not_computed m m' (Err c) prims_fault.ProgramError (Refused d) w a h k = λ t. signalled m c d w t (h c a)
+not_computed m m' (Ok v) (prims_fault.TypeError u) (Refused d) w a h k = absurd a
+not_computed m m' (Err c) (prims_fault.TypeError u) (Refused d) w a h k = λ t. signalled m c d w t (h c a)
+not_computed m m' (Ok v) prims_fault.IntegerRange (Refused d) w a h k = absurd a
+not_computed m m' (Err c) prims_fault.IntegerRange (Refused d) w a h k = λ t. signalled m c d w t (h c a)
+not_computed m m' (Ok v) prims_fault.DivisionByZero (Refused d) w a h k = absurd a
+not_computed m m' (Err c) prims_fault.DivisionByZero (Refused d) w a h k = λ t. signalled m c d w t (h c a)
+not_computed m m' (Ok v) prims_fault.Unsupported (Refused d) w a h k = absurd a
+not_computed m m' (Err c) prims_fault.Unsupported (Refused d) w a h k = λ t. signalled m c d w t (h c a)
 
 -- ---- an instance is made
 

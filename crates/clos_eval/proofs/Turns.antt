@@ -1,12 +1,16 @@
 -- Outcomes through the levels of the machine.
-use Rattle.std.proofs.Common.{◌≡◌, ℕ, List, [], ◌∷◌, Option, Some, None, refl, ap, sym, ◌∙◌}
+use Rattle.std.proofs.Common.{◌≡◌, ◌≤◌, ◌+◌, ◌*◌, ℕ, length, arith, Result, Ok, Err, List, [], ◌∷◌, Option, Some, None, refl, ap, sym, ◌∙◌}
 use Rattle.clos_eval.specs.World.{State}
-use Rattle.clos_eval.specs.Meaning.{Eval, Stopped, meaning, method_run}
-use Rattle.clos_eval.specs.Machine.{below, passed, resume, inside}
+use Rattle.clos_syntax_core.specs.Form.{Frms, nil, cons}
+use Rattle.clos_eval.specs.Meaning.{Eval, Stopped, meaning, method_run, sequence, while_true, until_true, going}
+use Rattle.clos_eval.specs.declared.machine.Control.TheVariants.{Progn, And, Or}
+use Rattle.clos_eval.specs.Machine.{below, passed, resume, inside, Grows}
+use Rattle.clos_eval.specs.declared.condition.Stop.{Stop}
+use Rattle.clos_eval.specs.declared.machine.Doing.{Doing}
 use Rattle.clos_eval.specs.declared.arguments.Context.{Context}
 use Rattle.clos_eval.specs.declared.condition.Condition.{Condition}
 use Rattle.clos_eval.specs.declared.machine.Frame.{Frame}
-use Rattle.clos_eval.specs.declared.machine.Frame.TheVariants.{Princ, MakeInstance, Collect, Body, Known, Passing}
+use Rattle.clos_eval.specs.declared.machine.Frame.TheVariants.{Rest, Keep, Clause, Collect, Body, Known, Passing}
 use Rattle.clos_eval.specs.declared.machine.Level.{Level}
 use Rattle.clos_eval.specs.declared.machine.Machine.{Machine}
 use Rattle.clos_eval.specs.declared.generic.Method.{Method}
@@ -15,8 +19,9 @@ use Rattle.lisp_data.specs.Value.{Val}
 
 -- a condition passes through each frame
 passed_stopped : (ev : Eval) (env : Context) (f : Frame) (c : Condition) (w : State) (s : ℕ) → passed ev env f (Stopped c w s) ≡ Stopped c w s
-passed_stopped ev env Princ c w s = refl
-passed_stopped ev env MakeInstance c w s = refl
+passed_stopped ev env (Rest d fs) c w s = refl
+passed_stopped ev env (Keep fs v) c w s = refl
+passed_stopped ev env (Clause fs cs) c w s = refl
 passed_stopped ev env (Collect n fs vs) c w s = refl
 passed_stopped ev env (Body fs saved) c w s = refl
 passed_stopped ev env (Known saved) c w s = refl
@@ -33,3 +38,21 @@ pub no_method : (m : Machine) (ev : Eval) (vs : List Val) (o : Option Method) (c
     → inside m (method_run ev vs o) w t ≡ Stopped c w t
 no_method m ev vs None c w t e k = stopped_through m.levels m.context (record { kind = ProgramError; items = [] }) w t ∙ ap (λ x. Stopped x w t) (sym k)
 no_method m ev vs (Some x) c w t e k = cc
+
+-- what adds at most 2 adds at most 3
+pub grows : (old : List Level) (r : Result Doing Stop) (m : Machine) → Grows 2 old r m → Grows 3 old r m
+grows old (Ok d) m h = omega (arith, h)
+grows old (Err e) m h = tt
+
+-- how forms go on, in the words of the machine
+pub going_progn : (ev : Eval) (env : Context) (fs : Frms) (v : Val) (w : State) (t : ℕ) → going ev env Progn fs v w t ≡ sequence ev env fs v w t
+going_progn ev env nil v w t = refl
+going_progn ev env (cons f fs) v w t = refl
+
+pub going_and : (ev : Eval) (env : Context) (fs : Frms) (v : Val) (w : State) (t : ℕ) → going ev env And fs v w t ≡ while_true ev env fs v w t
+going_and ev env nil v w t = refl
+going_and ev env (cons f fs) v w t = refl
+
+pub going_or : (ev : Eval) (env : Context) (fs : Frms) (v : Val) (w : State) (t : ℕ) → going ev env Or fs v w t ≡ until_true ev env fs v w t
+going_or ev env nil v w t = refl
+going_or ev env (cons f fs) v w t = refl

@@ -1,15 +1,21 @@
 -- Conditions, and what they are about.
-use Rattle.std.specs.Prelude.{ℕ, List, false, codes, if◌then◌else◌}
+use Rattle.std.specs.Prelude.{◌≡◌, ℕ, List, [], ◌∷◌, false, codes, if◌then◌else◌}
 use Rattle.lisp_data.specs.Name.{Nam, same_name}
 use Rattle.lisp_data.specs.Value.{Val, symbol, list, nil}
+use Rattle.lisp_prims.specs.Fault as prims
+use Rattle.clos_eval.specs.declared.condition.Condition.{Condition}
+use Rattle.clos_eval.specs.declared.condition.Stop.{Stop}
+use Rattle.clos_eval.specs.declared.condition.Stop.TheVariants.{Refused, Storage}
 use Rattle.clos_eval.specs.declared.condition.ConditionKind.{ConditionKind}
-use Rattle.clos_eval.specs.declared.condition.ConditionKind.TheVariants.{ProgramError, UnboundVariable, UndefinedFunction, TypeError, UndefinedClass, LambdaListCongruence, NoApplicableMethod, Unsupported, StepLimit, DepthLimit, TableLimit}
+use Rattle.clos_eval.specs.declared.condition.ConditionKind.TheVariants.{ProgramError, UnboundVariable, UndefinedFunction, TypeError, IntegerRange, DivisionByZero, UndefinedClass, LambdaListCongruence, NoApplicableMethod, Unsupported, StepLimit, DepthLimit, TableLimit}
 
 abbrev pub number_of : ConditionKind → ℕ
 number_of ProgramError = 1
 number_of UnboundVariable = 2
 number_of UndefinedFunction = 3
 number_of TypeError = 4
+number_of IntegerRange = 5
+number_of DivisionByZero = 6
 number_of UndefinedClass = 7
 number_of LambdaListCongruence = 12
 number_of NoApplicableMethod = 14
@@ -23,6 +29,8 @@ condition_name ProgramError = codes "PROGRAM-ERROR"
 condition_name UnboundVariable = codes "UNBOUND-VARIABLE"
 condition_name UndefinedFunction = codes "UNDEFINED-FUNCTION"
 condition_name TypeError = codes "TYPE-ERROR"
+condition_name IntegerRange = codes "INTEGER-RANGE"
+condition_name DivisionByZero = codes "DIVISION-BY-ZERO"
 condition_name UndefinedClass = codes "UNDEFINED-CLASS"
 condition_name LambdaListCongruence = codes "LAMBDA-LIST-CONGRUENCE"
 condition_name NoApplicableMethod = codes "NO-APPLICABLE-METHOD"
@@ -37,3 +45,16 @@ nil_name = record { text = codes "NIL"; keyword = false }
 -- the symbol of this name: NIL is the empty list
 abbrev pub name_value : Nam → Val
 name_value name = if same_name name nil_name then list nil else symbol name
+
+-- the condition that a function of values signals
+abbrev pub condition_of : prims.Condition → Condition
+condition_of prims.program_error = record { kind = ProgramError; items = [] }
+condition_of (prims.type_error v) = record { kind = TypeError; items = v ∷ [] }
+condition_of prims.integer_range = record { kind = IntegerRange; items = [] }
+condition_of prims.division_by_zero = record { kind = DivisionByZero; items = [] }
+condition_of prims.unsupported = record { kind = Unsupported; items = [] }
+
+-- the condition is told, unless memory ran out
+abbrev pub Signals : prims.Condition → Stop → Type 0
+Signals c (Refused d) = d ≡ condition_of c
+Signals c Storage = Unit {0}

@@ -1,5 +1,5 @@
-pub mod Form
-pub mod FormView
+pub mod Limits
+pub mod Callee
 pub mod Class
 pub mod Generic
 pub mod Arguments

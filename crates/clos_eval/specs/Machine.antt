@@ -5,22 +5,23 @@ use Rattle.lisp_data.specs.ValueView.{value_of}
 use Rattle.lisp_data.specs.declared.ids.ClassId.{ClassId}
 use Rattle.lisp_data.specs.declared.value.Value.{Value}
 use Rattle.clos_eval.specs.World.{State}
-use Rattle.clos_eval.specs.Meaning.{Out, Gave, Stopped, Run, Eval, then_do, step_then, written, made, designated, collect, called, sequence, meaning}
+use Rattle.clos_eval.specs.Meaning.{Out, Gave, Stopped, Run, Eval, then_do, step_then, followed, keeping, tested, clauses, collect, called, sequence, meaning}
 use Rattle.clos_eval.specs.declared.arguments.Context.{Context}
 use Rattle.clos_eval.specs.declared.condition.Condition.{Condition}
 use Rattle.clos_eval.specs.declared.condition.Stop.{Stop}
 use Rattle.clos_eval.specs.declared.condition.Stop.TheVariants.{Refused, Storage}
 use Rattle.clos_eval.specs.declared.machine.Doing.{Doing}
-use Rattle.clos_eval.specs.declared.machine.Doing.TheVariants.{Start, Give}
+use Rattle.clos_eval.specs.declared.machine.Doing.TheVariants.{Start, Apply, Give}
 use Rattle.clos_eval.specs.declared.machine.Frame.{Frame}
-use Rattle.clos_eval.specs.declared.machine.Frame.TheVariants.{Princ, MakeInstance, Collect, Body, Known, Passing}
+use Rattle.clos_eval.specs.declared.machine.Frame.TheVariants.{Rest, Keep, Clause, Collect, Body, Known, Passing}
 use Rattle.clos_eval.specs.declared.machine.Level.{Level}
 use Rattle.clos_eval.specs.declared.machine.Machine.{Machine}
 
 -- the context under a frame
 abbrev pub below : Context → Frame → Context
-below env Princ = env
-below env MakeInstance = env
+below env (Rest c fs) = env
+below env (Keep fs v) = env
+below env (Clause fs cs) = env
 below env (Collect name rest values) = env
 below env (Body rest saved) = saved
 below env (Known saved) = saved
@@ -28,9 +29,10 @@ below env Passing = env
 
 -- what a frame does with the outcome of what it waits for
 abbrev pub passed : Eval → Context → Frame → Out → Out
-passed ev env Princ o = then_do o (λ v. step_then (written v))
-passed ev env MakeInstance o = then_do o (λ v u. made ev env (designated u v) u)
-passed ev env (Collect name rest values) o = then_do o (λ v. collect ev env rest (values ++ v ∷ []) (called ev name))
+passed ev env (Rest c fs) o = then_do o (λ v. followed ev env c fs v)
+passed ev env (Keep fs v) o = then_do o (λ u. keeping ev env fs (value_of v))
+passed ev env (Clause fs cs) o = then_do o (λ v. tested ev env fs (clauses ev env cs) v)
+passed ev env (Collect name rest values) o = then_do o (λ v. collect ev env rest (values ++ v ∷ []) (called ev env name))
 passed ev env (Body rest saved) o = then_do o (λ v. sequence ev env rest v)
 passed ev env (Known saved) o = o
 passed ev env Passing o = o
@@ -42,6 +44,7 @@ resume (l ∷ ls) env o = resume ls (below env l.frame) (passed (meaning l.room)
 
 abbrev pub doing_run : ℕ → Context → Doing → Run
 doing_run room env (Start task) w s = meaning room env task w s
+doing_run room env (Apply name values) w s = called (meaning room) env name values w s
 doing_run room env (Give value) w s = Gave (value_of value) w s
 
 -- how the run ends from this state of the machine
@@ -78,15 +81,16 @@ Answers run w s (Err Storage) w' s' = (k : ℕ) × (s ≡ k + s') × leaves (run
 -- what is left to do, which each turn makes smaller
 abbrev pub given : Doing → ℕ
 given (Start task) = 0
-given (Give value) = 1
+given (Apply name values) = 3
+given (Give value) = 2
 
 abbrev pub weight : ℕ → Machine → Doing → ℕ
 weight steps m d = 4 * steps + (2 * length m.levels + given d)
 
--- A handler adds at most a level, or gives a value.
-abbrev pub Grows : List Level → Result Doing Stop → Machine → Type 0
-Grows old (Ok d) m = 2 * length m.levels + given d ≤ 2 * length old + 2
-Grows old (Err e) m = Unit {0}
+-- A handler adds no more than this to what is left to do.
+abbrev pub Grows : ℕ → List Level → Result Doing Stop → Machine → Type 0
+Grows n old (Ok d) m = 2 * length m.levels + given d ≤ 2 * length old + n
+Grows n old (Err e) m = Unit {0}
 
 -- the class that a value designates, or why there is none
 abbrev pub Designates : Result ℕ Condition → Result ClassId Stop → Type 0

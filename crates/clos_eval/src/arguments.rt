@@ -3,6 +3,7 @@ ghost use Rattle.std.specs.Prelude.{◌≡◌, ◌++◌, ◌∷◌, [], IfOk, ma
 ghost use Rattle.lisp_data.specs.Name.{same_name};
 ghost use Rattle.lisp_data.specs.ValueView.{value_of};
 ghost use Rattle.clos_eval.specs.Arguments.{argument_named};
+ghost use Rattle.clos_eval.specs.Callee.{only_value};
 
 use crate::generic::Parameters;
 use lisp_data::{Name, Value};
@@ -61,6 +62,16 @@ impl Values {
         ensures { map value_of result.now ≡ self.now }
     {
         self.values.as_slice()
+    }
+
+    /// The one value, where they are not fewer or more.
+    pub fn only(&self) -> Option<&Value>
+        ensures { option_map (λ v. value_of v.now) result ≡ only_value self.now }
+    {
+        match self.values.as_slice() {
+            [value] => Some(value),
+            _ => None,
+        }
     }
 }
 

@@ -1,12 +1,15 @@
 //! The conditions that forms end with.
 ghost use Rattle.std.specs.Prelude.{◌≡◌, ◌∷◌, [], IfOk, map};
 ghost use Rattle.lisp_data.specs.ValueView.{value_of};
-ghost use Rattle.clos_eval.specs.Condition.{name_value, number_of, condition_name};
+ghost use Rattle.lisp_prims.specs.Fault.{Condition as Signalled, StandsFor};
+ghost use Rattle.lisp_prims.specs.declared.fault.PrimFault.TheVariants.{Memory};
+ghost use Rattle.clos_eval.specs.Condition.{name_value, number_of, condition_name, condition_of, Signals};
 ghost use Rattle.clos_eval.specs.declared.condition.Condition.{Condition};
 ghost use Rattle.clos_eval.specs.declared.condition.Stop.TheVariants.{Storage};
 
 use crate::arguments::Values;
 use lisp_data::{Items, Name, Value};
+use lisp_prims::PrimFault;
 use std::alloc::{AllocError, AllocFailed, Global};
 
 /// The kinds of conditions. Each has a number.
@@ -16,6 +19,8 @@ pub enum ConditionKind {
     UnboundVariable,
     UndefinedFunction,
     TypeError,
+    IntegerRange,
+    DivisionByZero,
     UndefinedClass,
     LambdaListCongruence,
     NoApplicableMethod,
@@ -35,6 +40,8 @@ impl ConditionKind {
             ConditionKind::UnboundVariable => 2,
             ConditionKind::UndefinedFunction => 3,
             ConditionKind::TypeError => 4,
+            ConditionKind::IntegerRange => 5,
+            ConditionKind::DivisionByZero => 6,
             ConditionKind::UndefinedClass => 7,
             ConditionKind::LambdaListCongruence => 12,
             ConditionKind::NoApplicableMethod => 14,
@@ -54,6 +61,8 @@ impl ConditionKind {
             ConditionKind::UnboundVariable => "UNBOUND-VARIABLE",
             ConditionKind::UndefinedFunction => "UNDEFINED-FUNCTION",
             ConditionKind::TypeError => "TYPE-ERROR",
+            ConditionKind::IntegerRange => "INTEGER-RANGE",
+            ConditionKind::DivisionByZero => "DIVISION-BY-ZERO",
             ConditionKind::UndefinedClass => "UNDEFINED-CLASS",
             ConditionKind::LambdaListCongruence => "LAMBDA-LIST-CONGRUENCE",
             ConditionKind::NoApplicableMethod => "NO-APPLICABLE-METHOD",
@@ -147,4 +156,22 @@ pub fn value_named(name: &Name) -> Result<Value, AllocError>
         return Ok(Value::List(Items::new()));
     }
     Ok(Value::Sym(name.copy()?))
+}
+
+/// Why an evaluation stops at a fault of a function of values.
+pub fn of_function(alloc: Global, fault: PrimFault) -> Stop
+    ensures signals { (c : Signalled) → StandsFor fault c → Signals c result }
+    ensures memory { fault ≡ Memory → result ≡ Storage }
+{
+    match fault {
+        PrimFault::ProgramError => Stop::Refused(plain(alloc, ConditionKind::ProgramError)),
+        PrimFault::TypeError(value) => match about(alloc, ConditionKind::TypeError, value) {
+            Ok(condition) => Stop::Refused(condition),
+            Err(_) => Stop::Storage,
+        },
+        PrimFault::IntegerRange => Stop::Refused(plain(alloc, ConditionKind::IntegerRange)),
+        PrimFault::DivisionByZero => Stop::Refused(plain(alloc, ConditionKind::DivisionByZero)),
+        PrimFault::Unsupported => Stop::Refused(plain(alloc, ConditionKind::Unsupported)),
+        PrimFault::Memory => Stop::Storage,
+    }
 }

@@ -1,26 +1,30 @@
 //! What the machine does at each kind of task and frame: the handlers that change the machine alone.
-ghost use Rattle.std.specs.Prelude.{◌≡◌, ◌∷◌, [], ℕ, ◌+◌, ◌*◌, ◌≤◌, length, map, IfOk, Some, slice_get, ◌++◌};
+ghost use Rattle.std.specs.Prelude.{◌≡◌, ◌∷◌, [], ℕ, ◌+◌, ◌*◌, ◌≤◌, Bool, length, map, IfOk, Ok, Some, slice_get, ◌++◌};
 ghost use Rattle.lisp_data.specs.Value.{Val, list, nil};
 ghost use Rattle.lisp_data.specs.ValueView.{value_of};
+ghost use Rattle.lisp_prims.specs.Primitive.{answer};
+ghost use Rattle.clos_syntax_core.specs.OperatorView.{operator_of};
 ghost use Rattle.clos_eval.specs.World.{State, seen};
-ghost use Rattle.clos_eval.specs.Meaning.{Run, Gave, known, meaning, begun, body, combined, system, collect, called, called_generic, method_run, sequence, then_do, variable_value, dispatched};
+ghost use Rattle.clos_eval.specs.Meaning.{Run, Gave, known, meaning, begun, body, operated, going, followed, branch, while_true, until_true, keeping, clauses, clause, tested, combined, system, collect, called, called_function, called_generic, answered, method_run, sequence, then_do, variable_value, dispatched};
 ghost use Rattle.clos_eval.specs.Arguments.{argument_named};
-ghost use Rattle.clos_eval.specs.Generic.{ordered};
+ghost use Rattle.clos_eval.specs.Generic.{function_named, ordered};
 ghost use Rattle.clos_eval.specs.World.{lists_of};
 ghost use Rattle.clos_eval.specs.declared.machine.Task.TheVariants.{Plain};
 ghost use Rattle.clos_eval.specs.declared.machine.Frame.TheVariants.{Body, Collect};
 ghost use Rattle.clos_eval.specs.Machine.{Leads, Grows, inside, denote, resume, below, passed, given_to};
 
 use crate::arguments::{Arguments, Context, Values};
-use crate::condition::{ConditionKind, Stop, about_call, about_name, plain};
+use crate::condition::{ConditionKind, Stop, about_call, about_name, of_function, plain};
 use crate::effective::{EffectiveForm, EffectiveNode, combined};
-use crate::form::{Form, Forms, Node};
 use crate::generic::{
     Generic, Method, Parameters, generic_named, method_numbered, ordered_methods,
 };
-use crate::machine::{Doing, Frame, Level, Machine, SystemCall, Task};
+use crate::machine::{Control, Doing, Frame, Level, Machine, SystemCall, Task};
+use crate::truth::{is_true, nil, t};
 use crate::world::World;
-use lisp_data::{Items, MethodId, Name, Value};
+use clos_syntax_core::{Form, Forms, Operator};
+use lisp_data::{MethodId, Name, Value};
+use lisp_prims::Primitive;
 use std::alloc::{AllocError, Global};
 use std::mem;
 
@@ -29,7 +33,7 @@ pub fn begin(machine: &mut Machine, next: Task, frame: Frame) -> Result<Doing, S
     ensures leads { (run : Run) (w : State) → below machine.old.context frame ≡ machine.old.context
         → ((t : ℕ) → passed (meaning machine.old.room) machine.old.context frame (meaning machine.old.room machine.old.context next w t) ≡ run w t)
         → Leads (inside machine.old run) w result machine.new }
-    ensures small { Grows machine.old.levels result machine.new }
+    ensures small { Grows 2 machine.old.levels result machine.new }
 {
     let room = machine.room;
     machine.levels.push(Level { frame, room })?;
@@ -40,10 +44,20 @@ pub fn begin(machine: &mut Machine, next: Task, frame: Frame) -> Result<Doing, S
 pub fn done(machine: &Machine, value: Value) -> Doing
     ensures leads { (run : Run) (w : State) → ((t : ℕ) → run w t ≡ Gave (value_of value) w t)
         → Leads (inside machine.now run) w (Ok result) machine.now }
-    ensures small { Grows machine.now.levels (Ok result) machine.now }
+    ensures small { Grows 2 machine.now.levels (Ok result) machine.now }
 {
     let _ = machine;
     Doing::Give(value)
+}
+
+/// Evaluates this next, whose value is the machine's.
+fn turn_to(machine: &Machine, next: Task) -> Doing
+    ensures leads { (run : Run) (w : State) → ((t : ℕ) → meaning machine.now.room machine.now.context next w t ≡ run w t)
+        → Leads (inside machine.now run) w (Ok result) machine.now }
+    ensures small { Grows 2 machine.now.levels (Ok result) machine.now }
+{
+    let _ = machine;
+    Doing::Start(next)
 }
 
 /// Evaluates this next in a context of its own; the machine's comes back after it.
@@ -51,7 +65,7 @@ fn enter_effect(machine: &mut Machine, context: Context, next: Task) -> Result<D
     ensures leads { (run : Run) (w : State)
         → ((t : ℕ) → meaning machine.old.room context next w t ≡ run w t)
         → Leads (inside machine.old run) w result machine.new }
-    ensures small { Grows machine.old.levels result machine.new }
+    ensures small { Grows 2 machine.old.levels result machine.new }
 {
     let room = machine.room;
     let saved = mem::replace(&mut machine.context, context);
@@ -70,7 +84,7 @@ fn enter_body(
     ensures leads { (run : Run) (w : State)
         → ((t : ℕ) → then_do (meaning machine.old.room context (Plain first) w t) (λ v. sequence (meaning machine.old.room) context rest v) ≡ run w t)
         → Leads (inside machine.old run) w result machine.new }
-    ensures small { Grows machine.old.levels result machine.new }
+    ensures small { Grows 2 machine.old.levels result machine.new }
 {
     let room = machine.room;
     let saved = mem::replace(&mut machine.context, context);
@@ -80,7 +94,6 @@ fn enter_body(
 }
 
 /// A form begins.
-#[tactic(auto, using(crate::proofs::Turns::stopped_through))]
 fn start_form(
     alloc: Global,
     machine: &mut Machine,
@@ -88,36 +101,212 @@ fn start_form(
     form: &Form,
 ) -> Result<Doing, Stop>
     ensures leads { Leads (inside machine.old (body (meaning machine.old.room) machine.old.context form.now)) (seen world.now) result machine.new }
-    ensures small { Grows machine.old.levels result machine.new }
+    ensures small { Grows 3 machine.old.levels result machine.new }
 {
-    match form.node() {
-        Node::Constant(value) => Ok(done(machine, value.copy()?)),
-        Node::NoValue => Err(Stop::Refused(plain(alloc, ConditionKind::Unsupported))),
-        Node::Variable(name) => variable(alloc, machine, world, name),
-        Node::Princ(inner) => {
-            let next = Task::Plain(inner.copy()?);
-            begin(machine, next, Frame::Princ)
+    operate(alloc, machine, world, form.operator(), form.parts())
+}
+
+/// An operator begins with its parts.
+#[tactic(auto, using(crate::proofs::Turns::stopped_through, crate::proofs::Turns::grows))]
+fn operate(
+    alloc: Global,
+    machine: &mut Machine,
+    world: &World,
+    operator: &Operator,
+    parts: &Forms,
+) -> Result<Doing, Stop>
+    ensures leads { Leads (inside machine.old (operated (meaning machine.old.room) machine.old.context (operator_of operator.now) parts.now)) (seen world.now) result machine.new }
+    ensures small { Grows 3 machine.old.levels result machine.new }
+{
+    match operator {
+        Operator::Constant(value) => Ok(done(machine, value.copy()?)),
+        Operator::Variable(name) => variable(alloc, machine, world, name),
+        Operator::If => go_on(machine, Control::If, parts, nil()),
+        Operator::Cond => next_clause(machine, parts),
+        Operator::When => go_on(machine, Control::When, parts, nil()),
+        Operator::Unless => go_on(machine, Control::Unless, parts, nil()),
+        Operator::And => go_on(machine, Control::And, parts, t()),
+        Operator::Or => go_on(machine, Control::Or, parts, nil()),
+        Operator::Progn => go_on(machine, Control::Progn, parts, nil()),
+        Operator::Prog1 => go_on(machine, Control::Prog1, parts, nil()),
+        Operator::Call(name) => {
+            let name = name.copy()?;
+            collect_next(machine, name, parts, Values::new(alloc))
         }
-        Node::MakeInstance(inner) => {
-            let next = Task::Plain(inner.copy()?);
-            begin(machine, next, Frame::MakeInstance)
-        }
-        Node::Call(name, forms) => collect_next(
-            alloc,
-            machine,
-            world,
-            name.copy()?,
-            forms,
-            Values::new(alloc),
-        ),
+        Operator::NoValue => Err(Stop::Refused(plain(alloc, ConditionKind::Unsupported))),
+        Operator::Function(_) => Err(Stop::Refused(plain(alloc, ConditionKind::Unsupported))),
+        Operator::Clause => Err(Stop::Refused(plain(alloc, ConditionKind::Unsupported))),
+        Operator::Let(_) => Err(Stop::Refused(plain(alloc, ConditionKind::Unsupported))),
+        Operator::LetInOrder(_) => Err(Stop::Refused(plain(alloc, ConditionKind::Unsupported))),
+        Operator::Setq(_) => Err(Stop::Refused(plain(alloc, ConditionKind::Unsupported))),
+        Operator::Setf => Err(Stop::Refused(plain(alloc, ConditionKind::Unsupported))),
+        Operator::Incf => Err(Stop::Refused(plain(alloc, ConditionKind::Unsupported))),
+        Operator::Decf => Err(Stop::Refused(plain(alloc, ConditionKind::Unsupported))),
+        Operator::Place(_) => Err(Stop::Refused(plain(alloc, ConditionKind::Unsupported))),
+        Operator::Dotimes(_, _) => Err(Stop::Refused(plain(alloc, ConditionKind::Unsupported))),
+        Operator::WithSlots(_) => Err(Stop::Refused(plain(alloc, ConditionKind::Unsupported))),
+        Operator::CallNextMethod => Err(Stop::Refused(plain(alloc, ConditionKind::Unsupported))),
+        Operator::NextMethodP => Err(Stop::Refused(plain(alloc, ConditionKind::Unsupported))),
     }
+}
+
+/// The next of these forms, or this value where there is none.
+pub fn go_on(
+    machine: &mut Machine,
+    control: Control,
+    forms: &Forms,
+    value: Value,
+) -> Result<Doing, Stop>
+    ensures leads { (run : Run) (w : State)
+        → ((t : ℕ) → going (meaning machine.old.room) machine.old.context control forms.now (value_of value) w t ≡ run w t)
+        → Leads (inside machine.old run) w result machine.new }
+    ensures small { Grows 2 machine.old.levels result machine.new }
+{
+    match forms.split_first() {
+        None => Ok(done(machine, value)),
+        Some((first, others)) => {
+            let next = Task::Plain(first.copy()?);
+            let rest = others.copy()?;
+            begin(machine, next, Frame::Rest(control, rest))
+        }
+    }
+}
+
+/// What follows the value of a form, with these forms left.
+#[tactic(auto, using(crate::proofs::Turns::going_progn, crate::proofs::Turns::going_and, crate::proofs::Turns::going_or))]
+pub fn follow(
+    machine: &mut Machine,
+    control: Control,
+    rest: &Forms,
+    value: Value,
+) -> Result<Doing, Stop>
+    ensures leads { (run : Run) (w : State)
+        → ((t : ℕ) → followed (meaning machine.old.room) machine.old.context control rest.now (value_of value) w t ≡ run w t)
+        → Leads (inside machine.old run) w result machine.new }
+    ensures small { Grows 2 machine.old.levels result machine.new }
+{
+    match control {
+        Control::Progn => go_on(machine, Control::Progn, rest, value),
+        Control::Prog1 => keep(machine, rest, value),
+        Control::If => branch(machine, is_true(&value), rest),
+        Control::When => {
+            if is_true(&value) {
+                return go_on(machine, Control::Progn, rest, nil());
+            }
+            Ok(done(machine, nil()))
+        }
+        Control::Unless => {
+            if is_true(&value) {
+                return Ok(done(machine, nil()));
+            }
+            go_on(machine, Control::Progn, rest, nil())
+        }
+        Control::And => {
+            if is_true(&value) {
+                return go_on(machine, Control::And, rest, value);
+            }
+            Ok(done(machine, value))
+        }
+        Control::Or => {
+            if is_true(&value) {
+                return Ok(done(machine, value));
+            }
+            go_on(machine, Control::Or, rest, value)
+        }
+    }
+}
+
+/// Of an if form, the form where its test holds, or the one where it does not.
+#[tactic(auto, using(crate::proofs::Turns::going_progn))]
+fn branch(machine: &mut Machine, holds: bool, forms: &Forms) -> Result<Doing, Stop>
+    ensures leads { (run : Run) (w : State)
+        → ((t : ℕ) → branch (meaning machine.old.room) machine.old.context holds forms.now w t ≡ run w t)
+        → Leads (inside machine.old run) w result machine.new }
+    ensures small { Grows 2 machine.old.levels result machine.new }
+{
+    match forms.split_first() {
+        None => Ok(done(machine, nil())),
+        Some((first, others)) => {
+            if holds {
+                return Ok(turn_to(machine, Task::Plain(first.copy()?)));
+            }
+            go_on(machine, Control::Progn, others, nil())
+        }
+    }
+}
+
+/// This value, after these forms.
+pub fn keep(machine: &mut Machine, forms: &Forms, value: Value) -> Result<Doing, Stop>
+    ensures leads { (run : Run) (w : State)
+        → ((t : ℕ) → keeping (meaning machine.old.room) machine.old.context forms.now (value_of value) w t ≡ run w t)
+        → Leads (inside machine.old run) w result machine.new }
+    ensures small { Grows 2 machine.old.levels result machine.new }
+{
+    match forms.split_first() {
+        None => Ok(done(machine, value)),
+        Some((first, others)) => {
+            let next = Task::Plain(first.copy()?);
+            let rest = others.copy()?;
+            begin(machine, next, Frame::Keep(rest, value))
+        }
+    }
+}
+
+/// The next clause of a cond form, or NIL.
+fn next_clause(machine: &mut Machine, forms: &Forms) -> Result<Doing, Stop>
+    ensures leads { (run : Run) (w : State)
+        → ((t : ℕ) → clauses (meaning machine.old.room) machine.old.context forms.now w t ≡ run w t)
+        → Leads (inside machine.old run) w result machine.new }
+    ensures small { Grows 2 machine.old.levels result machine.new }
+{
+    match forms.split_first() {
+        None => Ok(done(machine, nil())),
+        Some((first, others)) => test_clause(machine, first.parts(), others),
+    }
+}
+
+/// The test of a clause, before these clauses.
+fn test_clause(machine: &mut Machine, forms: &Forms, others: &Forms) -> Result<Doing, Stop>
+    ensures leads { (run : Run) (w : State)
+        → ((t : ℕ) → clause (meaning machine.old.room) machine.old.context forms.now (clauses (meaning machine.old.room) machine.old.context others.now) w t ≡ run w t)
+        → Leads (inside machine.old run) w result machine.new }
+    ensures small { Grows 2 machine.old.levels result machine.new }
+{
+    match forms.split_first() {
+        None => Ok(done(machine, nil())),
+        Some((test, body)) => {
+            let next = Task::Plain(test.copy()?);
+            let body = body.copy()?;
+            let others = others.copy()?;
+            begin(machine, next, Frame::Clause(body, others))
+        }
+    }
+}
+
+/// A clause whose test has this value, or the next one.
+#[tactic(auto, using(crate::proofs::Turns::going_progn))]
+pub fn clause_tested(
+    machine: &mut Machine,
+    forms: &Forms,
+    others: &Forms,
+    value: Value,
+) -> Result<Doing, Stop>
+    ensures leads { (run : Run) (w : State)
+        → ((t : ℕ) → tested (meaning machine.old.room) machine.old.context forms.now (clauses (meaning machine.old.room) machine.old.context others.now) (value_of value) w t ≡ run w t)
+        → Leads (inside machine.old run) w result machine.new }
+    ensures small { Grows 2 machine.old.levels result machine.new }
+{
+    if is_true(&value) {
+        return go_on(machine, Control::Progn, forms, value);
+    }
+    next_clause(machine, others)
 }
 
 /// A variable gives its value.
 #[tactic(auto, using(crate::proofs::Turns::stopped_through))]
 fn variable(alloc: Global, machine: &mut Machine, world: &World, name: &Name) -> Result<Doing, Stop>
     ensures leads { Leads (inside machine.old (variable_value name.now (argument_named machine.old.context.parameters machine.old.context.arguments name.now))) (seen world.now) result machine.new }
-    ensures small { Grows machine.old.levels result machine.new }
+    ensures small { Grows 2 machine.old.levels result machine.new }
 {
     let _ = world;
     match machine.context.argument(name) {
@@ -131,20 +320,18 @@ fn variable(alloc: Global, machine: &mut Machine, world: &World, name: &Name) ->
 
 /// The next argument of a call, or the call itself.
 fn collect_next(
-    alloc: Global,
     machine: &mut Machine,
-    world: &World,
     name: Name,
     forms: &Forms,
     values: Values,
 ) -> Result<Doing, Stop>
-    ensures leads { (run : Run)
-        → ((t : ℕ) → collect (meaning machine.old.room) machine.old.context forms.now values (called (meaning machine.old.room) name) (seen world.now) t ≡ run (seen world.now) t)
-        → Leads (inside machine.old run) (seen world.now) result machine.new }
-    ensures small { Grows machine.old.levels result machine.new }
+    ensures leads { (run : Run) (w : State)
+        → ((t : ℕ) → collect (meaning machine.old.room) machine.old.context forms.now values (called (meaning machine.old.room) machine.old.context name) w t ≡ run w t)
+        → Leads (inside machine.old run) w result machine.new }
+    ensures small { Grows 3 machine.old.levels result machine.new }
 {
     match forms.split_first() {
-        None => call(alloc, machine, world, &name, values),
+        None => Ok(Doing::Apply(name, values)),
         Some((first, others)) => {
             let next = Task::Plain(first.copy()?);
             let rest = others.copy()?;
@@ -153,17 +340,36 @@ fn collect_next(
     }
 }
 
-/// A call of the function of this name.
+/// A function of values.
 #[tactic(auto, using(crate::proofs::Turns::stopped_through))]
-fn call(
+pub fn compute(
+    alloc: Global,
+    machine: &mut Machine,
+    world: &World,
+    primitive: Primitive,
+    values: &Values,
+) -> Result<Doing, Stop>
+    ensures leads { Leads (inside machine.old (answered (answer primitive values.now))) (seen world.now) result machine.new }
+    ensures small { Grows 2 machine.old.levels result machine.new }
+{
+    let _ = world;
+    match primitive.call(alloc, values.as_slice()) {
+        Ok(value) => Ok(Doing::Give(value)),
+        Err(fault) => Err(of_function(alloc, fault)),
+    }
+}
+
+/// A call of the function of the program's of this name.
+#[tactic(auto, using(crate::proofs::Turns::stopped_through))]
+pub fn call(
     alloc: Global,
     machine: &mut Machine,
     world: &World,
     name: &Name,
     values: Values,
 ) -> Result<Doing, Stop>
-    ensures leads { Leads (inside machine.old (called (meaning machine.old.room) name.now values)) (seen world.now) result machine.new }
-    ensures small { Grows machine.old.levels result machine.new }
+    ensures leads { Leads (inside machine.old (λ w. called_function (meaning machine.old.room) name.now values (function_named w.generics name.now) w)) (seen world.now) result machine.new }
+    ensures small { Grows 2 machine.old.levels result machine.new }
 {
     match generic_named(&world.generics, name) {
         None => {
@@ -187,7 +393,7 @@ fn call_generic(
     values: Values,
 ) -> Result<Doing, Stop>
     ensures leads { Leads (inside machine.old (called_generic (meaning machine.old.room) values (Some generic.now))) (seen world.now) result machine.new }
-    ensures small { Grows machine.old.levels result machine.new }
+    ensures small { Grows 2 machine.old.levels result machine.new }
 {
     if values.len() as u64 != generic.required {
         return Err(Stop::Refused(plain(alloc, ConditionKind::ProgramError)));
@@ -231,7 +437,7 @@ fn start_effective(
     form: &EffectiveForm,
 ) -> Result<Doing, Stop>
     ensures leads { Leads (inside machine.old (combined (meaning machine.old.room) machine.old.context form.now)) (seen world.now) result machine.new }
-    ensures small { Grows machine.old.levels result machine.new }
+    ensures small { Grows 2 machine.old.levels result machine.new }
 {
     match form.node() {
         EffectiveNode::CallMethod(method, _next) => run_method(alloc, machine, world, *method),
@@ -255,7 +461,7 @@ fn run_method(
     id: MethodId,
 ) -> Result<Doing, Stop>
     ensures leads { Leads (inside machine.old (method_run (meaning machine.old.room) machine.old.context.arguments (slice_get (seen world.now).methods id.0))) (seen world.now) result machine.new }
-    ensures small { Grows machine.old.levels result machine.new }
+    ensures small { Grows 2 machine.old.levels result machine.new }
 {
     match method_numbered(&world.methods, id) {
         None => Err(Stop::Refused(plain(alloc, ConditionKind::ProgramError))),
@@ -268,11 +474,11 @@ fn run_body(machine: &mut Machine, world: &World, method: &Method) -> Result<Doi
     ensures leads { (run : Run)
         → ((t : ℕ) → method_run (meaning machine.old.room) machine.old.context.arguments (Some method.now) (seen world.now) t ≡ run (seen world.now) t)
         → Leads (inside machine.old run) (seen world.now) result machine.new }
-    ensures small { Grows machine.old.levels result machine.new }
+    ensures small { Grows 2 machine.old.levels result machine.new }
 {
     let _ = world;
     match method.body.split_first() {
-        None => Ok(done(machine, Value::List(Items::new()))),
+        None => Ok(done(machine, nil())),
         Some((first, others)) => {
             let parameters = method.parameters.copy()?;
             let arguments = machine.context.arguments.copy()?;
@@ -296,7 +502,7 @@ fn start_system(
     call: SystemCall,
 ) -> Result<Doing, Stop>
     ensures leads { Leads (inside machine.old (system (meaning machine.old.room) machine.old.context call)) (seen world.now) result machine.new }
-    ensures small { Grows machine.old.levels result machine.new }
+    ensures small { Grows 2 machine.old.levels result machine.new }
 {
     let _ = world;
     match call {
@@ -314,9 +520,10 @@ fn start_system(
 }
 
 /// A task begins, with less room.
+#[tactic(auto, using(crate::proofs::Turns::grows))]
 pub fn start(alloc: Global, machine: &mut Machine, world: &World, task: Task) -> Result<Doing, Stop>
     ensures leads { Leads (inside machine.old (begun (meaning machine.old.room) machine.old.context task)) (seen world.now) result machine.new }
-    ensures small { Grows machine.old.levels result machine.new }
+    ensures small { Grows 3 machine.old.levels result machine.new }
 {
     match task {
         Task::Plain(form) => start_form(alloc, machine, world, &form),
@@ -334,7 +541,7 @@ pub fn next_of_body(
     value: Value,
 ) -> Result<Doing, Stop>
     ensures leads { Leads (given_to machine.old (Body rest.now saved) (value_of value)) (seen world.now) result machine.new }
-    ensures small { Grows machine.old.levels result machine.new }
+    ensures small { Grows 2 machine.old.levels result machine.new }
 {
     let _ = world;
     match rest.split_first() {
@@ -355,19 +562,17 @@ pub fn next_of_body(
 
 /// The next argument's value is there.
 pub fn next_argument(
-    alloc: Global,
     machine: &mut Machine,
-    world: &World,
     name: Name,
     rest: &Forms,
     mut values: Values,
     value: Value,
 ) -> Result<Doing, Stop>
-    ensures leads { (run : Run)
-        → ((t : ℕ) → collect (meaning machine.old.room) machine.old.context rest.now (values ++ value_of value ∷ []) (called (meaning machine.old.room) name) (seen world.now) t ≡ run (seen world.now) t)
-        → Leads (inside machine.old run) (seen world.now) result machine.new }
-    ensures small { Grows machine.old.levels result machine.new }
+    ensures leads { (run : Run) (w : State)
+        → ((t : ℕ) → collect (meaning machine.old.room) machine.old.context rest.now (values ++ value_of value ∷ []) (called (meaning machine.old.room) machine.old.context name) w t ≡ run w t)
+        → Leads (inside machine.old run) w result machine.new }
+    ensures small { Grows 3 machine.old.levels result machine.new }
 {
     values.push(value)?;
-    collect_next(alloc, machine, world, name, rest, values)
+    collect_next(machine, name, rest, values)
 }

@@ -1,36 +1,117 @@
 //! Evaluation: the turns of the machine, and the whole of a form.
-ghost use Rattle.std.specs.Prelude.{◌≡◌, ◌∷◌, [], ℕ, ◌+◌, ◌-◌, ◌*◌, ◌<◌, ◌≤◌, ◌++◌, length, map, IfOk, OnErr, OnOk, Ok};
-ghost use Rattle.lisp_data.specs.Value.{Val, list};
+ghost use Rattle.std.specs.Prelude.{◌≡◌, ◌∷◌, [], ℕ, ◌+◌, ◌-◌, ◌*◌, ◌<◌, ◌≤◌, ◌++◌, length, map, option_map, IfOk, OnErr, OnOk, Ok, Some};
+ghost use Rattle.lisp_data.specs.Value.{Val, list, nil};
 ghost use Rattle.lisp_data.specs.ValueView.{value_of};
+ghost use Rattle.clos_eval.specs.Callee.{only_value};
 ghost use Rattle.clos_eval.specs.World.{State, seen, names_of};
-ghost use Rattle.clos_eval.specs.Meaning.{Run, Gave, Stopped, meaning, designated, class_found, instantiable, written, step_then, made, known};
+ghost use Rattle.clos_eval.specs.Meaning.{Run, Gave, Stopped, meaning, designated, class_found, instantiable, written, text_by, output_of, line_ended, applied, instance_made, step_then, made, known};
 ghost use Rattle.clos_eval.specs.Class.{named};
-ghost use Rattle.clos_eval.specs.Machine.{Turns, Answers, Grows, Designates, denote, inside, given_to, weight, given, Changes, Reached};
+ghost use Rattle.clos_eval.specs.Machine.{Turns, Leads, Answers, Grows, Designates, denote, inside, given_to, weight, given, Changes, Reached};
+ghost use Rattle.clos_eval.specs.declared.callee.Callee.TheVariants.{Output as Printing, Terpri, MakeInstance};
 ghost use Rattle.clos_eval.specs.declared.machine.Task.TheVariants.{Plain};
-ghost use Rattle.clos_eval.specs.declared.machine.Doing.TheVariants.{Start};
+ghost use Rattle.clos_eval.specs.declared.machine.Doing.TheVariants.{Start, Apply};
 
 use crate::arguments::{Arguments, Context, Values};
+use crate::callee::{Callee, Output, callee_named};
 use crate::class::class_named;
 use crate::condition::{ConditionKind, Stop, about, about_name, plain};
-use crate::control::{begin, next_argument, next_of_body, start};
-use crate::form::Form;
+use crate::control::{begin, call, clause_tested, compute, follow, keep, next_argument, next_of_body, start};
 use crate::generic::Parameters;
 use crate::machine::{Doing, Frame, Level, Levels, Machine, SystemCall, Task};
+use crate::truth::nil;
 use crate::world::World;
-use lisp_data::{ClassId, InstanceId, Items, Name, Value, princ};
-use std::alloc::Global;
+use clos_syntax_core::Form;
+use lisp_data::{ClassId, InstanceId, Items, Name, Value, prin1, princ};
+use std::alloc::{AllocError, Global};
 
-/// Writes a value's text, which takes a step.
-fn write(alloc: Global, world: &mut World, value: &Value, steps: &mut u64) -> Result<(), Stop>
-    ensures { Changes (written (value_of value.now)) (value_of value.now) (seen world.old) steps.old result (seen world.new) steps.new }
+/// The text that an output function writes of a value.
+fn text(alloc: Global, world: &World, output: Output, value: &Value) -> Result<Vec<u8>, AllocError>
+    ensures { IfOk result (λ r. r.items ≡ text_by output (names_of (seen world.now)) (value_of value.now)) }
+{
+    match output {
+        Output::Princ => princ(alloc, value, world),
+        Output::Prin1 => prin1(alloc, value, world),
+        Output::Print => {
+            let text = prin1(alloc, value, world)?;
+            let mut line = Vec::new(alloc);
+            line.push(b'\n')?;
+            line.extend_from_slice(text.as_slice())?;
+            line.push(b' ')?;
+            Ok(line)
+        }
+    }
+}
+
+/// Writes bytes, which takes a step.
+fn write(alloc: Global, world: &mut World, bytes: &[u8], steps: &mut u64) -> Result<(), Stop>
+    ensures changes { (v : Val) → Changes (written bytes.now v) v (seen world.old) steps.old result (seen world.new) steps.new }
+    ensures fewer { steps.new ≤ steps.old }
 {
     if *steps == 0 {
         return Err(Stop::Refused(plain(alloc, ConditionKind::StepLimit)));
     }
-    let text = princ(alloc, value, world)?;
-    world.written.extend_from_slice(text.as_slice())?;
+    world.written.extend_from_slice(bytes)?;
     *steps -= 1;
     Ok(())
+}
+
+/// Writes bytes, and gives a value.
+fn write_giving(
+    alloc: Global,
+    machine: &Machine,
+    world: &mut World,
+    bytes: &[u8],
+    value: Value,
+    steps: &mut u64,
+) -> Result<Doing, Stop>
+    ensures turns { Turns (inside machine.now (step_then (written bytes.now (value_of value)))) (seen world.old) steps.old result machine.now (seen world.new) steps.new }
+    ensures small { Grows 2 machine.now.levels result machine.now }
+    ensures fewer { steps.new ≤ steps.old }
+{
+    let _ = machine;
+    match write(alloc, world, bytes, steps) {
+        Ok(()) => Ok(Doing::Give(value)),
+        Err(stop) => Err(stop),
+    }
+}
+
+/// A call of an output function.
+fn print(
+    alloc: Global,
+    machine: &mut Machine,
+    world: &mut World,
+    output: Output,
+    values: &Values,
+    steps: &mut u64,
+) -> Result<Doing, Stop>
+    ensures turns { Turns (inside machine.old (output_of output (only_value values.now))) (seen world.old) steps.old result machine.new (seen world.new) steps.new }
+    ensures small { Grows 2 machine.old.levels result machine.new }
+    ensures fewer { steps.new ≤ steps.old }
+{
+    let Some(value) = values.only() else {
+        return Err(Stop::Refused(plain(alloc, ConditionKind::ProgramError)));
+    };
+    let text = text(alloc, world, output, value)?;
+    let value = value.copy()?;
+    write_giving(alloc, machine, world, text.as_slice(), value, steps)
+}
+
+/// A call of `terpri`.
+fn end_line(
+    alloc: Global,
+    machine: &mut Machine,
+    world: &mut World,
+    values: &Values,
+    steps: &mut u64,
+) -> Result<Doing, Stop>
+    ensures turns { Turns (inside machine.old (line_ended values.now)) (seen world.old) steps.old result machine.new (seen world.new) steps.new }
+    ensures small { Grows 2 machine.old.levels result machine.new }
+    ensures fewer { steps.new ≤ steps.old }
+{
+    match values.as_slice() {
+        [] => write_giving(alloc, machine, world, b"\n", nil(), steps),
+        _ => Err(Stop::Refused(plain(alloc, ConditionKind::ProgramError))),
+    }
 }
 
 /// The class that a value designates, if there can be instances of it.
@@ -86,7 +167,7 @@ fn make(
 ) -> Result<Doing, Stop>
     ensures turns { Turns (inside machine.old (λ w s. made (meaning machine.old.room) machine.old.context (designated w (value_of value)) w s))
         (seen world.old) steps.old result machine.new (seen world.new) steps.new }
-    ensures small { Grows machine.old.levels result machine.new }
+    ensures small { Grows 2 machine.old.levels result machine.new }
     ensures fewer { steps.new ≤ steps.old }
 {
     match designate(alloc, world, value) {
@@ -105,7 +186,7 @@ fn make_of(
     ensures turns { (run : Run)
         → ((t : ℕ) → made (meaning machine.old.room) machine.old.context (Ok class.0) (seen world.old) t ≡ run (seen world.old) t)
         → Turns (inside machine.old run) (seen world.old) steps.old result machine.new (seen world.new) steps.new }
-    ensures small { Grows machine.old.levels result machine.new }
+    ensures small { Grows 2 machine.old.levels result machine.new }
     ensures fewer { steps.new ≤ steps.old }
 {
     let count = world.instance_count();
@@ -127,31 +208,59 @@ fn make_of(
     Ok(doing)
 }
 
-/// A frame goes on with the value that it waited for.
-fn give(
+/// A call of `make-instance`.
+fn make_instance(
     alloc: Global,
     machine: &mut Machine,
     world: &mut World,
-    frame: Frame,
-    value: Value,
+    values: &Values,
     steps: &mut u64,
 ) -> Result<Doing, Stop>
-    ensures turns { Turns (given_to machine.old frame (value_of value))
-        (seen world.old) steps.old result machine.new (seen world.new) steps.new }
-    ensures small { Grows machine.old.levels result machine.new }
+    ensures turns { Turns (inside machine.old (instance_made (meaning machine.old.room) machine.old.context (only_value values.now))) (seen world.old) steps.old result machine.new (seen world.new) steps.new }
+    ensures small { Grows 2 machine.old.levels result machine.new }
     ensures fewer { steps.new ≤ steps.old }
 {
+    match values.only() {
+        None => Err(Stop::Refused(plain(alloc, ConditionKind::Unsupported))),
+        Some(value) => {
+            let value = value.copy()?;
+            make(alloc, machine, world, value, steps)
+        }
+    }
+}
+
+/// A function is called.
+fn apply(
+    alloc: Global,
+    machine: &mut Machine,
+    world: &mut World,
+    name: &Name,
+    values: Values,
+    steps: &mut u64,
+) -> Result<Doing, Stop>
+    ensures turns { Turns (denote machine.old (Apply name.now values)) (seen world.old) steps.old result machine.new (seen world.new) steps.new }
+    ensures small { Grows 2 machine.old.levels result machine.new }
+    ensures fewer { steps.new ≤ steps.old }
+{
+    match callee_named(name) {
+        Callee::Output(output) => print(alloc, machine, world, output, &values, steps),
+        Callee::Terpri => end_line(alloc, machine, world, &values, steps),
+        Callee::Primitive(primitive) => compute(alloc, machine, world, primitive, &values),
+        Callee::MakeInstance => make_instance(alloc, machine, world, &values, steps),
+        Callee::Defined => call(alloc, machine, world, name, values),
+    }
+}
+
+/// A frame goes on with the value that it waited for.
+fn give(machine: &mut Machine, world: &World, frame: Frame, value: Value) -> Result<Doing, Stop>
+    ensures leads { Leads (given_to machine.old frame (value_of value)) (seen world.now) result machine.new }
+    ensures small { Grows 3 machine.old.levels result machine.new }
+{
     match frame {
-        Frame::Princ => {
-            match write(alloc, world, &value, steps) {
-                Ok(()) => Ok(Doing::Give(value)),
-                Err(stop) => Err(stop),
-            }
-        }
-        Frame::MakeInstance => make(alloc, machine, world, value, steps),
-        Frame::Collect(name, rest, values) => {
-            next_argument(alloc, machine, world, name, &rest, values, value)
-        }
+        Frame::Rest(control, rest) => follow(machine, control, &rest, value),
+        Frame::Keep(rest, kept) => keep(machine, &rest, kept),
+        Frame::Clause(forms, others) => clause_tested(machine, &forms, &others, value),
+        Frame::Collect(name, rest, values) => next_argument(machine, name, &rest, values, value),
         Frame::Body(rest, saved) => next_of_body(machine, world, &rest, saved, value),
         Frame::Known(saved) => {
             machine.context = saved;
@@ -170,7 +279,7 @@ fn begin_task(
     steps: &mut u64,
 ) -> Result<Doing, Stop>
     ensures turns { Turns (denote machine.old (Start task)) (seen world.now) steps.old result machine.new (seen world.now) steps.new }
-    ensures small { Grows machine.old.levels result machine.new }
+    ensures small { Grows 3 machine.old.levels result machine.new }
     ensures fewer { OnOk result (steps.new < steps.old) }
 {
     if *steps == 0 {
@@ -226,12 +335,16 @@ pub fn evaluate(
                 Ok(next) => doing = next,
                 Err(stop) => return Err(stop),
             },
+            Doing::Apply(name, values) => match apply(alloc, &mut machine, world, &name, values, steps) {
+                Ok(next) => doing = next,
+                Err(stop) => return Err(stop),
+            },
             Doing::Give(value) => match machine.levels.pop() {
                 None => return Ok(value),
                 Some(level) => {
                     let Level { frame, room } = level;
                     machine.room = room;
-                    match give(alloc, &mut machine, world, frame, value, steps) {
+                    match give(&mut machine, world, frame, value) {
                         Ok(next) => doing = next,
                         Err(stop) => return Err(stop),
                     }

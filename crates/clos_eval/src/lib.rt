@@ -2,14 +2,15 @@
 #![tactic(auto)]
 
 pub mod arguments;
+pub mod callee;
 pub mod class;
 pub mod condition;
 mod control;
 mod effective;
 pub mod eval;
-pub mod form;
 pub mod generic;
 pub mod limits;
 mod machine;
 pub mod predefined;
+mod truth;
 pub mod world;

@@ -24,6 +24,11 @@ pub struct Limits {
 }
 
 impl Default for Limits {
+    ghost use Rattle.std.specs.Prelude.{◌≡◌};
+    ghost use Rattle.clos_eval.specs.Limits.{standard};
+
+    ghost is_default = { λ l. l ≡ standard };
+
     fn default() -> Limits {
         Limits {
             steps: 1_000_000,

@@ -3,7 +3,7 @@ ghost use Rattle.std.specs.Prelude.{◌≡◌, ◌∷◌, [], ℕ, ◌<◌, ◌�
 
 use crate::arguments::{Arguments, Context, Values};
 use crate::effective::EffectiveForm;
-use crate::form::{Form, Forms};
+use clos_syntax_core::{Form, Forms};
 use lisp_data::{InstanceId, Name, Value};
 use std::alloc::{AllocError, Global};
 use std::marker::Model;
@@ -31,17 +31,40 @@ pub enum SystemCall {
 #[derive(Drop)]
 pub enum Doing {
     Start(Task),
+    /// The function of this name is called with these values.
+    Apply(Name, Values),
     /// The value goes to the top level.
     Give(Value),
+}
+
+/// How forms follow one another (HyperSpec 5.3).
+#[derive(Clone, Copy, Debug, Drop, PartialEq, Eq)]
+pub enum Control {
+    /// All of them, whatever their values.
+    Progn,
+    /// All of them, and the value of the first is given.
+    Prog1,
+    /// After the test, the first where it holds, else the second if there is one.
+    If,
+    /// After the test, all of them where it holds.
+    When,
+    /// After the test, all of them where it does not hold.
+    Unless,
+    /// As long as their values are true.
+    And,
+    /// Until a value is true.
+    Or,
 }
 
 /// What is done with a value when it is there.
 #[derive(Drop)]
 pub enum Frame {
-    /// Its text is written.
-    Princ,
-    /// An instance of the class that it designates is made.
-    MakeInstance,
+    /// These forms follow, by the value.
+    Rest(Control, Forms),
+    /// These forms follow, and then this value is given.
+    Keep(Forms, Value),
+    /// It is the test of a clause with these forms, before these clauses.
+    Clause(Forms, Forms),
     /// It is the next argument of the function of this name.
     Collect(Name, Forms, Values),
     /// The rest of a method's body follows; the context goes back to the caller's.

@@ -1,13 +1,13 @@
-use Rattle.std.proofs.Common.{[], subst, arith}
+use Rattle.std.proofs.Common.{[], subst, arith, Ok, Err}
 use Rattle.lisp_data.specs.ValueView.{value_of}
 use Rattle.clos_eval.specs.World.{seen}
 use Rattle.clos_eval.specs.Meaning.{Run, meaning, known}
 use Rattle.clos_eval.specs.Machine.{Reached, denote, given_to, below}
-use Rattle.clos_eval.specs.declared.machine.Doing.TheVariants.{Start, Give}
+use Rattle.clos_eval.specs.declared.machine.Doing.TheVariants.{Start, Apply, Give}
 use Rattle.clos_eval.specs.declared.machine.Machine.{Machine}
 use Rattle.clos_eval.specs.declared.machine.Task.TheVariants.{Plain}
-use Rattle.clos_eval.proofs.Quiet.{evaluation_quiet, start_quiet, frame_quiet}
-use Rattle.clos_eval.proofs.Running.{reached_on, reached_same, ended, popped}
+use Rattle.clos_eval.proofs.Quiet.{evaluation_quiet, start_quiet, apply_quiet, frame_quiet}
+use Rattle.clos_eval.proofs.Running.{turns_of_leads, reached_on, reached_same, ended, popped}
 use Rattle.clos_eval.proofs.eval.evaluate.Goals as goal
 
 pub returns-in_default : goal.returns-in_default
@@ -36,11 +36,12 @@ loop-doing-preserved c =
     let m : Machine = record { levels = c.pop.new.self; context = c.loop-doing.machine.context; room = c.in-Some.level.room } in
     let rest : Run = given_to m c.in-Some.level.frame (value_of c.in-Give.value) in
     reached_on run (seen c.args.world.now) c.args.steps.now rest (seen c.loop-doing.world) c.loop-doing.steps
-    c.in-Ok-give.next c.give.new.machine (seen c.give.new.world) c.give.new.steps
+    c.in-Ok-give.next c.give.new.machine (seen c.loop-doing.world) c.loop-doing.steps
     (reached_same run (seen c.args.world.now) c.args.steps.now (denote c.loop-doing.machine (Give c.in-Give.value)) rest (seen c.loop-doing.world)
     c.loop-doing.steps (λ t. popped c.loop-doing.machine c.in-Some.level c.pop.new.self c.in-Give.value (seen c.loop-doing.world) t c.in-Some.ensures)
     (subst (λ d. Reached run (seen c.args.world.now) c.args.steps.now (denote c.loop-doing.machine d) (seen c.loop-doing.world) c.loop-doing.steps)
-    c.in-Give.is c.loop-doing.invariant)) c.in-Ok-give.ensures.turns
+    c.in-Give.is c.loop-doing.invariant))
+    (turns_of_leads rest (seen c.loop-doing.world) c.loop-doing.steps (Ok c.in-Ok-give.next) c.give.new.machine c.in-Ok-give.ensures.leads)
 
 pub returns-in-Err-give : goal.returns-in-Err-give
 returns-in-Err-give c =
@@ -48,9 +49,35 @@ returns-in-Err-give c =
     let m : Machine = record { levels = c.pop.new.self; context = c.loop-doing.machine.context; room = c.in-Some.level.room } in
     let rest : Run = given_to m c.in-Some.level.frame (value_of c.in-Give.value) in
     ended run (seen c.args.world.now) c.args.steps.now rest (seen c.loop-doing.world) c.loop-doing.steps
-    c.in-Err-give.stop c.give.new.machine (seen c.give.new.world) c.give.new.steps
+    c.in-Err-give.stop c.give.new.machine (seen c.loop-doing.world) c.loop-doing.steps
     (frame_quiet c.pop.new.self c.in-Some.level.room m.context (below m.context c.in-Some.level.frame) c.in-Some.level.frame (value_of c.in-Give.value) (seen c.loop-doing.world))
     (reached_same run (seen c.args.world.now) c.args.steps.now (denote c.loop-doing.machine (Give c.in-Give.value)) rest (seen c.loop-doing.world)
     c.loop-doing.steps (λ t. popped c.loop-doing.machine c.in-Some.level c.pop.new.self c.in-Give.value (seen c.loop-doing.world) t c.in-Some.ensures)
     (subst (λ d. Reached run (seen c.args.world.now) c.args.steps.now (denote c.loop-doing.machine d) (seen c.loop-doing.world) c.loop-doing.steps)
-    c.in-Give.is c.loop-doing.invariant)) c.in-Err-give.ensures.turns
+    c.in-Give.is c.loop-doing.invariant))
+    (turns_of_leads rest (seen c.loop-doing.world) c.loop-doing.steps (Err c.in-Err-give.stop) c.give.new.machine c.in-Err-give.ensures.leads)
+
+pub loop-doing-preserved-in-Ok-apply : goal.loop-doing-preserved-in-Ok-apply
+loop-doing-preserved-in-Ok-apply c =
+    let run : Run = meaning c.args.room (known []) (Plain c.args.form) in
+    reached_on run (seen c.args.world.now) c.args.steps.now (denote c.loop-doing.machine (Apply c.in-Apply.name c.in-Apply.values)) (seen c.loop-doing.world) c.loop-doing.steps
+    c.in-Ok-apply.next c.apply.new.machine (seen c.apply.new.world) c.apply.new.steps
+    (subst (λ d. Reached run (seen c.args.world.now) c.args.steps.now (denote c.loop-doing.machine d) (seen c.loop-doing.world) c.loop-doing.steps)
+    c.in-Apply.is c.loop-doing.invariant) c.in-Ok-apply.ensures.turns
+
+pub loop-doing-preserved-in-Ok-apply-2 : goal.loop-doing-preserved-in-Ok-apply-2
+loop-doing-preserved-in-Ok-apply-2 c =
+    let run : Run = meaning c.args.room (known []) (Plain c.args.form) in
+    reached_on run (seen c.args.world.now) c.args.steps.now (denote c.loop-doing.machine (Apply c.in-Apply.name c.in-Apply.values)) (seen c.loop-doing.world) c.loop-doing.steps
+    c.in-Ok-apply.next c.apply.new.machine (seen c.apply.new.world) c.apply.new.steps
+    (subst (λ d. Reached run (seen c.args.world.now) c.args.steps.now (denote c.loop-doing.machine d) (seen c.loop-doing.world) c.loop-doing.steps)
+    c.in-Apply.is c.loop-doing.invariant) c.in-Ok-apply.ensures.turns
+
+pub returns-in-Err-apply : goal.returns-in-Err-apply
+returns-in-Err-apply c =
+    let run : Run = meaning c.args.room (known []) (Plain c.args.form) in
+    ended run (seen c.args.world.now) c.args.steps.now (denote c.loop-doing.machine (Apply c.in-Apply.name c.in-Apply.values)) (seen c.loop-doing.world) c.loop-doing.steps
+    c.in-Err-apply.stop c.apply.new.machine (seen c.apply.new.world) c.apply.new.steps
+    (apply_quiet c.loop-doing.machine c.in-Apply.name c.in-Apply.values (seen c.loop-doing.world))
+    (subst (λ d. Reached run (seen c.args.world.now) c.args.steps.now (denote c.loop-doing.machine d) (seen c.loop-doing.world) c.loop-doing.steps)
+    c.in-Apply.is c.loop-doing.invariant) c.in-Err-apply.ensures.turns

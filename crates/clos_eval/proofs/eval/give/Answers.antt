@@ -1,39 +1,33 @@
-use Rattle.std.proofs.Common.{sym, subst, refl, Ok, Err}
+use Rattle.std.proofs.Common.{sym, subst, refl}
 use Rattle.lisp_data.specs.ValueView.{value_of}
 use Rattle.clos_eval.specs.World.{seen}
 use Rattle.clos_eval.specs.Meaning.{Gave, meaning}
-use Rattle.clos_eval.specs.Machine.{Turns, given_to, passed}
-use Rattle.clos_eval.specs.declared.machine.Doing.TheVariants.{Give}
-use Rattle.clos_eval.specs.declared.machine.Frame.TheVariants.{Collect, Body}
-use Rattle.clos_eval.proofs.Running.{wrote, not_written, turns_of_leads}
+use Rattle.clos_eval.specs.Machine.{Leads, given_to, passed}
+use Rattle.clos_eval.specs.declared.machine.Frame.TheVariants.{Rest, Keep, Clause, Collect}
 use Rattle.clos_eval.proofs.eval.give.Goals as goal
 
-pub returns-in-Ok-clause-turns : goal.returns-in-Ok-clause-turns
-returns-in-Ok-clause-turns c =
-    subst (λ f. Turns (given_to c.args.machine.now f (value_of c.args.value)) (seen c.args.world.now) c.args.steps.now (Ok (Give c.args.value))
-    c.args.machine.now (seen c.write.new.world) c.write.new.steps) (sym c.in-Princ.is)
-    (wrote c.args.machine.now c.args.value (seen c.args.world.now) c.args.steps.now (seen c.write.new.world) c.write.new.steps c.in-Ok.ensures)
+pub returns-in-Rest-clause-leads : goal.returns-in-Rest-clause-leads
+returns-in-Rest-clause-leads c =
+    subst (λ f. Leads (given_to c.args.machine.now f (value_of c.args.value)) (seen c.args.world.now) c.follow.result c.follow.new.machine) (sym c.in-Rest.is)
+    (c.follow.ensures.leads (λ u k. passed (meaning c.args.machine.now.room) c.args.machine.now.context (Rest c.in-Rest.control c.in-Rest.rest)
+    (Gave (value_of c.args.value) u k)) (seen c.args.world.now) (λ t. refl))
 
-pub returns-in-Err-clause-turns : goal.returns-in-Err-clause-turns
-returns-in-Err-clause-turns c =
-    subst (λ f. Turns (given_to c.args.machine.now f (value_of c.args.value)) (seen c.args.world.now) c.args.steps.now (Err c.in-Err.stop)
-    c.args.machine.now (seen c.write.new.world) c.write.new.steps) (sym c.in-Princ.is)
-    (not_written c.args.machine.now (value_of c.args.value) (seen c.args.world.now) c.args.steps.now c.in-Err.stop (seen c.write.new.world)
-    c.write.new.steps c.args.machine.now c.in-Err.ensures)
+pub returns-in-Keep-clause-leads : goal.returns-in-Keep-clause-leads
+returns-in-Keep-clause-leads c =
+    subst (λ f. Leads (given_to c.args.machine.now f (value_of c.args.value)) (seen c.args.world.now) c.keep.result c.keep.new.machine) (sym c.in-Keep.is)
+    (c.keep.ensures.leads (λ u k. passed (meaning c.args.machine.now.room) c.args.machine.now.context (Keep c.in-Keep.rest c.in-Keep.kept)
+    (Gave (value_of c.args.value) u k)) (seen c.args.world.now) (λ t. refl))
 
-pub returns-in-Collect-clause-turns : goal.returns-in-Collect-clause-turns
-returns-in-Collect-clause-turns c =
-    subst (λ f. Turns (given_to c.args.machine.now f (value_of c.args.value)) (seen c.args.world.now) c.args.steps.now c.next_argument.result
-    c.next_argument.new.machine (seen c.args.world.now) c.args.steps.now) (sym c.in-Collect.is)
-    (turns_of_leads (given_to c.args.machine.now (Collect c.in-Collect.name c.in-Collect.rest c.in-Collect.values) (value_of c.args.value))
-    (seen c.args.world.now) c.args.steps.now c.next_argument.result c.next_argument.new.machine
-    (c.next_argument.ensures.leads
-    (λ u k. passed (meaning c.args.machine.now.room) c.args.machine.now.context (Collect c.in-Collect.name c.in-Collect.rest c.in-Collect.values)
-    (Gave (value_of c.args.value) u k)) (λ t. refl)))
+pub returns-in-Clause-clause-leads : goal.returns-in-Clause-clause-leads
+returns-in-Clause-clause-leads c =
+    subst (λ f. Leads (given_to c.args.machine.now f (value_of c.args.value)) (seen c.args.world.now) c.clause_tested.result c.clause_tested.new.machine)
+    (sym c.in-Clause.is)
+    (c.clause_tested.ensures.leads (λ u k. passed (meaning c.args.machine.now.room) c.args.machine.now.context (Clause c.in-Clause.forms c.in-Clause.others)
+    (Gave (value_of c.args.value) u k)) (seen c.args.world.now) (λ t. refl))
 
-pub returns-in-Body-clause-turns : goal.returns-in-Body-clause-turns
-returns-in-Body-clause-turns c =
-    subst (λ f. Turns (given_to c.args.machine.now f (value_of c.args.value)) (seen c.args.world.now) c.args.steps.now c.next_of_body.result
-    c.next_of_body.new.machine (seen c.args.world.now) c.args.steps.now) (sym c.in-Body.is)
-    (turns_of_leads (given_to c.args.machine.now (Body c.in-Body.rest c.in-Body.saved) (value_of c.args.value))
-    (seen c.args.world.now) c.args.steps.now c.next_of_body.result c.next_of_body.new.machine c.next_of_body.ensures.leads)
+pub returns-in-Collect-clause-leads : goal.returns-in-Collect-clause-leads
+returns-in-Collect-clause-leads c =
+    subst (λ f. Leads (given_to c.args.machine.now f (value_of c.args.value)) (seen c.args.world.now) c.next_argument.result c.next_argument.new.machine)
+    (sym c.in-Collect.is)
+    (c.next_argument.ensures.leads (λ u k. passed (meaning c.args.machine.now.room) c.args.machine.now.context
+    (Collect c.in-Collect.name c.in-Collect.rest c.in-Collect.values) (Gave (value_of c.args.value) u k)) (seen c.args.world.now) (λ t. refl))

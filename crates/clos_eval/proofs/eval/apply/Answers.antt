@@ -1,0 +1,24 @@
+use Rattle.std.proofs.Common.{sym, subst, ◌∙◌}
+use Rattle.lisp_prims.specs.Primitive.{answer}
+use Rattle.clos_eval.specs.Generic.{function_named}
+use Rattle.clos_eval.specs.World.{seen}
+use Rattle.clos_eval.specs.Meaning.{meaning, applied, answered, called_function}
+use Rattle.clos_eval.specs.Machine.{Turns, inside}
+use Rattle.clos_eval.proofs.Running.{turns_of_leads}
+use Rattle.clos_eval.proofs.eval.apply.Goals as goal
+
+pub returns-in-Primitive-clause-turns : goal.returns-in-Primitive-clause-turns
+returns-in-Primitive-clause-turns c =
+    subst (λ k. Turns (inside c.args.machine.now (applied (meaning c.args.machine.now.room) c.args.machine.now.context k c.args.name.now c.args.values))
+    (seen c.args.world.now) c.args.steps.now c.compute.result c.compute.new.machine (seen c.args.world.now) c.args.steps.now)
+    (sym c.in-Primitive.is ∙ c.callee_named.ensures)
+    (turns_of_leads (inside c.args.machine.now (answered (answer c.in-Primitive.primitive c.args.values))) (seen c.args.world.now) c.args.steps.now
+    c.compute.result c.compute.new.machine c.compute.ensures.leads)
+
+pub returns-in-Defined-clause-turns : goal.returns-in-Defined-clause-turns
+returns-in-Defined-clause-turns c =
+    subst (λ k. Turns (inside c.args.machine.now (applied (meaning c.args.machine.now.room) c.args.machine.now.context k c.args.name.now c.args.values))
+    (seen c.args.world.now) c.args.steps.now c.call.result c.call.new.machine (seen c.args.world.now) c.args.steps.now)
+    (sym c.in-Defined.is ∙ c.callee_named.ensures)
+    (turns_of_leads (inside c.args.machine.now (λ w. called_function (meaning c.args.machine.now.room) c.args.name.now c.args.values
+    (function_named w.generics c.args.name.now) w)) (seen c.args.world.now) c.args.steps.now c.call.result c.call.new.machine c.call.ensures.leads)
