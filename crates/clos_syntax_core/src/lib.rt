@@ -15,6 +15,8 @@ pub mod quotation;
 mod shape;
 mod slots;
 pub mod special;
+#[cfg(test)]
+mod tests;
 pub mod tree;
 
 pub use bound::{Binding, Bindings, Names, SlotBinding, SlotBindings};
