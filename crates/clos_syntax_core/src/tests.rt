@@ -9,6 +9,92 @@ use std::alloc::{AllocError, Global};
 use std::process::Abort;
 use std::test::Fail;
 
+/// Data, and the operators of their forms and of the parts.
+const FORMS: &str = "\
+12 => constant\n\
+\"text => constant\n\
+:KEY => constant\n\
+NIL => constant\n\
+( ) => constant\n\
+T => constant\n\
+X => variable\n\
+( QUOTE ( 1 X ) ) => constant\n\
+( FUNCTION F ) => function\n\
+( FUNCTION ( SETF F ) ) => setf-function\n\
+( IF X 1 ) => if variable constant\n\
+( IF X 1 ( F ) ) => if variable constant call\n\
+( COND ( X ) ( T 1 2 ) ) => cond clause clause\n\
+( COND ) => cond\n\
+( WHEN X ) => when variable\n\
+( UNLESS X 1 ) => unless variable constant\n\
+( AND ) => and\n\
+( OR X ) => or variable\n\
+( PROGN ) => progn\n\
+( PROG1 X 1 ) => prog1 variable constant\n\
+( MULTIPLE-VALUE-PROG1 X ) => prog1 variable\n\
+( DECLARE ) => call\n\
+( CAR 1 2 X ) => call constant constant variable\n\
+( :KEY ) => call";
+
+/// The same of forms that bind or set.
+const BINDING_FORMS: &str = "\
+( LET ( X ( Y ) ( Z 1 ) ) ( F ) ) => let constant call\n\
+( LET NIL ( DECLARE ( IGNORE X ) ) \"text X ) => let variable\n\
+( LET ( ) \"a \"b ( DECLARE ) ) => let constant\n\
+( LET* ( X ( X 1 ) ) ) => let* constant\n\
+( SETQ ) => setq\n\
+( SETQ X 1 X ( F ) ) => setq constant call\n\
+( SETF X 1 ( SLOT-VALUE I S ) 2 ( F X ) 3 ) => setf variable-place constant slot-value-place constant call-place constant\n\
+( INCF X ) => incf variable-place\n\
+( DECF ( CAR X ) 2 ) => decf call-place constant\n\
+( DOTIMES ( X 3 ) ( F ) ) => dotimes constant call\n\
+( DOTIMES ( X 3 X ) ) => dotimes-with-result constant variable\n\
+( WITH-SLOTS ( X ( Y T ) ) I X ) => with-slots variable variable\n\
+( WITH-SLOTS NIL I ) => with-slots variable";
+
+/// Data that are no forms.
+const OTHER_DATA: &str = "\
+( 1 2 )\n\
+( ( F ) )\n\
+( \"text )\n\
+( QUOTE )\n\
+( QUOTE 1 2 )\n\
+( FUNCTION 1 )\n\
+( FUNCTION ( SETF ) )\n\
+( FUNCTION ( LAMBDA NIL ) )\n\
+( IF 1 )\n\
+( IF 1 2 3 4 )\n\
+( COND X )\n\
+( COND ( ) )\n\
+( WHEN )\n\
+( PROG1 )\n\
+( LET )\n\
+( LET X )\n\
+( LET ( X ( X 1 ) ) )\n\
+( LET ( ( X 1 2 ) ) )\n\
+( LET* ( :KEY ) )\n\
+( SETQ X )\n\
+( SETQ T 1 )\n\
+( SETQ ( CAR X ) 1 )\n\
+( SETF X )\n\
+( SETF NIL 1 )\n\
+( SETF ( SLOT-VALUE I ) 1 )\n\
+( SETF ( PROGN X ) 1 )\n\
+( SETF ( DEFUN X ) 1 )\n\
+( INCF )\n\
+( INCF X 1 2 )\n\
+( DOTIMES ( X ) )\n\
+( DOTIMES ( X 1 2 3 ) )\n\
+( DOTIMES ( T 1 ) )\n\
+( WITH-SLOTS ( X ) )\n\
+( WITH-SLOTS ( X ( X Y ) ) I )\n\
+( WITH-SLOTS ( T ) I )\n\
+( WITH-SLOTS ( ( X Y Z ) ) I )\n\
+( CALL-NEXT-METHOD )\n\
+( NEXT-METHOD-P )\n\
+( F ( DEFUN F NIL ) )\n\
+( IN-PACKAGE X )";
+
 /// The symbol, keyword, string of one word or integer of a token.
 fn atom(alloc: Global, token: &str) -> Result<Datum, Fail> {
     if let Ok(number) = token.parse::<i64>() {
@@ -127,32 +213,8 @@ fn refuses(rt: &impl Abort, alloc: Global, context: Context, text: &str) -> Resu
 #[test]
 fn forms_have_their_parts(rt: HostRuntime) -> Result<(), Fail> {
     let alloc = rt.alloc();
-    for (text, operators) in [
-        ("12", "constant"),
-        ("\"text", "constant"),
-        (":KEY", "constant"),
-        ("NIL", "constant"),
-        ("( )", "constant"),
-        ("T", "constant"),
-        ("X", "variable"),
-        ("( QUOTE ( 1 X ) )", "constant"),
-        ("( FUNCTION F )", "function"),
-        ("( FUNCTION ( SETF F ) )", "setf-function"),
-        ("( IF X 1 )", "if variable constant"),
-        ("( IF X 1 ( F ) )", "if variable constant call"),
-        ("( COND ( X ) ( T 1 2 ) )", "cond clause clause"),
-        ("( COND )", "cond"),
-        ("( WHEN X )", "when variable"),
-        ("( UNLESS X 1 )", "unless variable constant"),
-        ("( AND )", "and"),
-        ("( OR X )", "or variable"),
-        ("( PROGN )", "progn"),
-        ("( PROG1 X 1 )", "prog1 variable constant"),
-        ("( MULTIPLE-VALUE-PROG1 X )", "prog1 variable"),
-        ("( DECLARE )", "call"),
-        ("( CAR 1 2 X )", "call constant constant variable"),
-        ("( :KEY )", "call"),
-    ] {
+    for row in FORMS.split('\n') {
+        let (text, operators) = row.split_once(" => ").ok_or("a row")?;
         parses(&rt, alloc, Context::Plain, text, operators)?;
     }
     Ok(())
@@ -161,33 +223,8 @@ fn forms_have_their_parts(rt: HostRuntime) -> Result<(), Fail> {
 #[test]
 fn binding_forms_have_their_parts(rt: HostRuntime) -> Result<(), Fail> {
     let alloc = rt.alloc();
-    for (text, operators) in [
-        ("( LET ( X ( Y ) ( Z 1 ) ) ( F ) )", "let constant call"),
-        (
-            "( LET NIL ( DECLARE ( IGNORE X ) ) \"text X )",
-            "let variable",
-        ),
-        ("( LET ( ) \"a \"b ( DECLARE ) )", "let constant"),
-        ("( LET* ( X ( X 1 ) ) )", "let* constant"),
-        ("( SETQ )", "setq"),
-        ("( SETQ X 1 X ( F ) )", "setq constant call"),
-        (
-            "( SETF X 1 ( SLOT-VALUE I S ) 2 ( F X ) 3 )",
-            "setf variable-place constant slot-value-place constant call-place constant",
-        ),
-        ("( INCF X )", "incf variable-place"),
-        ("( DECF ( CAR X ) 2 )", "decf call-place constant"),
-        ("( DOTIMES ( X 3 ) ( F ) )", "dotimes constant call"),
-        (
-            "( DOTIMES ( X 3 X ) )",
-            "dotimes-with-result constant variable",
-        ),
-        (
-            "( WITH-SLOTS ( X ( Y T ) ) I X )",
-            "with-slots variable variable",
-        ),
-        ("( WITH-SLOTS NIL I )", "with-slots variable"),
-    ] {
+    for row in BINDING_FORMS.split('\n') {
+        let (text, operators) = row.split_once(" => ").ok_or("a row")?;
         parses(&rt, alloc, Context::Plain, text, operators)?;
     }
     parses(
@@ -210,48 +247,7 @@ fn binding_forms_have_their_parts(rt: HostRuntime) -> Result<(), Fail> {
 #[test]
 fn other_data_are_refused(rt: HostRuntime) -> Result<(), Fail> {
     let alloc = rt.alloc();
-    for text in [
-        "( 1 2 )",
-        "( ( F ) )",
-        "( \"text )",
-        "( QUOTE )",
-        "( QUOTE 1 2 )",
-        "( FUNCTION 1 )",
-        "( FUNCTION ( SETF ) )",
-        "( FUNCTION ( LAMBDA NIL ) )",
-        "( IF 1 )",
-        "( IF 1 2 3 4 )",
-        "( COND X )",
-        "( COND ( ) )",
-        "( WHEN )",
-        "( PROG1 )",
-        "( LET )",
-        "( LET X )",
-        "( LET ( X ( X 1 ) ) )",
-        "( LET ( ( X 1 2 ) ) )",
-        "( LET* ( :KEY ) )",
-        "( SETQ X )",
-        "( SETQ T 1 )",
-        "( SETQ ( CAR X ) 1 )",
-        "( SETF X )",
-        "( SETF NIL 1 )",
-        "( SETF ( SLOT-VALUE I ) 1 )",
-        "( SETF ( PROGN X ) 1 )",
-        "( SETF ( DEFUN X ) 1 )",
-        "( INCF )",
-        "( INCF X 1 2 )",
-        "( DOTIMES ( X ) )",
-        "( DOTIMES ( X 1 2 3 ) )",
-        "( DOTIMES ( T 1 ) )",
-        "( WITH-SLOTS ( X ) )",
-        "( WITH-SLOTS ( X ( X Y ) ) I )",
-        "( WITH-SLOTS ( T ) I )",
-        "( WITH-SLOTS ( ( X Y Z ) ) I )",
-        "( CALL-NEXT-METHOD )",
-        "( NEXT-METHOD-P )",
-        "( F ( DEFUN F NIL ) )",
-        "( IN-PACKAGE X )",
-    ] {
+    for text in OTHER_DATA.split('\n') {
         refuses(&rt, alloc, Context::Plain, text)?;
     }
     refuses(&rt, alloc, Context::Method, "( NEXT-METHOD-P 1 )")
