@@ -7,6 +7,7 @@ pub mod bound;
 pub mod fault;
 pub mod form;
 pub mod function_name;
+pub mod laws;
 pub mod names;
 pub mod operator;
 pub mod part;
