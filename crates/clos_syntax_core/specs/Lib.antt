@@ -17,3 +17,4 @@ pub mod Slots
 pub mod Place
 pub mod Shape
 pub mod Grammar
+pub mod Room

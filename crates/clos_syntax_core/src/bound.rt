@@ -8,7 +8,7 @@ use std::marker::Model;
 /// Names, in order. Contracts see the list.
 #[derive(Drop)]
 pub struct Names {
-    items: Vec<Name>,
+    names: Vec<Name>,
 }
 
 /// A variable that is bound, and whether it has an init form; without one it is bound to NIL.
@@ -18,10 +18,11 @@ pub struct Binding {
     pub has_init: bool,
 }
 
-/// The variables that a `let` or `let*` binds, in order. Contracts see the list of their names, each with whether it has an init form.
+/// The variables that a `let` or `let*` binds, in order. Contracts see the list of their names, each with whether it
+/// has an init form.
 #[derive(Drop)]
 pub struct Bindings {
-    items: Vec<Binding>,
+    bindings: Vec<Binding>,
 }
 
 /// A variable that stands for a slot.
@@ -34,7 +35,7 @@ pub struct SlotBinding {
 /// The variables of a `with-slots`, in order. Contracts see the list of their names, each with its slot's.
 #[derive(Drop)]
 pub struct SlotBindings {
-    items: Vec<SlotBinding>,
+    slots: Vec<SlotBinding>,
 }
 
 impl Model for Names {
@@ -46,7 +47,7 @@ impl Model for Names {
 
     ghost coded = { coded_list name_code };
 
-    ghost view = { λ a. a.items.items };
+    ghost view = { λ a. a.names.items };
 }
 
 impl Model for Bindings {
@@ -59,7 +60,7 @@ impl Model for Bindings {
 
     ghost use Rattle.clos_syntax_core.specs.BoundView.{bound};
 
-    ghost view = { λ a. map bound a.items.items };
+    ghost view = { λ a. map bound a.bindings.items };
 }
 
 impl Model for SlotBindings {
@@ -72,53 +73,53 @@ impl Model for SlotBindings {
 
     ghost use Rattle.clos_syntax_core.specs.BoundView.{bound_slot};
 
-    ghost view = { λ a. map bound_slot a.items.items };
+    ghost view = { λ a. map bound_slot a.slots.items };
 }
 
 impl Names {
     /// These names.
-    pub fn new(items: Vec<Name>) -> Names
-        ensures { result ≡ items.items }
+    pub fn new(names: Vec<Name>) -> Names
+        ensures { result ≡ names.items }
     {
-        Names { items }
+        Names { names }
     }
 
     /// The names.
     pub fn as_slice(&self) -> &[Name]
         ensures { result.now ≡ self.now }
     {
-        self.items.as_slice()
+        self.names.as_slice()
     }
 }
 
 impl Bindings {
     /// These variables.
-    pub fn new(items: Vec<Binding>) -> Bindings
-        ensures { result ≡ map bound items.items }
+    pub fn new(bindings: Vec<Binding>) -> Bindings
+        ensures { result ≡ map bound bindings.items }
     {
-        Bindings { items }
+        Bindings { bindings }
     }
 
     /// The variables.
     pub fn as_slice(&self) -> &[Binding]
         ensures { map bound result.now ≡ self.now }
     {
-        self.items.as_slice()
+        self.bindings.as_slice()
     }
 }
 
 impl SlotBindings {
     /// These variables.
-    pub fn new(items: Vec<SlotBinding>) -> SlotBindings
-        ensures { result ≡ map bound_slot items.items }
+    pub fn new(slots: Vec<SlotBinding>) -> SlotBindings
+        ensures { result ≡ map bound_slot slots.items }
     {
-        SlotBindings { items }
+        SlotBindings { slots }
     }
 
     /// The variables.
     pub fn as_slice(&self) -> &[SlotBinding]
         ensures { map bound_slot result.now ≡ self.now }
     {
-        self.items.as_slice()
+        self.slots.as_slice()
     }
 }

@@ -7,6 +7,7 @@ pub mod bound;
 pub mod fault;
 pub mod form;
 pub mod function_name;
+pub mod laws;
 pub mod names;
 pub mod operator;
 pub mod part;
@@ -15,6 +16,8 @@ pub mod quotation;
 mod shape;
 mod slots;
 pub mod special;
+#[cfg(test)]
+mod tests;
 pub mod tree;
 
 pub use bound::{Binding, Bindings, Names, SlotBinding, SlotBindings};
