@@ -194,7 +194,7 @@ fn push_inits<'a>(parts: &mut Vec<Part<'a>>, entries: &[Entry<'a>]) -> Result<()
 }
 
 /// Whether no name stands twice.
-pub(crate) fn are_distinct(names: &[Name]) -> bool
+pub fn are_distinct(names: &[Name]) -> bool
     ensures { result ≡ are_distinct names.now }
 {
     let mut rest = names;
@@ -207,7 +207,7 @@ pub(crate) fn are_distinct(names: &[Name]) -> bool
     true
 }
 
-fn has_name(names: &[Name], name: &Name) -> bool
+pub fn has_name(names: &[Name], name: &Name) -> bool
     ensures { result ≡ list_any (λ n. same_name n name.now) names.now }
 {
     names.iter().any(|n| n.is(name))

@@ -38,7 +38,7 @@ fn past_declarations(forms: &Data) -> (Option<&Datum>, &Data)
     (last, rest)
 }
 
-fn is_declaration(datum: &Datum) -> bool
+pub fn is_declaration(datum: &Datum) -> bool
     ensures { result ≡ is_declaration (datum_of datum.now) }
 {
     match datum {
@@ -65,7 +65,7 @@ fn is_declare(datum: &Datum) -> bool
     }
 }
 
-fn is_string(datum: &Datum) -> bool
+pub fn is_string(datum: &Datum) -> bool
     ensures { result ≡ is_string (datum_of datum.now) }
 {
     matches!(datum, Datum::Str(_))

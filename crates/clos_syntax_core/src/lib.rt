@@ -20,6 +20,8 @@ pub mod special;
 mod tests;
 pub mod tree;
 
+pub use binding::{are_distinct, has_name};
+pub use body::{is_declaration, is_string};
 pub use bound::{Binding, Bindings, Names, SlotBinding, SlotBindings};
 pub use fault::SyntaxFault;
 pub use form::{Form, Forms};
@@ -28,7 +30,7 @@ pub use names::{
     is_closed_function, is_definition, is_function, is_system_function, is_the, names_constant,
 };
 pub use operator::{FunctionName, Operator, Place};
-pub use part::Context;
+pub use part::{Context, at_most_one, only};
 pub use quotation::quoted_value;
 pub use special::is_special_operator;
 pub use tree::{parse_body, parse_form, parse_forms};

@@ -46,7 +46,7 @@ const SYSTEM_FUNCTIONS: [&str; 9] = [
 
 /// Whether a name is one of these, and no keyword.
 #[tactic(auto, using(crate::proofs::Lists::any_of_map))]
-fn is_among(texts: &[&str], name: &Name) -> bool
+pub fn is_among(texts: &[&str], name: &Name) -> bool
     ensures { result ≡ is_one_of (map (λ t. t.now) texts.now) name.now }
 {
     !name.is_keyword() && has(texts, name.as_str())

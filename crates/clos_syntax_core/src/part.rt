@@ -133,7 +133,7 @@ pub(crate) fn push_optional<'a>(
 }
 
 /// The one datum of a list.
-pub(crate) fn only(elements: &Data) -> Option<&Datum>
+pub fn only(elements: &Data) -> Option<&Datum>
     ensures { option_map (λ d. datum_of d.now) result ≡ only_in elements.now }
 {
     let (datum, others) = elements.split_first()?;
@@ -144,7 +144,7 @@ pub(crate) fn only(elements: &Data) -> Option<&Datum>
 }
 
 /// The datum that a list may have, where it has no more.
-pub(crate) fn at_most_one(elements: &Data) -> Option<Option<&Datum>>
+pub fn at_most_one(elements: &Data) -> Option<Option<&Datum>>
     ensures { option_map (λ o. option_map (λ d. datum_of d.now) o) result ≡ at_most_one elements.now }
 {
     match elements.split_first() {

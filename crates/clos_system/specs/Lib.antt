@@ -1,3 +1,4 @@
+pub mod Served
 pub mod Names
 pub mod Syntax
 pub mod TopSyntax

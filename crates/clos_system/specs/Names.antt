@@ -1,68 +1,10 @@
--- The names that the language gives a meaning (HyperSpec 1.9).
-use Rattle.std.specs.Prelude.{ℕ, List, [], ◌∷◌, Bool, not, ◌&&◌, codes, if◌then◌else◌}
-use Rattle.std.specs.Str.{bytes_eq}
-use Rattle.std.specs.List.{list_any}
-use Rattle.lisp_data.specs.Name.{Nam}
-use Rattle.clos_system.specs.declared.names.Operator.{Operator}
-use Rattle.clos_system.specs.declared.names.Operator.TheVariants.{Quote, Princ, MakeInstance, Definition, Unserved, Function}
+-- The words of lambda lists (HyperSpec 3.4.1, 3.4.3).
+use Rattle.std.specs.Prelude.{ℕ, List, [], ◌∷◌, codes}
 
--- forms that stand at the top level alone
-abbrev pub definitions : List (List ℕ)
-definitions =
-    codes "DEFCLASS" ∷ codes "DEFGENERIC" ∷ codes "DEFMETHOD" ∷ codes "DEFINE-METHOD-COMBINATION" ∷ codes "DEFUN" ∷ codes "DEFVAR" ∷ codes "DEFPARAMETER"
-    ∷ codes "REMOVE-METHOD" ∷ codes "ADD-DEPENDENT" ∷ codes "REMOVE-DEPENDENT" ∷ codes "IN-PACKAGE" ∷ []
-
--- special operators and macros
-abbrev pub special_operators : List (List ℕ)
-special_operators =
-    codes "QUOTE" ∷ codes "FUNCTION" ∷ codes "IF" ∷ codes "COND" ∷ codes "WHEN" ∷ codes "UNLESS" ∷ codes "AND" ∷ codes "OR" ∷ codes "PROGN" ∷ codes "PROG1"
-    ∷ codes "MULTIPLE-VALUE-PROG1" ∷ codes "LET" ∷ codes "LET*" ∷ codes "SETQ" ∷ codes "SETF" ∷ codes "INCF" ∷ codes "DECF" ∷ codes "DOTIMES"
-    ∷ codes "WITH-SLOTS" ∷ codes "CALL-NEXT-METHOD" ∷ codes "NEXT-METHOD-P" ∷ []
-
--- functions
-abbrev pub functions : List (List ℕ)
-functions =
-    codes "+" ∷ codes "*" ∷ codes "-" ∷ codes "MAX" ∷ codes "MIN" ∷ codes "1+" ∷ codes "1-" ∷ codes "ABS" ∷ codes "ZEROP" ∷ codes "PLUSP" ∷ codes "MINUSP"
-    ∷ codes "EVENP" ∷ codes "ODDP" ∷ codes "FLOOR" ∷ codes "TRUNCATE" ∷ codes "MOD" ∷ codes "REM" ∷ codes "=" ∷ codes "<" ∷ codes ">" ∷ codes "<="
-    ∷ codes ">=" ∷ codes "NOT" ∷ codes "NULL" ∷ codes "EQ" ∷ codes "EQL" ∷ codes "EQUAL" ∷ codes "ATOM" ∷ codes "CONSP" ∷ codes "LISTP" ∷ codes "SYMBOLP"
-    ∷ codes "INTEGERP" ∷ codes "STRINGP" ∷ codes "CAR" ∷ codes "CDR" ∷ codes "FIRST" ∷ codes "SECOND" ∷ codes "THIRD" ∷ codes "REST" ∷ codes "NTH"
-    ∷ codes "CONS" ∷ codes "LIST" ∷ codes "LIST*" ∷ codes "APPEND" ∷ codes "NCONC" ∷ codes "REVERSE" ∷ codes "LENGTH" ∷ codes "PRINC" ∷ codes "PRIN1"
-    ∷ codes "PRINT" ∷ codes "TERPRI" ∷ codes "CLASS-OF" ∷ codes "CLASS-NAME" ∷ codes "CLASS-PRECEDENCE-LIST" ∷ codes "FIND-CLASS" ∷ codes "TYPEP"
-    ∷ codes "FIND-METHOD" ∷ codes "MAKE-INSTANCE" ∷ codes "CHANGE-CLASS" ∷ codes "SLOT-VALUE" ∷ codes "SLOT-BOUNDP" ∷ codes "SLOT-MAKUNBOUND"
-    ∷ codes "SLOT-EXISTS-P" ∷ codes "NATIVE-CALL" ∷ []
-
--- generic functions of the system
-abbrev pub system_functions : List (List ℕ)
-system_functions =
-    codes "INITIALIZE-INSTANCE" ∷ codes "REINITIALIZE-INSTANCE" ∷ codes "SHARED-INITIALIZE" ∷ codes "UPDATE-INSTANCE-FOR-REDEFINED-CLASS"
-    ∷ codes "UPDATE-INSTANCE-FOR-DIFFERENT-CLASS" ∷ codes "SLOT-UNBOUND" ∷ codes "SLOT-MISSING" ∷ codes "NO-APPLICABLE-METHOD" ∷ codes "NO-NEXT-METHOD" ∷ []
-
--- functions on which there are no methods of the user's
-abbrev pub closed_functions : List (List ℕ)
-closed_functions = codes "PRINT-OBJECT" ∷ codes "ALLOCATE-INSTANCE" ∷ []
-
--- words of lambda lists that begin the parameters of other kinds, and those of macros
+-- words that begin the parameters of other kinds
 abbrev pub parameter_kinds : List (List ℕ)
 parameter_kinds = codes "&OPTIONAL" ∷ codes "&REST" ∷ codes "&KEY" ∷ codes "&ALLOW-OTHER-KEYS" ∷ []
 
+-- words of the lambda lists of macros, and &AUX
 abbrev pub refused_kinds : List (List ℕ)
 refused_kinds = codes "&AUX" ∷ codes "&BODY" ∷ codes "&WHOLE" ∷ codes "&ENVIRONMENT" ∷ []
-
--- whether the name is one of these, and no keyword
-abbrev pub is_one_of : List (List ℕ) → Nam → Bool
-is_one_of texts name = not name.keyword && list_any (λ t. bytes_eq t name.text) texts
-
-abbrev pub is_called : List ℕ → Nam → Bool
-is_called text name = not name.keyword && bytes_eq name.text text
-
--- what the name stands for as the operator of a form
-abbrev pub operator_of : Nam → Operator
-operator_of name =
-    if is_called (codes "QUOTE") name then Quote
-    else if is_called (codes "PRINC") name then Princ
-    else if is_called (codes "MAKE-INSTANCE") name then MakeInstance
-    else if is_one_of definitions name then Definition
-    else if is_one_of special_operators name then Unserved
-    else if is_one_of functions name then Unserved
-    else if is_one_of system_functions name then Unserved
-    else Function

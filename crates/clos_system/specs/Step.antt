@@ -4,7 +4,7 @@ use Rattle.std.specs.Str.{bytes_eq}
 use Rattle.lisp_data.specs.Name.{Nam}
 use Rattle.lisp_data.specs.Value.{class, method}
 use Rattle.lisp_data.specs.Datum.{Dat}
-use Rattle.clos_eval.specs.Form.{Frms}
+use Rattle.clos_syntax_core.specs.Form.{Frms}
 use Rattle.clos_eval.specs.Class.{named}
 use Rattle.clos_eval.specs.Generic.{function_named, specializers_of}
 use Rattle.clos_eval.specs.Condition.{name_value}

@@ -4,8 +4,10 @@ use Rattle.std.specs.List.{list_any}
 use Rattle.lisp_data.specs.Name.{Nam, same_name}
 use Rattle.lisp_data.specs.Datum.{Dat, integer, symbol, string, list, dotted, method, Dats, nil, cons}
 use Rattle.clos_eval.specs.Condition.{nil_name}
-use Rattle.clos_system.specs.Names.{is_called, is_one_of, definitions, special_operators, functions, system_functions, closed_functions, parameter_kinds, refused_kinds}
-use Rattle.clos_system.specs.Syntax.{◌>>=◌, form_of, forms_of, is_constant}
+use Rattle.clos_syntax_core.specs.Names.{is_called, is_constant, is_one_of, definitions, functions, system_functions, closed_functions}
+use Rattle.clos_syntax_core.specs.Special.{special_operators}
+use Rattle.clos_system.specs.Names.{parameter_kinds, refused_kinds}
+use Rattle.clos_system.specs.Syntax.{◌>>=◌, served_form_of, served_body_of}
 use Rattle.clos_system.specs.declared.syntax.SyntaxFault.{SyntaxFault}
 use Rattle.clos_system.specs.declared.syntax.SyntaxFault.TheVariants.{Malformed, Unserved}
 use Rattle.clos_system.specs.declared.top.Top.{Top}
@@ -143,45 +145,9 @@ lambda_list_of (list l) = parameters_after [] [] l
 lambda_list_of (dotted l d) = Err Malformed
 lambda_list_of (method n) = Err Malformed
 
--- Of a body the declarations that lead it, and the strings that a form follows, are ignored.
-abbrev pub is_declaration : Dat → Bool
-is_declaration (integer n) = false
-is_declaration (symbol s) = false
-is_declaration (string s) = false
-is_declaration (list nil) = false
-is_declaration (list (cons (integer n) l)) = false
-is_declaration (list (cons (symbol s) l)) = is_called (codes "DECLARE") s
-is_declaration (list (cons (string s) l)) = false
-is_declaration (list (cons (list k) l)) = false
-is_declaration (list (cons (dotted k d) l)) = false
-is_declaration (list (cons (method n) l)) = false
-is_declaration (dotted l d) = false
-is_declaration (method n) = false
-
-abbrev pub is_string : Dat → Bool
-is_string (integer n) = false
-is_string (symbol s) = false
-is_string (string s) = true
-is_string (list l) = false
-is_string (dotted l d) = false
-is_string (method n) = false
-
-abbrev pub or_alone : Dat → Dats → Dats
-or_alone d nil = cons d nil
-or_alone d (cons e l) = cons e l
-
-abbrev pub body_of : Dats → Dats
-body_of nil = nil
-body_of (cons d l) = if is_declaration d then body_of l else if is_string d then or_alone d (body_of l) else cons d l
-
--- the rest of a body, of which this string was the last before it
-abbrev pub after_string : Option Dat → Dats → Dats
-after_string None l = l
-after_string (Some d) l = or_alone d l
-
 abbrev pub method_top : Dat → Dat → Dats → Result Top SyntaxFault
 method_top name parameters forms =
-    function_name name >>= λ n. lambda_list_of parameters >>= λ ps. forms_of (body_of forms) >>= λ fs. Ok (DefineMethod n ps.0 ps.1 fs)
+    function_name name >>= λ n. lambda_list_of parameters >>= λ ps. served_body_of forms >>= λ fs. Ok (DefineMethod n ps.0 ps.1 fs)
 
 abbrev pub defmethod_of : Dats → Result Top SyntaxFault
 defmethod_of nil = Err Malformed
@@ -191,7 +157,7 @@ defmethod_of (cons name (cons parameters forms)) = method_top name parameters fo
 -- ---- top-level forms
 
 abbrev pub expression_of : Dat → Result Top SyntaxFault
-expression_of d = form_of d >>= λ f. Ok (Expression f)
+expression_of d = served_form_of d >>= λ f. Ok (Expression f)
 
 abbrev pub operator_top : Nam → Dats → Result Top SyntaxFault
 operator_top name rest =

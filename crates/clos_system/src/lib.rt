@@ -3,6 +3,7 @@
 
 mod definition;
 mod names;
+mod served;
 mod session;
 mod syntax;
 mod top;

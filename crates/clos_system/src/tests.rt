@@ -1,7 +1,7 @@
 //! What no clause says: the transcripts of texts, and readers and writers that fail.
-use clos_eval::limits::Limits;
 use crate::session::{Reply, Session};
 use crate::transcript::{RunFault, Summary, run};
+use clos_eval::limits::Limits;
 use lisp_data::{Data, Datum, Dot, MAX_NESTING, MethodId, Name, Value};
 use lisp_reader::{ReadFault, read_form};
 use std::alloc::Global;
@@ -200,8 +200,9 @@ fn forms_that_are_not_served(rt: HostRuntime) -> Result<(), Fail> {
     for text in [
         "(defvar x 1)",
         "(let ((x (princ 1))) x)",
-        "(princ (if 1 2 3))",
-        "(f (princ 1) (+ 1 2))",
+        "(f (princ 1) (typep 1 'integer))",
+        "(progn (princ 1) (cond (nil (setq x 1))))",
+        "(defmethod f (x) (call-next-method))",
         "(initialize-instance (princ 1))",
         "(defgeneric f (x))",
         "(defclass a (b c) ())",
@@ -245,6 +246,14 @@ fn malformed_forms(rt: HostRuntime) -> Result<(), Fail> {
         "(1 2)",
         "((f) (princ 1))",
         "(princ (defclass a () ()))",
+        "(if (princ 1))",
+        "(if 1 2 3 4)",
+        "(progn (princ 1) (cond (nil (if))))",
+        "(cond (princ 1) 5)",
+        "(let ((x 1) (x 2)) x)",
+        "(setq t (princ 1))",
+        "(incf 5)",
+        "(call-next-method)",
         "(defclass a)",
         "(defclass 5 () ())",
         "(defclass integer () ())",
@@ -266,6 +275,82 @@ fn malformed_forms(rt: HostRuntime) -> Result<(), Fail> {
         )?;
     }
     Ok(())
+}
+
+#[test]
+fn forms_one_after_another(rt: HostRuntime) -> Result<(), Fail> {
+    let alloc = rt.alloc();
+    for (text, output) in [
+        ("(princ (progn))", "NIL"),
+        ("(princ (progn (princ 1) 2))", "12"),
+        ("(princ (prog1 (princ 1) (princ 2) (princ 3)))", "1231"),
+        ("(princ (multiple-value-prog1 1 2))", "1"),
+        ("(princ (if nil (princ 1) 2))", "2"),
+        ("(princ (if 0 1 (princ 2)))", "1"),
+        ("(princ (if () 1))", "NIL"),
+        ("(princ (when (princ 1) (princ 2) 3))", "123"),
+        ("(princ (when nil (princ 1)))", "NIL"),
+        ("(princ (when 1))", "NIL"),
+        ("(princ (unless nil (princ 1) 2))", "12"),
+        ("(princ (unless 1 (princ 2)))", "NIL"),
+        ("(princ (and)) (princ (or))", "TNIL"),
+        ("(princ (and (princ 1) nil (princ 2)))", "1NIL"),
+        ("(princ (and 1 2))", "2"),
+        ("(princ (or nil (princ 1) (princ 2)))", "11"),
+        ("(princ (or nil nil))", "NIL"),
+        ("(princ (cond (nil (princ 1)) (2) (3)))", "2"),
+        ("(princ (cond ((null 1) 1) (t (princ 2) 3)))", "23"),
+        ("(princ (cond (nil 1)))", "NIL"),
+        ("(princ (cond))", "NIL"),
+    ] {
+        writes(&rt, alloc, Limits::default(), text, output, 0)?;
+    }
+    let both = "(progn (princ 1) (princ 2))";
+    echoes(&rt, alloc, both, "12\n2\n")?;
+    writes(&rt, alloc, with_steps(7), both, "12", 0)?;
+    writes(&rt, alloc, with_steps(6), both, "1\n; 29 (STEP-LIMIT)\n", 1)?;
+    let chosen = "(princ (if nil 1 2))";
+    writes(&rt, alloc, with_steps(5), chosen, "2", 0)?;
+    writes(&rt, alloc, with_steps(4), chosen, "; 29 (STEP-LIMIT)\n", 1)?;
+    writes(&rt, alloc, with_depth(3), chosen, "2", 0)?;
+    writes(&rt, alloc, with_depth(2), chosen, "; 30 (DEPTH-LIMIT)\n", 1)
+}
+
+#[test]
+fn functions_of_the_language(rt: HostRuntime) -> Result<(), Fail> {
+    let alloc = rt.alloc();
+    for (text, output) in [
+        (
+            "(princ (list (floor -7 2) (truncate -7 2) (mod -7 2) (rem -7 2)))",
+            "(-4 -3 1 -1)",
+        ),
+        ("(princ (append '(1 2) (list* 3 '(4))))", "(1 2 3 4)"),
+        ("(princ (+ (length \"ab\") (* 2 3)))", "8"),
+        ("(princ (list (eq 'a 'a) (equal '(1) '(1))))", "(T T)"),
+        ("(prin1 \"a\") (print 'b) (terpri)", "\"a\"\nB \n"),
+        ("(princ (terpri)) (princ (prin1 1))", "\nNIL11"),
+        (
+            "(defmethod twice (x) (* 2 x)) (princ (twice (twice 3)))",
+            "12",
+        ),
+    ] {
+        writes(&rt, alloc, Limits::default(), text, output, 0)?;
+    }
+    for (text, output) in [
+        ("(floor 1 0)", "; 6 (DIVISION-BY-ZERO)\n"),
+        ("(+ 9223372036854775807 1)", "; 5 (INTEGER-RANGE)\n"),
+        ("(car (princ 5))", "5\n; 4 (TYPE-ERROR 5)\n"),
+        ("(progn (princ 1) (car))", "1\n; 1 (PROGRAM-ERROR)\n"),
+        ("(princ)", "; 1 (PROGRAM-ERROR)\n"),
+        ("(princ 1 2)", "; 1 (PROGRAM-ERROR)\n"),
+        ("(terpri 1)", "; 1 (PROGRAM-ERROR)\n"),
+        ("(eql '(1) '(1))", "; 28 (UNSUPPORTED)\n"),
+        ("(cons 1 2)", "; 28 (UNSUPPORTED)\n"),
+    ] {
+        writes(&rt, alloc, Limits::default(), text, output, 1)?;
+    }
+    writes(&rt, alloc, with_steps(3), "(print 1)", "\n1 ", 0)?;
+    writes(&rt, alloc, with_steps(2), "(print 1)", "; 29 (STEP-LIMIT)\n", 1)
 }
 
 #[test]

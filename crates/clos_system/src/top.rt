@@ -4,16 +4,16 @@ ghost use Rattle.lisp_data.specs.DatumView.{datum_of};
 ghost use Rattle.lisp_data.specs.Datum.{Dats, list, cons, symbol};
 ghost use Rattle.lisp_data.specs.Name.{same_name};
 ghost use Rattle.std.specs.List.{list_any};
-ghost use Rattle.clos_system.specs.Syntax.{Gives, forms_of};
-ghost use Rattle.clos_system.specs.TopSyntax.{has_method, any_has_method, symbol_in, is_nil, named_symbol, superclass_of, no_slots, defclass_of, class_top, function_name, Parameter, bound_name, plain_parameter, specializer_of, specialized, pair_of, parameter_of, parameters_after, lambda_list_of, is_declaration, is_string, body_of, method_top, defmethod_of, expression_of, operator_top, any_top, top_of};
+ghost use Rattle.clos_system.specs.Syntax.{Gives};
+ghost use Rattle.clos_system.specs.TopSyntax.{has_method, any_has_method, symbol_in, is_nil, named_symbol, superclass_of, no_slots, defclass_of, class_top, function_name, Parameter, bound_name, plain_parameter, specializer_of, specialized, pair_of, parameter_of, parameters_after, lambda_list_of, method_top, defmethod_of, expression_of, operator_top, any_top, top_of};
 
-use clos_eval::form::{Form, Forms};
+use crate::names::{is_parameter_kind, is_refused_kind};
+use crate::syntax::{SyntaxFault, parse_served, parse_served_body};
 use clos_eval::generic::Parameters;
-use crate::names::{
-    is_closed_function, is_definition, is_function, is_parameter_kind, is_refused_kind,
-    is_special_operator, is_system_function, is_the,
+use clos_syntax_core::{
+    Form, Forms, is_closed_function, is_definition, is_function, is_special_operator,
+    is_system_function, is_the, names_constant,
 };
-use crate::syntax::{SyntaxFault, names_constant, parse_form, parse_forms};
 use lisp_data::{Data, Datum, Name};
 use std::alloc::{AllocError, Global};
 
@@ -299,60 +299,6 @@ fn parse_lambda_list(alloc: Global, datum: &Datum) -> Result<LambdaList, SyntaxF
     }
 }
 
-fn declares(datum: &Datum) -> bool
-    ensures { result ≡ is_declaration (datum_of datum.now) }
-{
-    match datum {
-        Datum::List(elements) => match elements.split_first() {
-            None => false,
-            Some((head, _)) => match head {
-                Datum::Sym(name) => is_the(name, "DECLARE"),
-                _ => false,
-            },
-        },
-        _ => false,
-    }
-}
-
-fn is_text(datum: &Datum) -> bool
-    ensures { result ≡ is_string (datum_of datum.now) }
-{
-    matches!(datum, Datum::Str(_))
-}
-
-/// A body without what leads it and is ignored: declarations, and the strings that a form follows.
-fn strip_body(alloc: Global, forms: &Data) -> Result<Data, AllocError>
-    ensures { IfOk result (λ r. r ≡ body_of forms.now) }
-{
-    let mut last: Option<&Datum> = None;
-    let mut rest = forms;
-    while let Some((first, others)) = rest.split_first() {
-        if declares(first) {
-            rest = others;
-        } else if is_text(first) {
-            last = Some(first);
-            rest = others;
-        } else {
-            return rest.copy();
-        }
-    }
-    match last {
-        None => Ok(Data::new()),
-        // A string nests in no list, so only memory is refused.
-        Some(text) => match Data::cons(alloc, text.copy()?, Data::new()) {
-            Ok(body) => Ok(body),
-            Err(_) => Err(AllocError),
-        },
-    }
-}
-
-fn parse_body(alloc: Global, forms: &Data) -> Result<Forms, SyntaxFault>
-    ensures { Gives (λ fs. fs) result (forms_of (body_of forms.now)) }
-{
-    let body = strip_body(alloc, forms)?;
-    parse_forms(alloc, &body)
-}
-
 fn parse_defmethod(alloc: Global, rest: &Data) -> Result<Top, SyntaxFault>
     ensures { Gives (λ t. t) result (defmethod_of rest.now) }
 {
@@ -375,7 +321,7 @@ fn parse_method(
 {
     let name = parse_function_name(name)?;
     let LambdaList { names, classes } = parse_lambda_list(alloc, parameters)?;
-    let body = parse_body(alloc, forms)?;
+    let body = parse_served_body(alloc, forms)?;
     let names = Parameters::new(alloc, names)?;
     let classes = Parameters::new(alloc, classes)?;
     Ok(Top::DefineMethod(name, names, classes, body))
@@ -384,7 +330,7 @@ fn parse_method(
 fn parse_expression(alloc: Global, datum: &Datum) -> Result<Top, SyntaxFault>
     ensures { Gives (λ t. t) result (expression_of (datum_of datum.now)) }
 {
-    let form = parse_form(alloc, datum)?;
+    let form = parse_served(alloc, datum)?;
     Ok(Top::Expression(form))
 }
 
