@@ -1,0 +1,20 @@
+-- Lists of things, one after another.
+use Rattle.std.proofs.Common.{◌≡◌, map, List, [], ◌∷◌, ◌++◌, Option, Some, None, refl, ap, sym, append_assoc}
+use Rattle.std.specs.Prelude.{option_map}
+use Rattle.clos_syntax_core.specs.Fault.{◌>>=◌}
+use Rattle.lisp_data.specs.Datum.{Dats, cons}
+use Rattle.lisp_data.specs.DatumView.{datum_of}
+use Rattle.lisp_data.specs.declared.datum.Datum.{Datum}
+use Rattle.clos_syntax.specs.Lists.{ahead, before}
+
+pub one_more : {A : Type 0} (xs : List A) (x : A) (o : Option (List A)) → before xs (o >>= λ ys. Some (x ∷ ys)) ≡ before (xs ++ x ∷ []) o
+one_more xs x None = refl
+one_more xs x (Some ys) = ap Some (sym (append_assoc xs (x ∷ []) ys))
+
+pub some_more : {A : Type 0} (xs zs : List A) (o : Option (List A)) → before xs (o >>= λ ys. Some (zs ++ ys)) ≡ before (xs ++ zs) o
+some_more xs zs None = refl
+some_more xs zs (Some ys) = ap Some (sym (append_assoc xs zs ys))
+
+pub one_ahead : (ds : List Datum) (d : Datum) (l : Dats) → ahead (map datum_of (ds ++ d ∷ [])) l ≡ ahead (map datum_of ds) (cons (datum_of d) l)
+one_ahead [] d l = refl
+one_ahead (e ∷ ds) d l = ap (cons (datum_of e)) (one_ahead ds d l)

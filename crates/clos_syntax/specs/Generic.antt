@@ -1,0 +1,84 @@
+-- Generic functions (HyperSpec 7.7 defgeneric).
+use Rattle.std.specs.Prelude.{List, [], ◌∷◌, Bool, true, ◌||◌, ◌&&◌, codes, Option, Some, None, if◌then◌else◌}
+use Rattle.std.specs.List.{list_any}
+use Rattle.lisp_data.specs.Name.{Nam, same_name}
+use Rattle.lisp_data.specs.Datum.{Dat, integer, symbol, string, list, dotted, method, Dats, nil, cons}
+use Rattle.clos_syntax_core.specs.Binding.{each, are_distinct}
+use Rattle.clos_syntax_core.specs.Body.{is_declaration}
+use Rattle.clos_syntax_core.specs.Fault.{◌>>=◌}
+use Rattle.clos_syntax_core.specs.FunctionName.{symbol_in}
+use Rattle.clos_syntax_core.specs.declared.operator.FunctionName.{FunctionName}
+use Rattle.clos_syntax.specs.Class.{documentation_option_in}
+use Rattle.clos_syntax.specs.FunctionName.{new_function_in}
+use Rattle.clos_syntax.specs.LambdaList.{generic_lambda_list_in}
+use Rattle.clos_syntax.specs.Method.{method_in}
+use Rattle.clos_syntax.specs.Property.{is_option, options_of, option_in, arguments_in}
+use Rattle.clos_syntax.specs.declared.generic.CombinationUse.{CombinationUse}
+use Rattle.clos_syntax.specs.declared.generic.GenericDefinition.{GenericDefinition}
+use Rattle.clos_syntax.specs.declared.generic.GenericOptions.{GenericOptions}
+use Rattle.clos_syntax.specs.declared.lambda_list.LambdaList.{LambdaList}
+use Rattle.clos_syntax.specs.declared.method.MethodDefinition.{MethodDefinition}
+
+abbrev pub generic_option_in : Dat → Option (Unit {0})
+generic_option_in d =
+    if is_declaration d || is_option (codes "ARGUMENT-PRECEDENCE-ORDER") d || is_option (codes "METHOD-COMBINATION") d
+    || is_option (codes "DOCUMENTATION") d || is_option (codes "METHOD") d then Some tt else None
+
+-- ---- the options
+
+abbrev pub symbols_in : Dat → Option (List Nam)
+symbols_in d = arguments_in d >>= each symbol_in
+
+-- a name, and any data
+abbrev pub combination_with : Dats → Option CombinationUse
+combination_with nil = None
+combination_with (cons name l) = symbol_in name >>= λ n. Some (record { name = n; arguments = l })
+
+abbrev pub combination_in : Dat → Option CombinationUse
+combination_in d = arguments_in d >>= combination_with
+
+abbrev pub method_option_in : Dat → Option MethodDefinition
+method_option_in d = arguments_in d >>= method_in
+
+abbrev pub generic_options_in : Dats → Option GenericOptions
+generic_options_in l =
+    each generic_option_in l
+    >>= λ known. option_in documentation_option_in (codes "DOCUMENTATION") l
+    >>= λ documentation. option_in symbols_in (codes "ARGUMENT-PRECEDENCE-ORDER") l
+    >>= λ precedence. option_in combination_in (codes "METHOD-COMBINATION") l
+    >>= λ combination. each method_option_in (options_of (codes "METHOD") l)
+    >>= λ methods. Some (record { precedence = precedence; combination = combination; methods = methods })
+
+-- ---- the order of the arguments
+
+-- whether each of these names is one of those
+abbrev pub are_among : List Nam → List Nam → Bool
+are_among [] ms = true
+are_among (n ∷ ns) ms = list_any (λ m. same_name m n) ms && are_among ns ms
+
+-- each required parameter exactly once
+abbrev pub orders : List Nam → List Nam → Bool
+orders required names = are_distinct names && are_among names required && are_among required names
+
+abbrev pub fits : List Nam → Option (List Nam) → Bool
+fits required None = true
+fits required (Some names) = orders required names
+
+-- ---- generic functions
+
+abbrev pub generic : FunctionName → LambdaList → GenericOptions → GenericDefinition
+generic name l os =
+    record { name = name; lambda_list = l; precedence = os.precedence; combination = os.combination; methods = os.methods }
+
+abbrev pub generic_with : Dat → Dat → Dats → Option GenericDefinition
+generic_with name parameters options =
+    new_function_in name
+    >>= λ n. generic_lambda_list_in parameters
+    >>= λ l. generic_options_in options
+    >>= λ os. if fits l.required os.precedence then Some (generic n l os) else None
+
+-- a name, a lambda list, and options
+abbrev pub generic_in : Dats → Option GenericDefinition
+generic_in nil = None
+generic_in (cons name nil) = None
+generic_in (cons name (cons parameters options)) = generic_with name parameters options

@@ -1,0 +1,12 @@
+pub mod Lists
+pub mod Sections
+pub mod Property
+pub mod LambdaList
+pub mod FunctionName
+pub mod Method
+pub mod Function
+pub mod Variable
+pub mod Slot
+pub mod Class
+pub mod Generic
+pub mod Top

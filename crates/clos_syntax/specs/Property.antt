@@ -1,0 +1,65 @@
+-- Names and values in turn, and options that their heads name.
+use Rattle.std.specs.Prelude.{ℕ, List, Bool, true, false, ◌&&◌, Option, Some, None, if◌then◌else◌}
+use Rattle.std.specs.Str.{bytes_eq}
+use Rattle.lisp_data.specs.Name.{Nam}
+use Rattle.lisp_data.specs.Datum.{Dat, integer, symbol, string, list, dotted, method, Dats, nil, cons}
+use Rattle.clos_syntax_core.specs.Binding.{each}
+use Rattle.clos_syntax_core.specs.Fault.{◌>>=◌}
+use Rattle.clos_syntax.specs.Lists.{single}
+
+-- the keyword of these characters
+abbrev pub is_keyword_called : List ℕ → Nam → Bool
+is_keyword_called text name = name.keyword && bytes_eq name.text text
+
+abbrev pub is_key : List ℕ → Dat → Bool
+is_key text (integer n) = false
+is_key text (symbol name) = is_keyword_called text name
+is_key text (string s) = false
+is_key text (list l) = false
+is_key text (dotted l d) = false
+is_key text (method n) = false
+
+-- the values of this keyword, of keywords and values in turn
+abbrev pub values_of : List ℕ → Dats → Dats
+values_of text nil = nil
+values_of text (cons k nil) = nil
+values_of text (cons k (cons v l)) = if is_key text k then cons v (values_of text l) else values_of text l
+
+-- what the only value of this keyword stands for, where it has one
+abbrev pub value_in : {A : Type 0} → (Dat → Option A) → List ℕ → Dats → Option (Option A)
+value_in f text l = each f (values_of text l) >>= single
+
+abbrev pub heads_option : List ℕ → Dats → Bool
+heads_option text nil = false
+heads_option text (cons head l) = is_key text head
+
+-- a list that begins with this keyword
+abbrev pub is_option : List ℕ → Dat → Bool
+is_option text (integer n) = false
+is_option text (symbol name) = false
+is_option text (string s) = false
+is_option text (list l) = heads_option text l
+is_option text (dotted l d) = false
+is_option text (method n) = false
+
+-- the options of this keyword
+abbrev pub options_of : List ℕ → Dats → Dats
+options_of text nil = nil
+options_of text (cons d l) = if is_option text d then cons d (options_of text l) else options_of text l
+
+-- what the only option of this keyword stands for, where there is one
+abbrev pub option_in : {A : Type 0} → (Dat → Option A) → List ℕ → Dats → Option (Option A)
+option_in f text l = each f (options_of text l) >>= single
+
+abbrev pub tail_of : Dats → Option Dats
+tail_of nil = None
+tail_of (cons head l) = Some l
+
+-- what an option has after its keyword
+abbrev pub arguments_in : Dat → Option Dats
+arguments_in (integer n) = None
+arguments_in (symbol name) = None
+arguments_in (string s) = None
+arguments_in (list l) = tail_of l
+arguments_in (dotted l d) = None
+arguments_in (method n) = None

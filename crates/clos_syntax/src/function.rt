@@ -1,0 +1,53 @@
+//! Functions (HyperSpec 5.3 `defun`).
+ghost use Rattle.std.specs.Prelude.{◌≡◌};
+ghost use Rattle.lisp_data.specs.DatumView.{datum_of};
+ghost use Rattle.clos_syntax_core.specs.Fault.{Gives};
+ghost use Rattle.clos_syntax.specs.Function.{function_in, function_with};
+
+use crate::function_name::parse_new_function;
+use crate::lambda_list::{LambdaList, parse_lambda_list};
+use clos_syntax_core::{Context, Forms, FunctionName, SyntaxFault, parse_body};
+use lisp_data::{Data, Datum};
+use std::alloc::Global;
+
+/// What a `defun` defines.
+#[derive(Drop)]
+pub struct FunctionDefinition {
+    pub name: FunctionName,
+    pub lambda_list: LambdaList,
+    pub body: Forms,
+}
+
+/// A name, a lambda list, and a body.
+pub(crate) fn parse_function(
+    alloc: Global,
+    elements: &Data,
+) -> Result<FunctionDefinition, SyntaxFault>
+    ensures { Gives (λ d. d) result (function_in elements.now) }
+{
+    match elements.split_first() {
+        None => Err(SyntaxFault::Program),
+        Some((name, rest)) => match rest.split_first() {
+            None => Err(SyntaxFault::Program),
+            Some((parameters, body)) => parse_function_with(alloc, name, parameters, body),
+        },
+    }
+}
+
+fn parse_function_with(
+    alloc: Global,
+    name: &Datum,
+    parameters: &Datum,
+    body: &Data,
+) -> Result<FunctionDefinition, SyntaxFault>
+    ensures { Gives (λ d. d) result (function_with (datum_of name.now) (datum_of parameters.now) body.now) }
+{
+    let name = parse_new_function(name)?;
+    let lambda_list = parse_lambda_list(alloc, parameters)?;
+    let body = parse_body(alloc, Context::Plain, body)?;
+    Ok(FunctionDefinition {
+        name,
+        lambda_list,
+        body,
+    })
+}

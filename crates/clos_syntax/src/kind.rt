@@ -1,0 +1,189 @@
+//! Kinds of things that data stand for, and lists of one kind.
+ghost use Rattle.std.specs.Prelude.{◌≡◌, Option};
+ghost use Rattle.lisp_data.specs.Datum.{Dat};
+ghost use Rattle.lisp_data.specs.DatumView.{datum_of};
+ghost use Rattle.clos_syntax_core.specs.Binding.{each};
+ghost use Rattle.clos_syntax_core.specs.Fault.{Gives};
+ghost use Rattle.clos_syntax_core.specs.FunctionName.{symbol_in};
+ghost use Rattle.clos_syntax.specs.Property.{options_of, option_in, values_of, value_in};
+ghost use Rattle.clos_syntax.specs.Sections.{front};
+ghost use Rattle.clos_syntax.specs.Slot.{form_in};
+
+use crate::property::{is_key, is_option};
+use crate::section::ends_section;
+use crate::sequence::Sequence;
+use clos_syntax_core::{Context, Form, SyntaxFault, parse_form, symbol_name};
+use lisp_data::{Data, Datum, Name};
+use std::alloc::Global;
+
+/// A kind of thing that a datum may stand for.
+pub(crate) trait Kind {
+    type Item: Drop;
+
+    ghost item_in: { Dat → Option Self.Item };
+
+    /// What a datum stands for.
+    fn parse(alloc: Global, datum: &Datum) -> Result<Self::Item, SyntaxFault>
+        ensures { Gives (λ x. x) result (item_in (datum_of datum.now)) };
+}
+
+/// Symbols.
+pub(crate) struct Symbols;
+
+/// Forms that stand in no method.
+pub(crate) struct PlainForms;
+
+impl Kind for Symbols {
+    type Item = Name;
+
+    ghost item_in = { symbol_in };
+
+    fn parse(_alloc: Global, datum: &Datum) -> Result<Name, SyntaxFault> {
+        parse_symbol(datum)
+    }
+}
+
+impl Kind for PlainForms {
+    type Item = Form;
+
+    ghost item_in = { form_in };
+
+    fn parse(alloc: Global, datum: &Datum) -> Result<Form, SyntaxFault> {
+        parse_plain_form(alloc, datum)
+    }
+}
+
+/// The name of the symbol that a datum is.
+pub(crate) fn parse_symbol(datum: &Datum) -> Result<Name, SyntaxFault>
+    ensures { Gives (λ n. n) result (symbol_in (datum_of datum.now)) }
+{
+    match symbol_name(datum) {
+        None => Err(SyntaxFault::Program),
+        Some(name) => Ok(name.copy()?),
+    }
+}
+
+/// The form that a datum is in no method.
+pub(crate) fn parse_plain_form(alloc: Global, datum: &Datum) -> Result<Form, SyntaxFault>
+    ensures { Gives (λ f. f) result (form_in (datum_of datum.now)) }
+{
+    parse_form(alloc, Context::Plain, datum)
+}
+
+/// What each element of a list stands for.
+#[tactic(auto, using(crate::proofs::Lists::one_more))]
+pub(crate) fn parse_each<K: Kind>(
+    alloc: Global,
+    elements: &Data,
+) -> Result<Sequence<K::Item>, SyntaxFault>
+    ensures { Gives (λ xs. xs) result (each K.item_in elements.now) }
+{
+    let mut items = Sequence::new(alloc);
+    let mut rest = elements;
+    while let Some((first, others)) = rest.split_first() {
+        match K::parse(alloc, first) {
+            Err(fault) => return Err(fault),
+            Ok(item) => items.push(item)?,
+        }
+        rest = others;
+    }
+    Ok(items)
+}
+
+/// What each element of a section of a lambda list stands for.
+#[tactic(auto, using(crate::proofs::Lists::one_more))]
+pub(crate) fn parse_front<K: Kind>(
+    alloc: Global,
+    elements: &Data,
+) -> Result<Sequence<K::Item>, SyntaxFault>
+    ensures { Gives (λ xs. xs) result (each K.item_in (front elements.now)) }
+{
+    let mut items = Sequence::new(alloc);
+    let mut rest = elements;
+    while let Some((first, others)) = rest.split_first() {
+        if ends_section(first) {
+            return Ok(items);
+        }
+        match K::parse(alloc, first) {
+            Err(fault) => return Err(fault),
+            Ok(item) => items.push(item)?,
+        }
+        rest = others;
+    }
+    Ok(items)
+}
+
+/// What each value of a keyword stands for, of keywords and values in turn.
+#[tactic(auto, using(crate::proofs::Lists::one_more))]
+pub(crate) fn parse_values<K: Kind>(
+    alloc: Global,
+    key: &str,
+    properties: &Data,
+) -> Result<Sequence<K::Item>, SyntaxFault>
+    ensures { Gives (λ xs. xs) result (each K.item_in (values_of key.now properties.now)) }
+{
+    let mut items = Sequence::new(alloc);
+    let mut rest = properties;
+    while let Some((name, others)) = rest.split_first() {
+        match others.split_first() {
+            None => return Ok(items),
+            Some((value, others)) => {
+                if is_key(key, name) {
+                    match K::parse(alloc, value) {
+                        Err(fault) => return Err(fault),
+                        Ok(item) => items.push(item)?,
+                    }
+                }
+                rest = others;
+            }
+        }
+    }
+    Ok(items)
+}
+
+/// What the only value of a keyword stands for, where it has one.
+pub(crate) fn parse_value<K: Kind>(
+    alloc: Global,
+    key: &str,
+    properties: &Data,
+) -> Result<Option<K::Item>, SyntaxFault>
+    ensures { Gives (λ x. x) result (value_in K.item_in key.now properties.now) }
+{
+    let items = parse_values::<K>(alloc, key, properties)?;
+    items.into_single()
+}
+
+/// What each option of a keyword stands for.
+#[tactic(auto, using(crate::proofs::Lists::one_more))]
+pub(crate) fn parse_options<K: Kind>(
+    alloc: Global,
+    key: &str,
+    options: &Data,
+) -> Result<Sequence<K::Item>, SyntaxFault>
+    ensures { Gives (λ xs. xs) result (each K.item_in (options_of key.now options.now)) }
+{
+    let mut items = Sequence::new(alloc);
+    let mut rest = options;
+    while let Some((option, others)) = rest.split_first() {
+        if is_option(key, option) {
+            match K::parse(alloc, option) {
+                Err(fault) => return Err(fault),
+                Ok(item) => items.push(item)?,
+            }
+        }
+        rest = others;
+    }
+    Ok(items)
+}
+
+/// What the only option of a keyword stands for, where there is one.
+pub(crate) fn parse_option<K: Kind>(
+    alloc: Global,
+    key: &str,
+    options: &Data,
+) -> Result<Option<K::Item>, SyntaxFault>
+    ensures { Gives (λ x. x) result (option_in K.item_in key.now options.now) }
+{
+    let items = parse_options::<K>(alloc, key, options)?;
+    items.into_single()
+}

@@ -1,0 +1,27 @@
+//! From data to checked top-level forms (HyperSpec 3.2.3.1).
+#![tactic(auto)]
+
+pub mod class;
+pub mod function;
+mod function_name;
+pub mod generic;
+mod kind;
+pub mod lambda_list;
+mod list;
+pub mod method;
+mod property;
+mod section;
+pub mod sequence;
+pub mod slot;
+pub mod top;
+pub mod variable;
+
+pub use class::{ClassDefinition, DefaultInitarg};
+pub use function::FunctionDefinition;
+pub use generic::{CombinationUse, GenericDefinition};
+pub use lambda_list::{Key, Keys, LambdaList, Optional};
+pub use method::{MethodDefinition, ParameterSpecializer};
+pub use sequence::Sequence;
+pub use slot::{Accessor, Allocation, SlotSpecifier};
+pub use top::{Top, parse_top};
+pub use variable::{Definer, VariableDefinition};

@@ -1,0 +1,27 @@
+//! Lists, where one is wanted.
+ghost use Rattle.std.specs.Prelude.{◌≡◌};
+ghost use Rattle.lisp_data.specs.DatumView.{datum_of};
+ghost use Rattle.clos_syntax_core.specs.Fault.{Gives};
+ghost use Rattle.clos_syntax.specs.Lists.{list_in};
+
+use clos_syntax_core::{SyntaxFault, is_the};
+use lisp_data::{Data, Datum};
+
+/// The elements of a list, which may be written NIL.
+pub(crate) fn parse_list(datum: &Datum) -> Result<Data, SyntaxFault>
+    ensures { Gives (λ l. l) result (list_in (datum_of datum.now)) }
+{
+    match datum {
+        Datum::List(elements) => Ok(elements.copy()?),
+        Datum::Sym(name) => {
+            if is_the(name, "NIL") {
+                return Ok(Data::new());
+            }
+            Err(SyntaxFault::Program)
+        }
+        Datum::Int(_) => Err(SyntaxFault::Program),
+        Datum::Str(_) => Err(SyntaxFault::Program),
+        Datum::Dotted(_) => Err(SyntaxFault::Program),
+        Datum::Method(_) => Err(SyntaxFault::Program),
+    }
+}
