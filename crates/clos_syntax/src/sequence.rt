@@ -83,6 +83,16 @@ impl<T> Sequence<T> {
         }
     }
 
+    /// All of them, as a vector.
+    pub fn into_items(self) -> Vec<T>
+    where
+        T: Drop,
+        ensures { result.items ≡ self }
+    {
+        let Sequence { items } = self;
+        items
+    }
+
     /// Their number.
     pub fn len(&self) -> usize
         ensures { result ≡ length self.now }

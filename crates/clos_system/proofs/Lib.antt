@@ -1,4 +1,3 @@
-pub mod Parsing
 pub mod Steps
 pub mod StepQuiet
 pub mod Runs

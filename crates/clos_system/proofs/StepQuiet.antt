@@ -1,5 +1,5 @@
 -- With no step left a top-level form changes nothing.
-use Rattle.std.proofs.Common.{ℕ, ◌+◌, ◌==◌, List, [], Option, Some, None, Result, Ok, Err, Bool, true, false, length, refl, slice_get}
+use Rattle.std.proofs.Common.{◌≡◌, ◌≤◌, ◌-◌, arith, subst, ℕ, ◌+◌, ◌==◌, List, [], Option, Some, None, Result, Ok, Err, Bool, true, false, length, refl, slice_get}
 use Rattle.std.specs.Prelude.{nat_lt, ◌&&◌, if◌then◌else◌}
 use Rattle.lisp_data.specs.Name.{Nam}
 use Rattle.lisp_data.specs.Datum.{Dat}
@@ -7,17 +7,19 @@ use Rattle.clos_syntax_core.specs.Form.{Frms}
 use Rattle.clos_eval.specs.Class.{named}
 use Rattle.clos_eval.specs.Generic.{function_named}
 use Rattle.clos_eval.specs.World.{State}
-use Rattle.clos_eval.specs.Meaning.{Out, known}
-use Rattle.clos_eval.specs.Machine.{leaves}
-use Rattle.clos_system.specs.Step.{define_class, new_class, superclass_number, define_method, on_function, new_method, specializer_numbers, performed, checked, step, room_of}
-use Rattle.clos_system.specs.TopSyntax.{top_of}
+use Rattle.clos_eval.specs.Meaning.{Out, Run, known}
+use Rattle.clos_eval.specs.Machine.{Answers, leaves}
+use Rattle.clos_eval.specs.declared.condition.Stop.{Stop}
+use Rattle.clos_eval.specs.declared.condition.Stop.TheVariants.{Refused, Storage}
+use Rattle.clos_system.specs.Step.{define_class, new_class, superclass_number, define_method, on_function, new_method, specializer_numbers, performed, served_run, checked, step, room_of}
+use Rattle.clos_syntax.specs.Top.{top_of}
+use Rattle.clos_syntax.specs.declared.top.Top.{Top}
+use Rattle.clos_system.specs.Served.{is_combination, served_of}
 use Rattle.clos_eval.specs.declared.condition.Condition.{Condition}
 use Rattle.clos_eval.specs.declared.generic.Generic.{Generic}
 use Rattle.clos_eval.specs.declared.machine.Task.TheVariants.{Plain}
-use Rattle.clos_system.specs.declared.syntax.SyntaxFault.{SyntaxFault}
-use Rattle.clos_system.specs.declared.syntax.SyntaxFault.TheVariants as fault
-use Rattle.clos_system.specs.declared.top.Top.{Top}
-use Rattle.clos_system.specs.declared.top.Top.TheVariants.{DefineClass, DefineMethod, Expression}
+use Rattle.clos_system.specs.declared.served.Served.{Served}
+use Rattle.clos_system.specs.declared.served.Served.TheVariants.{DefineClass, DefineMethod, Expression}
 use Rattle.clos_eval.proofs.Quiet.{evaluation_quiet}
 
 either : (b : Bool) (x y : Out) (w : State) → leaves x w 0 → leaves y w 0 → leaves (if b then x else y) w 0
@@ -46,16 +48,24 @@ define_method_quiet : (name : Nam) (ps : List Nam) (body : Frms) (r : Result (Li
 define_method_quiet name ps body (Err c) w = (refl, refl)
 define_method_quiet name ps body (Ok ss) w = function_quiet name (function_named w.generics name) ps ss body w
 
-performed_quiet : (top : Top) (w : State) → leaves (performed top w 0) w 0
+performed_quiet : (served : Served) (w : State) → leaves (performed served w 0) w 0
 performed_quiet (DefineClass name super) w = define_class_quiet name super (named w.classes name) w
 performed_quiet (DefineMethod name ps cs body) w = define_method_quiet name ps body (specializer_numbers w cs) w
 performed_quiet (Expression f) w = evaluation_quiet (room_of w) (known []) (Plain f) w
 
-checked_quiet : (r : Result Top SyntaxFault) (w : State) → leaves (checked r w 0) w 0
-checked_quiet (Ok top) w = performed_quiet top w
-checked_quiet (Err fault.Malformed) w = (refl, refl)
-checked_quiet (Err fault.Unserved) w = (refl, refl)
-checked_quiet (Err fault.Memory) w = (refl, refl)
+served_quiet : (o : Option Served) (w : State) → leaves (served_run o w 0) w 0
+served_quiet None w = (refl, refl)
+served_quiet (Some served) w = performed_quiet served w
+
+pub checked_quiet : (o : Option Top) (w : State) → leaves (checked o w 0) w 0
+checked_quiet None w = (refl, refl)
+checked_quiet (Some top) w = served_quiet (served_of top) w
 
 pub step_quiet : (d : Dat) (w : State) → leaves (step d w 0) w 0
-step_quiet d w = checked_quiet (top_of d) w
+step_quiet d w = either (is_combination d) _ (checked (top_of d) w 0) w (refl, refl) (checked_quiet (top_of d) w)
+
+-- where memory was refused, the steps taken are those that are gone
+pub stored : (run : Run) (w w' : State) (s s' : ℕ) (stop : Stop) → stop ≡ Storage → Answers run w s (Err stop) w' s'
+    → (s - s' ≤ s) × leaves (run w (s - s')) w' 0
+stored run w w' s s' Storage h e = (omega arith, subst (λ k. leaves (run w k) w' 0) (omega (arith, e.1)) e.2)
+stored run w w' s s' (Refused c) h e = absurd (cc h)

@@ -1,7 +1,4 @@
 pub mod Served
-pub mod Names
-pub mod Syntax
-pub mod TopSyntax
 pub mod Step
 pub mod Session
 pub mod Transcript

@@ -1,8 +1,24 @@
 -- Which forms are served.
-use Rattle.std.specs.Prelude.{Bool, true, false, not, ◌&&◌}
+use Rattle.std.specs.Prelude.{Bool, true, false, not, ◌&&◌, List, [], ◌∷◌, Option, Some, None, map, is_none, codes, if◌then◌else◌}
+use Rattle.std.specs.List.{list_any}
 use Rattle.lisp_data.specs.Name.{Nam}
+use Rattle.lisp_data.specs.Datum.{Dat, integer, symbol, string, list, dotted, method, Dats}
+use Rattle.lisp_data.specs.Datum as datum
+use Rattle.clos_syntax_core.specs.Fault.{◌>>=◌}
+use Rattle.clos_syntax_core.specs.declared.operator.FunctionName.{FunctionName}
+use Rattle.clos_syntax_core.specs.declared.operator.FunctionName.TheVariants.{Symbol, Setf}
+use Rattle.clos_syntax.specs.Method.{t_name}
+use Rattle.clos_syntax.specs.declared.class.ClassDefinition.{ClassDefinition}
+use Rattle.clos_syntax.specs.declared.lambda_list.LambdaList.{LambdaList}
+use Rattle.clos_syntax.specs.declared.method.MethodDefinition.{MethodDefinition}
+use Rattle.clos_syntax.specs.declared.method.ParameterSpecializer.{ParameterSpecializer}
+use Rattle.clos_syntax.specs.declared.method.ParameterSpecializer.TheVariants.{Class, Eql}
+use Rattle.clos_syntax.specs.declared.top.Top.{Top}
+use Rattle.clos_syntax.specs.declared.top.Top.TheVariants.{DefClass, DefGeneric, DefMethod, Defun, DefVar, RemoveMethod, AddDependent, RemoveDependent, InPackage, Expr}
+use Rattle.clos_system.specs.declared.served.Served.{Served}
+use Rattle.clos_system.specs.declared.served.Served.TheVariants.{DefineClass, DefineMethod, Expression}
 use Rattle.clos_syntax_core.specs.Form.{Frm, form, Frms, nil, cons}
-use Rattle.clos_syntax_core.specs.Names.{is_one_of, functions, system_functions}
+use Rattle.clos_syntax_core.specs.Names.{is_called, is_one_of, functions, system_functions}
 use Rattle.clos_syntax_core.specs.Operator.{Opr}
 use Rattle.clos_syntax_core.specs.Operator as of
 use Rattle.clos_eval.specs.Callee.{callee_of}
@@ -60,3 +76,88 @@ abbrev mutual
   pub are_served : Frms → Bool
   are_served nil = true
   are_served (cons f fs) = is_served f && are_served fs
+
+-- ---- top-level forms
+
+abbrev pub is_empty : {A : Type 0} → List A → Bool
+is_empty [] = true
+is_empty (x ∷ xs) = false
+
+-- the direct superclass, if one is named
+abbrev pub at_most_one_name : List Nam → Option (Option Nam)
+at_most_one_name [] = Some None
+at_most_one_name (n ∷ []) = Some (Some n)
+at_most_one_name (n ∷ (m ∷ ns)) = None
+
+-- a class without slots and default initargs, and with at most one superclass
+abbrev pub served_class : ClassDefinition → Option Served
+served_class c =
+    if is_empty c.slots && is_empty c.defaults then (at_most_one_name c.superclasses >>= λ super. Some (DefineClass c.name super)) else None
+
+abbrev pub requires_only : LambdaList → Bool
+requires_only l = is_empty l.optional && is_none l.rest && is_none l.keys
+
+abbrev pub is_no_data : Dats → Bool
+is_no_data datum.nil = true
+is_no_data (datum.cons d l) = false
+
+abbrev pub is_plain : Dats → LambdaList → Frms → Bool
+is_plain qualifiers l body = is_no_data qualifiers && requires_only l && are_served body
+
+-- a symbol that names no generic function of the system
+abbrev pub served_name : FunctionName → Option Nam
+served_name (Symbol n) = if is_one_of system_functions n then None else Some n
+served_name (Setf n) = None
+
+abbrev pub is_eql : ParameterSpecializer → Bool
+is_eql (Class n) = false
+is_eql (Eql f) = true
+
+-- the name of a class that a method specializes on
+abbrev pub class_name : ParameterSpecializer → Nam
+class_name (Class n) = n
+class_name (Eql f) = t_name
+
+-- the names of the classes, if all of them are classes
+abbrev pub classes_named : List ParameterSpecializer → Option (List Nam)
+classes_named ss = if list_any is_eql ss then None else Some (map class_name ss)
+
+-- an unqualified method on classes, of required parameters alone, with a body that is served
+abbrev pub served_method : FunctionName → MethodDefinition → Option Served
+served_method f m =
+    if is_plain m.qualifiers m.lambda_list m.body
+    then (served_name f >>= λ n. classes_named m.specializers >>= λ cs. Some (DefineMethod n m.lambda_list.required cs m.body))
+    else None
+
+abbrev pub served_of : Top → Option Served
+served_of (DefClass c) = served_class c
+served_of (DefMethod f m) = served_method f m
+served_of (Expr f) = if is_served f then Some (Expression f) else None
+served_of (DefGeneric g) = None
+served_of (Defun f) = None
+served_of (DefVar v) = None
+served_of (RemoveMethod f g) = None
+served_of (AddDependent f g) = None
+served_of (RemoveDependent f g) = None
+served_of InPackage = None
+
+-- a define-method-combination, which is not served, nor checked
+abbrev pub names_combination : Dat → Bool
+names_combination (integer n) = false
+names_combination (symbol s) = is_called (codes "DEFINE-METHOD-COMBINATION") s
+names_combination (string s) = false
+names_combination (list l) = false
+names_combination (dotted l d) = false
+names_combination (method n) = false
+
+abbrev pub heads_combination : Dats → Bool
+heads_combination datum.nil = false
+heads_combination (datum.cons d l) = names_combination d
+
+abbrev pub is_combination : Dat → Bool
+is_combination (integer n) = false
+is_combination (symbol s) = false
+is_combination (string s) = false
+is_combination (list l) = heads_combination l
+is_combination (dotted l d) = false
+is_combination (method n) = false

@@ -8,7 +8,9 @@ use Rattle.clos_syntax_core.specs.Form.{Frms}
 use Rattle.clos_eval.specs.Class.{named}
 use Rattle.clos_eval.specs.Generic.{function_named, specializers_of}
 use Rattle.clos_eval.specs.Condition.{name_value}
-use Rattle.clos_system.specs.TopSyntax.{top_of}
+use Rattle.clos_syntax.specs.Top.{top_of}
+use Rattle.clos_syntax.specs.declared.top.Top.{Top}
+use Rattle.clos_system.specs.Served.{is_combination, served_of}
 use Rattle.clos_eval.specs.World.{State}
 use Rattle.clos_eval.specs.Meaning.{Gave, Stopped, Run, stopped, step_then, meaning, known}
 use Rattle.clos_eval.specs.declared.class.Superclasses.TheVariants.{Direct}
@@ -21,10 +23,8 @@ use Rattle.clos_eval.specs.declared.generic.Generic.{Generic}
 use Rattle.clos_eval.specs.declared.generic.Method.{Method}
 use Rattle.clos_eval.specs.declared.generic.MethodIds.{MethodIds}
 use Rattle.clos_eval.specs.declared.machine.Task.TheVariants.{Plain}
-use Rattle.clos_system.specs.declared.syntax.SyntaxFault.{SyntaxFault}
-use Rattle.clos_system.specs.declared.syntax.SyntaxFault.TheVariants as fault
-use Rattle.clos_system.specs.declared.top.Top.{Top}
-use Rattle.clos_system.specs.declared.top.Top.TheVariants.{DefineClass, DefineMethod, Expression}
+use Rattle.clos_system.specs.declared.served.Served.{Served}
+use Rattle.clos_system.specs.declared.served.Served.TheVariants.{DefineClass, DefineMethod, Expression}
 
 -- The classes with a number below this are predefined.
 abbrev pub first_defined : ℕ
@@ -125,16 +125,19 @@ define_method name parameters body (Ok specializers) w k = on_function name (fun
 abbrev pub room_of : State → ℕ
 room_of w = min w.limits.depth 4_000
 
-abbrev pub performed : Top → Run
+abbrev pub performed : Served → Run
 performed (DefineClass name super) w k = define_class name super (named w.classes name) w k
 performed (DefineMethod name parameters classes body) w k = define_method name parameters body (specializer_numbers w classes) w k
 performed (Expression form) w k = meaning (room_of w) (known []) (Plain form) w k
 
-abbrev pub checked : Result Top SyntaxFault → Run
-checked (Ok top) w k = performed top w k
-checked (Err fault.Malformed) w k = stopped ProgramError [] w k
-checked (Err fault.Unserved) w k = stopped Unsupported [] w k
-checked (Err fault.Memory) w k = stopped ProgramError [] w k
+abbrev pub served_run : Option Served → Run
+served_run None w k = stopped Unsupported [] w k
+served_run (Some served) w k = performed served w k
+
+-- a datum that is no form of the language is refused first
+abbrev pub checked : Option Top → Run
+checked None w k = stopped ProgramError [] w k
+checked (Some top) w k = served_run (served_of top) w k
 
 -- the numbers of the specializers, or why there are none
 abbrev pub FindsSpecializers : Result (List ℕ) Condition → Result ClassIds Stop → Type 0
@@ -159,4 +162,4 @@ Prepares w name g parameters specializers k (Err Storage) = Unit {0}
 
 -- the step of a top-level form: the value or the condition, and the state after
 abbrev pub step : Dat → Run
-step d w k = checked (top_of d) w k
+step d w k = if is_combination d then stopped Unsupported [] w k else checked (top_of d) w k

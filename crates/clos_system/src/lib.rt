@@ -2,11 +2,8 @@
 #![tactic(auto)]
 
 mod definition;
-mod names;
 mod served;
 mod session;
-mod syntax;
-mod top;
 mod transcript;
 
 pub use clos_eval::arguments::Values;

@@ -1,12 +1,205 @@
 //! Which forms are served.
-ghost use Rattle.std.specs.Prelude.{◌≡◌, ◌&&◌, not};
+ghost use Rattle.std.specs.Prelude.{◌≡◌, ◌&&◌, IfOk, Bool, List, map, not, option_map, Some, None};
+ghost use Rattle.std.specs.List.{list_any};
+ghost use Rattle.lisp_data.specs.Datum.{Dats, nil};
+ghost use Rattle.lisp_data.specs.DatumView.{datum_of};
 ghost use Rattle.clos_syntax_core.specs.Form.{Frm, Frms};
 ghost use Rattle.clos_syntax_core.specs.OperatorView.{operator_of};
-ghost use Rattle.clos_system.specs.Served.{are_served, calls, is_one, is_served, serves};
+ghost use Rattle.clos_system.specs.Served.{are_served, at_most_one_name, calls, class_name, classes_named, is_combination, is_empty, is_eql, is_one, is_plain, is_served, requires_only, served_class, served_method, served_name, served_of, serves};
 
 use clos_eval::callee::{Callee, callee_named};
-use clos_syntax_core::{Form, Forms, Operator, is_function, is_system_function};
-use lisp_data::Name;
+use clos_eval::generic::Parameters;
+use clos_syntax::{ClassDefinition, LambdaList, MethodDefinition, ParameterSpecializer, Sequence, Top};
+use clos_syntax_core::{
+    Form, Forms, FunctionName, Operator, is_function, is_system_function, is_the,
+};
+use lisp_data::{Data, Datum, Name};
+use std::alloc::{AllocError, Global};
+
+/// A top-level form that is served.
+#[derive(Drop)]
+pub enum Served {
+    /// A class, with its direct superclass if it names one.
+    DefineClass(Name, Option<Name>),
+    /// A method of the function of this name: its parameters, the names of their classes, and its body.
+    DefineMethod(Name, Parameters, Parameters, Forms),
+    Expression(Form),
+}
+
+/// What is served of a top-level form.
+pub fn serve(alloc: Global, top: Top) -> Result<Option<Served>, AllocError>
+    ensures { IfOk result (λ r. r ≡ served_of top) }
+{
+    match top {
+        Top::DefClass(class) => Ok(serve_class(class)),
+        Top::DefMethod(name, method) => serve_method(alloc, name, method),
+        Top::Expr(form) => {
+            if is_served(&form) {
+                return Ok(Some(Served::Expression(form)));
+            }
+            Ok(None)
+        }
+        Top::DefGeneric(_) => Ok(None),
+        Top::Defun(_) => Ok(None),
+        Top::DefVar(_) => Ok(None),
+        Top::RemoveMethod(_, _) => Ok(None),
+        Top::AddDependent(_, _) => Ok(None),
+        Top::RemoveDependent(_, _) => Ok(None),
+        Top::InPackage => Ok(None),
+    }
+}
+
+/// Whether a datum is a `define-method-combination`, which is not served, nor checked.
+pub fn is_combination(datum: &Datum) -> bool
+    ensures { result ≡ is_combination (datum_of datum.now) }
+{
+    match datum {
+        Datum::List(elements) => match elements.split_first() {
+            None => false,
+            Some((head, _)) => match head {
+                Datum::Sym(name) => is_the(name, "DEFINE-METHOD-COMBINATION"),
+                _ => false,
+            },
+        },
+        _ => false,
+    }
+}
+
+/// A class without slots and default initargs, and with at most one superclass.
+fn serve_class(class: ClassDefinition) -> Option<Served>
+    ensures { result ≡ served_class class }
+{
+    let ClassDefinition {
+        name,
+        superclasses,
+        slots,
+        defaults,
+    } = class;
+    if slots.len() > 0 || defaults.len() > 0 {
+        return None;
+    }
+    let superclass = at_most_one_name(superclasses)?;
+    Some(Served::DefineClass(name, superclass))
+}
+
+fn at_most_one_name(names: Sequence<Name>) -> Option<Option<Name>>
+    ensures { result ≡ at_most_one_name names }
+{
+    let mut names = names.into_items();
+    match names.pop() {
+        None => Some(None),
+        Some(name) => match names.pop() {
+            None => Some(Some(name)),
+            Some(_) => None,
+        },
+    }
+}
+
+/// An unqualified method on classes, of required parameters alone, with a body that is served.
+fn serve_method(
+    alloc: Global,
+    name: FunctionName,
+    method: MethodDefinition,
+) -> Result<Option<Served>, AllocError>
+    ensures { IfOk result (λ r. r ≡ served_method name method) }
+{
+    let MethodDefinition {
+        qualifiers,
+        lambda_list,
+        specializers,
+        body,
+    } = method;
+    if !is_plain(&qualifiers, &lambda_list, &body) {
+        return Ok(None);
+    }
+    let Some(name) = served_name(name) else {
+        return Ok(None);
+    };
+    let Some(classes) = classes_named(alloc, specializers.as_slice())? else {
+        return Ok(None);
+    };
+    let parameters = Parameters::new(alloc, lambda_list.required.into_items())?;
+    let classes = Parameters::new(alloc, classes)?;
+    Ok(Some(Served::DefineMethod(name, parameters, classes, body)))
+}
+
+fn is_plain(qualifiers: &Data, lambda_list: &LambdaList, body: &Forms) -> bool
+    ensures { result ≡ is_plain qualifiers.now lambda_list.now body.now }
+{
+    qualifiers.split_first().is_none() && requires_only(lambda_list) && are_served(body)
+}
+
+/// Whether all parameters are required ones.
+fn requires_only(lambda_list: &LambdaList) -> bool
+    ensures { result ≡ requires_only lambda_list.now }
+{
+    lambda_list.optional.len() == 0 && lambda_list.rest.is_none() && lambda_list.keys.is_none()
+}
+
+/// A symbol that names no function of the system.
+fn served_name(name: FunctionName) -> Option<Name>
+    ensures { result ≡ served_name name }
+{
+    match name {
+        FunctionName::Symbol(name) => {
+            if is_system_function(&name) {
+                return None;
+            }
+            Some(name)
+        }
+        FunctionName::Setf(_) => None,
+    }
+}
+
+/// The names of the classes, if all specializers are classes.
+fn classes_named(
+    alloc: Global,
+    specializers: &[ParameterSpecializer],
+) -> Result<Option<Vec<Name>>, AllocError>
+    ensures { IfOk result (λ r. option_map (λ v. v.items) r ≡ classes_named specializers.now) }
+{
+    if has_eql(specializers) {
+        return Ok(None);
+    }
+    Ok(Some(class_names(alloc, specializers)?))
+}
+
+fn has_eql(specializers: &[ParameterSpecializer]) -> bool
+    ensures { result ≡ list_any is_eql specializers.now }
+{
+    specializers.iter().any(|specializer| is_eql(specializer))
+}
+
+fn is_eql(specializer: &ParameterSpecializer) -> bool
+    ensures { result ≡ is_eql specializer.now }
+{
+    match specializer {
+        ParameterSpecializer::Class(_) => false,
+        ParameterSpecializer::Eql(_) => true,
+    }
+}
+
+fn class_names(
+    alloc: Global,
+    specializers: &[ParameterSpecializer],
+) -> Result<Vec<Name>, AllocError>
+    ensures { IfOk result (λ r. r.items ≡ map class_name specializers.now) }
+{
+    let mut names = Vec::new(alloc);
+    for specializer in specializers {
+        names.push(class_name(specializer)?)?;
+    }
+    Ok(names)
+}
+
+fn class_name(specializer: &ParameterSpecializer) -> Result<Name, AllocError>
+    ensures { IfOk result (λ r. r ≡ class_name specializer.now) }
+{
+    match specializer {
+        ParameterSpecializer::Class(name) => name.copy(),
+        ParameterSpecializer::Eql(_) => Ok(Name::fixed("T")),
+    }
+}
 
 /// Whether a form is served, with all that is evaluated in it.
 #[cycle(served)]

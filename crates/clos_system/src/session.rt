@@ -1,11 +1,11 @@
 //! Sessions: the top-level forms that are submitted one after another, and what they leave.
-ghost use Rattle.std.specs.Prelude.{◌≡◌, ℕ, IfOk};
+ghost use Rattle.std.specs.Prelude.{◌≡◌, ℕ, IfOk, Some};
 ghost use Rattle.lisp_data.specs.ValueView.{value_of};
 ghost use Rattle.lisp_data.specs.DatumView.{datum_of};
 ghost use Rattle.clos_eval.specs.World.{State, seen};
 ghost use Rattle.clos_eval.specs.Meaning.{Run};
 ghost use Rattle.clos_eval.specs.Machine.{Answers};
-ghost use Rattle.clos_system.specs.Step.{step, performed};
+ghost use Rattle.clos_system.specs.Step.{checked, performed, step};
 ghost use Rattle.clos_eval.specs.Initial.{initial};
 ghost use Rattle.clos_system.specs.Session.{state_of, Replies};
 
@@ -15,9 +15,10 @@ use crate::definition::{defclass, defmethod};
 use clos_eval::eval::evaluate;
 use clos_eval::limits::Limits;
 use clos_eval::predefined::predefined_classes;
-use crate::syntax::SyntaxFault;
-use crate::top::{Top, parse_top};
+use crate::served::{Served, is_combination, serve};
 use clos_eval::world::World;
+use clos_syntax::{Top, parse_top};
+use clos_syntax_core::SyntaxFault;
 use lisp_data::{Datum, Value};
 use std::alloc::{AllocError, Global};
 
@@ -90,26 +91,43 @@ pub(crate) fn perform(
 ) -> Result<Value, Stop>
     ensures { Answers (step (datum_of datum.now)) (seen world.old) steps.old result (seen world.new) steps.new }
 {
+    if is_combination(datum) {
+        return Err(Stop::Refused(plain(alloc, ConditionKind::Unsupported)));
+    }
     match parse_top(alloc, datum) {
         Ok(top) => perform_top(alloc, world, top, steps),
-        Err(SyntaxFault::Malformed) => Err(Stop::Refused(plain(
+        Err(SyntaxFault::Program) => Err(Stop::Refused(plain(
             alloc,
             ConditionKind::ProgramError,
         ))),
-        Err(SyntaxFault::Unserved) => Err(Stop::Refused(plain(alloc, ConditionKind::Unsupported))),
         Err(SyntaxFault::Memory) => Err(Stop::Storage),
     }
 }
 
 fn perform_top(alloc: Global, world: &mut World, top: Top, steps: &mut u64) -> Result<Value, Stop>
-    ensures { Answers (performed top) (seen world.old) steps.old result (seen world.new) steps.new }
+    ensures { Answers (checked (Some top)) (seen world.old) steps.old result (seen world.new) steps.new }
 {
-    match top {
-        Top::DefineClass(name, superclass) => defclass(alloc, world, name, &superclass, steps),
-        Top::DefineMethod(name, parameters, classes, body) => {
+    match serve(alloc, top) {
+        Ok(Some(served)) => perform_served(alloc, world, served, steps),
+        Ok(None) => Err(Stop::Refused(plain(alloc, ConditionKind::Unsupported))),
+        Err(_) => Err(Stop::Storage),
+    }
+}
+
+fn perform_served(
+    alloc: Global,
+    world: &mut World,
+    served: Served,
+    steps: &mut u64,
+) -> Result<Value, Stop>
+    ensures { Answers (performed served) (seen world.old) steps.old result (seen world.new) steps.new }
+{
+    match served {
+        Served::DefineClass(name, superclass) => defclass(alloc, world, name, &superclass, steps),
+        Served::DefineMethod(name, parameters, classes, body) => {
             defmethod(alloc, world, name, parameters, &classes, body, steps)
         }
-        Top::Expression(form) => {
+        Served::Expression(form) => {
             let room = world.limits.depth.min(4_000);
             evaluate(alloc, world, form, room, steps)
         }
