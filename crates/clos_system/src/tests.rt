@@ -115,7 +115,7 @@ fn what_forms_write(rt: HostRuntime) -> Result<(), Fail> {
             "(QUOTE X)NIL:K-5",
         ),
         (
-            "(defclass dog () ()) (princ (make-instance 'dog))",
+            "(defclass dog () () (:documentation \"barks\")) (princ (make-instance 'dog))",
             "#<DOG 1>",
         ),
         (
@@ -209,7 +209,8 @@ fn forms_that_are_not_served(rt: HostRuntime) -> Result<(), Fail> {
         "(defclass a (b) ())",
         "(defclass a (standard-object) ())",
         "(defclass a () (s))",
-        "(defclass a () () (:documentation \"a\"))",
+        "(defclass a () () (:default-initargs :s 1))",
+        "(define-method-combination c)",
         "(defmethod f :before (x) x)",
         "(defmethod f ((x integer)) x)",
         "(defmethod f ((x (eql 1))) x)",
