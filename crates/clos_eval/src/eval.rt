@@ -15,7 +15,9 @@ use crate::arguments::{Arguments, Context, Values};
 use crate::callee::{Callee, Output, callee_named};
 use crate::class::class_named;
 use crate::condition::{ConditionKind, Stop, about, about_name, plain};
-use crate::control::{begin, call, clause_tested, compute, follow, keep, next_argument, next_of_body, start};
+use crate::control::{
+    begin, call, clause_tested, compute, follow, keep, next_argument, next_of_body, start,
+};
 use crate::generic::Parameters;
 use crate::machine::{Doing, Frame, Level, Levels, Machine, SystemCall, Task};
 use crate::truth::nil;
@@ -335,7 +337,14 @@ pub fn evaluate(
                 Ok(next) => doing = next,
                 Err(stop) => return Err(stop),
             },
-            Doing::Apply(name, values) => match apply(alloc, &mut machine, world, &name, values, steps) {
+            Doing::Apply(name, values) => match apply(
+                alloc,
+                &mut machine,
+                world,
+                &name,
+                values,
+                steps,
+            ) {
                 Ok(next) => doing = next,
                 Err(stop) => return Err(stop),
             },

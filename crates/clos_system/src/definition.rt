@@ -12,9 +12,9 @@ ghost use Rattle.clos_system.specs.Step.{superclass_number, class_added, new_cla
 
 use clos_eval::class::{Class, ClassIds, Superclasses, class_named};
 use clos_eval::condition::{ConditionKind, Stop, about_name, plain};
-use clos_syntax_core::Forms;
 use clos_eval::generic::{Generic, Method, MethodIds, Parameters, generic_named, method_numbered};
 use clos_eval::world::World;
+use clos_syntax_core::Forms;
 use lisp_data::{ClassId, GenericId, MethodId, Name, Value};
 use std::alloc::{AllocError, Global};
 

@@ -9,7 +9,9 @@ ghost use Rattle.clos_system.specs.Served.{are_served, at_most_one_name, calls, 
 
 use clos_eval::callee::{Callee, callee_named};
 use clos_eval::generic::Parameters;
-use clos_syntax::{ClassDefinition, LambdaList, MethodDefinition, ParameterSpecializer, Sequence, Top};
+use clos_syntax::{
+    ClassDefinition, LambdaList, MethodDefinition, ParameterSpecializer, Sequence, Top,
+};
 use clos_syntax_core::{
     Form, Forms, FunctionName, Operator, is_function, is_system_function, is_the,
 };

@@ -9,13 +9,13 @@ ghost use Rattle.clos_system.specs.Step.{checked, performed, step};
 ghost use Rattle.clos_eval.specs.Initial.{initial};
 ghost use Rattle.clos_system.specs.Session.{state_of, Replies};
 
+use crate::definition::{defclass, defmethod};
+use crate::served::{Served, is_combination, serve};
 use clos_eval::arguments::Values;
 use clos_eval::condition::{ConditionKind, Stop, plain};
-use crate::definition::{defclass, defmethod};
 use clos_eval::eval::evaluate;
 use clos_eval::limits::Limits;
 use clos_eval::predefined::predefined_classes;
-use crate::served::{Served, is_combination, serve};
 use clos_eval::world::World;
 use clos_syntax::{Top, parse_top};
 use clos_syntax_core::SyntaxFault;
@@ -96,10 +96,7 @@ pub(crate) fn perform(
     }
     match parse_top(alloc, datum) {
         Ok(top) => perform_top(alloc, world, top, steps),
-        Err(SyntaxFault::Program) => Err(Stop::Refused(plain(
-            alloc,
-            ConditionKind::ProgramError,
-        ))),
+        Err(SyntaxFault::Program) => Err(Stop::Refused(plain(alloc, ConditionKind::ProgramError))),
         Err(SyntaxFault::Memory) => Err(Stop::Storage),
     }
 }

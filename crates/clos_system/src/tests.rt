@@ -351,7 +351,14 @@ fn functions_of_the_language(rt: HostRuntime) -> Result<(), Fail> {
         writes(&rt, alloc, Limits::default(), text, output, 1)?;
     }
     writes(&rt, alloc, with_steps(3), "(print 1)", "\n1 ", 0)?;
-    writes(&rt, alloc, with_steps(2), "(print 1)", "; 29 (STEP-LIMIT)\n", 1)
+    writes(
+        &rt,
+        alloc,
+        with_steps(2),
+        "(print 1)",
+        "; 29 (STEP-LIMIT)\n",
+        1,
+    )
 }
 
 #[test]

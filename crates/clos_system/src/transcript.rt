@@ -7,8 +7,8 @@ ghost use Rattle.clos_eval.specs.World.{State, seen, names_of};
 ghost use Rattle.clos_system.specs.Session.{state_of};
 ghost use Rattle.clos_system.specs.Transcript.{ends_line, fresh_line, condition_text, storage_text, told_for, counted_for, Finishes, Faults, Performs, FailsAfter, RunFaults, SourceFails};
 
-use clos_eval::condition::{Condition, Stop};
 use crate::session::{Session, perform};
+use clos_eval::condition::{Condition, Stop};
 use clos_eval::world::World;
 use itoa::Buffer;
 use lisp_data::{Datum, Value, prin1};
