@@ -1,7 +1,6 @@
 -- Conditions, and what they are about.
-use Rattle.std.specs.Prelude.{◌≡◌, ℕ, List, [], ◌∷◌, false, codes, if◌then◌else◌}
-use Rattle.lisp_data.specs.Name.{Nam, same_name}
-use Rattle.lisp_data.specs.Value.{Val, symbol, list, nil}
+use Rattle.std.specs.Prelude.{◌≡◌, ℕ, List, [], ◌∷◌, false, codes}
+use Rattle.lisp_data.specs.Name.{Nam}
 use Rattle.lisp_prims.specs.Fault as prims
 use Rattle.clos_eval.specs.declared.condition.Condition.{Condition}
 use Rattle.clos_eval.specs.declared.condition.Stop.{Stop}
@@ -41,10 +40,6 @@ condition_name TableLimit = codes "TABLE-LIMIT"
 
 abbrev pub nil_name : Nam
 nil_name = record { text = codes "NIL"; keyword = false }
-
--- the symbol of this name: NIL is the empty list
-abbrev pub name_value : Nam → Val
-name_value name = if same_name name nil_name then list nil else symbol name
 
 -- the condition that a function of values signals
 abbrev pub condition_of : prims.Condition → Condition

@@ -8,13 +8,14 @@ use Rattle.lisp_prims.specs.Primitive.{answer, truth}
 use Rattle.clos_syntax_core.specs.Form.{Frm, Frms, operator_in, parts_in}
 use Rattle.clos_syntax_core.specs.Form as form
 use Rattle.clos_syntax_core.specs.Operator.{Opr}
+use Rattle.clos_syntax_core.specs.Quotation.{name_value}
 use Rattle.clos_syntax_core.specs.Operator as of
 use Rattle.clos_eval.specs.Callee.{callee_of, only_value}
 use Rattle.clos_eval.specs.Effective.{Effective, call_method, progn, prog1, effective_form}
 use Rattle.clos_eval.specs.Arguments.{argument_named}
 use Rattle.clos_eval.specs.Class.{named}
 use Rattle.clos_eval.specs.Generic.{function_named, ordered}
-use Rattle.clos_eval.specs.Condition.{name_value, nil_name, condition_of}
+use Rattle.clos_eval.specs.Condition.{nil_name, condition_of}
 use Rattle.clos_eval.specs.World.{State, names_of, lists_of}
 use Rattle.clos_eval.specs.declared.arguments.Context.{Context}
 use Rattle.clos_eval.specs.declared.callee.Callee.{Callee}

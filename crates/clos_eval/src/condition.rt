@@ -3,12 +3,14 @@ ghost use Rattle.std.specs.Prelude.{◌≡◌, ◌∷◌, [], IfOk, map};
 ghost use Rattle.lisp_data.specs.ValueView.{value_of};
 ghost use Rattle.lisp_prims.specs.Fault.{Condition as Signalled, StandsFor};
 ghost use Rattle.lisp_prims.specs.declared.fault.PrimFault.TheVariants.{Memory};
-ghost use Rattle.clos_eval.specs.Condition.{name_value, number_of, condition_name, condition_of, Signals};
+ghost use Rattle.clos_syntax_core.specs.Quotation.{name_value};
+ghost use Rattle.clos_eval.specs.Condition.{number_of, condition_name, condition_of, Signals};
 ghost use Rattle.clos_eval.specs.declared.condition.Condition.{Condition};
 ghost use Rattle.clos_eval.specs.declared.condition.Stop.TheVariants.{Storage};
 
 use crate::arguments::Values;
-use lisp_data::{Items, Name, Value};
+use clos_syntax_core::value_named;
+use lisp_data::{Name, Value};
 use lisp_prims::PrimFault;
 use std::alloc::{AllocError, AllocFailed, Global};
 
@@ -146,16 +148,6 @@ pub fn about_call(
         items.push(argument.copy()?)?;
     }
     Ok(Condition { kind, items })
-}
-
-/// The symbol of this name as a value: NIL is the empty list.
-pub fn value_named(name: &Name) -> Result<Value, AllocError>
-    ensures { IfOk result (λ v. value_of v ≡ name_value name.now) }
-{
-    if name.is(&Name::fixed("NIL")) {
-        return Ok(Value::List(Items::new()));
-    }
-    Ok(Value::Sym(name.copy()?))
 }
 
 /// Why an evaluation stops at a fault of a function of values.

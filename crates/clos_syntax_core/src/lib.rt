@@ -31,6 +31,6 @@ pub use names::{
 };
 pub use operator::{FunctionName, Operator, Place};
 pub use part::{Context, at_most_one, only};
-pub use quotation::quoted_value;
+pub use quotation::{quoted_value, value_named};
 pub use special::is_special_operator;
 pub use tree::{parse_body, parse_form, parse_forms};

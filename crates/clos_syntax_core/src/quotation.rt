@@ -10,7 +10,7 @@ use lisp_data::{Data, Datum, Items, ListFault, Name, Value};
 use std::alloc::{AllocError, Global};
 
 /// The symbol of this name as a value: NIL is the empty list.
-pub(crate) fn value_named(name: &Name) -> Result<Value, AllocError>
+pub fn value_named(name: &Name) -> Result<Value, AllocError>
     ensures { IfOk result (λ v. value_of v ≡ name_value name.now) }
 {
     if is_the(name, "NIL") {

@@ -7,7 +7,7 @@ use Rattle.lisp_data.specs.Datum.{Dat}
 use Rattle.clos_syntax_core.specs.Form.{Frms}
 use Rattle.clos_eval.specs.Class.{named}
 use Rattle.clos_eval.specs.Generic.{function_named, specializers_of}
-use Rattle.clos_eval.specs.Condition.{name_value}
+use Rattle.clos_syntax_core.specs.Quotation.{name_value}
 use Rattle.clos_syntax.specs.Top.{top_of}
 use Rattle.clos_syntax.specs.declared.top.Top.{Top}
 use Rattle.clos_system.specs.Served.{is_combination, served_of}
