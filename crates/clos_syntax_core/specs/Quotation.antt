@@ -1,4 +1,4 @@
--- What a quote form quotes (HyperSpec 5.3 quote).
+-- What a quote form quotes (HyperSpec 3.8 quote).
 use Rattle.std.specs.Prelude.{List, [], ◌∷◌, codes, Option, Some, None, option_map, if◌then◌else◌}
 use Rattle.lisp_data.specs.Name.{Nam}
 use Rattle.lisp_data.specs.Value.{Val, Vals, is_within_limits}

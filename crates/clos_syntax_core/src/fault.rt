@@ -8,7 +8,7 @@ use thiserror::Error;
 /// Why a datum gives no form.
 #[derive(Clone, Copy, Debug, Drop, PartialEq, Eq, Error)]
 pub enum SyntaxFault {
-    /// It is none by the rules of the language (HyperSpec 3.5.1).
+    /// It is none by the rules of the language (HyperSpec 5.3 `program-error`).
     #[error("no form of the language")]
     Program,
     /// Memory ran out.

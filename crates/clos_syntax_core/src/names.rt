@@ -79,7 +79,7 @@ pub fn is_function(name: &Name) -> bool
     is_among(&FUNCTIONS, name)
 }
 
-/// Whether the name is a generic function's of the system (HyperSpec 7.1, 7.2, 7.3, 7.5, 7.6.6).
+/// Whether the name is a generic function's of the system (HyperSpec 7.7).
 pub fn is_system_function(name: &Name) -> bool
     ensures { result ≡ is_one_of system_functions name.now }
 {

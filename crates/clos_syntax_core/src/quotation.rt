@@ -1,4 +1,4 @@
-//! What a quote form quotes (HyperSpec 5.3 `quote`).
+//! What a quote form quotes (HyperSpec 3.8 `quote`).
 ghost use Rattle.std.specs.Prelude.{◌≡◌, IfOk, map, option_map, Some};
 ghost use Rattle.lisp_data.specs.DatumView.{datum_of};
 ghost use Rattle.lisp_data.specs.Value.{nil};

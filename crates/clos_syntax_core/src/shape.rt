@@ -64,7 +64,7 @@ fn symbol_operator(name: &Name) -> Result<Operator, AllocError>
     Ok(Operator::Variable(name.copy()?))
 }
 
-/// A form that is its own value. The empty list is NIL.
+/// The empty list is NIL, any other a form of the operator at its head.
 fn listed_shape(alloc: Global, context: Context, elements: &Data) -> Result<Shape<'_>, SyntaxFault>
     ensures { Gives shape_told result (listed_shape context elements.now) }
 {
@@ -74,6 +74,7 @@ fn listed_shape(alloc: Global, context: Context, elements: &Data) -> Result<Shap
     }
 }
 
+/// A form that is its own value.
 fn constant<'a>(alloc: Global, value: Value) -> Shape<'a>
     ensures { shape_told result ≡ atom (constant (value_of value)) }
 {

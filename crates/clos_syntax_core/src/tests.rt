@@ -1,10 +1,10 @@
-//! What no contract says: that memory suffices, and that the definitions are the language.
+//! What no contract says: that memory and the stack suffice, and that the definitions are the language.
 use crate::{
     Context, Form, FunctionName, Operator, Place, SyntaxFault, is_closed_function, is_definition,
     is_function, is_special_operator, is_system_function, parse_body, parse_form, parse_forms,
     parse_function_name, quoted_value, variable_name,
 };
-use lisp_data::{Data, Datum, Dot, MethodId, Name, Text, Value};
+use lisp_data::{Data, Datum, Dot, MAX_NESTING, MethodId, Name, Text, Value};
 use std::alloc::{AllocError, Global};
 use std::process::Abort;
 use std::test::Fail;
@@ -272,6 +272,26 @@ fn dotted_lists_and_methods(rt: HostRuntime) -> Result<(), Fail> {
             Some(Value::List(_))
         )
     );
+    Ok(())
+}
+
+#[test]
+fn deep_and_long_forms(rt: HostRuntime) -> Result<(), Fail> {
+    let alloc = rt.alloc();
+    let mut deep = Datum::Int(1);
+    for _ in 0..MAX_NESTING {
+        let rest = Data::cons(alloc, deep, Data::new())?;
+        deep = Datum::List(Data::cons(alloc, Datum::Sym(Name::fixed("PROGN")), rest)?);
+    }
+    let form = parse_form(alloc, Context::Plain, &deep)?;
+    assert_eq!(rt; label(form.operator()), "progn");
+    let mut long = Data::new();
+    for number in 0..200_000 {
+        long = Data::cons(alloc, Datum::Int(number), long)?;
+    }
+    let forms = parse_forms(alloc, Context::Plain, &long)?;
+    let (first, _) = forms.split_first().ok_or("a form")?;
+    assert_eq!(rt; label(first.operator()), "constant");
     Ok(())
 }
 
