@@ -1,5 +1,5 @@
 -- Outcomes through the levels of the machine.
-use Rattle.std.proofs.Common.{◌≡◌, ◌≤◌, ◌+◌, ◌*◌, ℕ, length, arith, Result, Ok, Err, List, [], ◌∷◌, Option, Some, None, refl, ap, sym, ◌∙◌}
+use Rattle.std.proofs.Common.{◌≡◌, ℕ, arith, Result, Ok, Err, List, [], ◌∷◌, Option, Some, None, refl, ap, sym, ◌∙◌}
 use Rattle.clos_eval.specs.World.{State}
 use Rattle.clos_syntax_core.specs.Form.{Frms, nil, cons}
 use Rattle.clos_eval.specs.Meaning.{Eval, Stopped, meaning, method_run, sequence, while_true, until_true, going}
