@@ -1,6 +1,5 @@
 -- Lists of things, one after another.
 use Rattle.std.proofs.Common.{◌≡◌, map, List, [], ◌∷◌, ◌++◌, Option, Some, None, refl, ap, sym, append_assoc}
-use Rattle.std.specs.Prelude.{option_map}
 use Rattle.clos_syntax_core.specs.Fault.{◌>>=◌}
 use Rattle.lisp_data.specs.Datum.{Dats, cons}
 use Rattle.lisp_data.specs.DatumView.{datum_of}

@@ -1,7 +1,7 @@
 -- Classes (HyperSpec 7.7 defclass).
-use Rattle.std.specs.Prelude.{ℕ, List, [], ◌∷◌, ◌&&◌, Bool, ◌||◌, codes, Option, Some, None, map, if◌then◌else◌}
+use Rattle.std.specs.Prelude.{ℕ, List, [], ◌∷◌, ◌||◌, codes, Option, Some, None, if◌then◌else◌}
 use Rattle.lisp_data.specs.Name.{Nam}
-use Rattle.lisp_data.specs.Datum.{Dat, integer, symbol, string, list, dotted, method, Dats, nil, cons}
+use Rattle.lisp_data.specs.Datum.{Dat, Dats, nil, cons}
 use Rattle.clos_syntax_core.specs.Binding.{each, are_distinct}
 use Rattle.clos_syntax_core.specs.Fault.{◌>>=◌}
 use Rattle.clos_syntax_core.specs.FunctionName.{symbol_in}

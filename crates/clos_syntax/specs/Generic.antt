@@ -2,7 +2,7 @@
 use Rattle.std.specs.Prelude.{List, [], ◌∷◌, Bool, true, ◌||◌, ◌&&◌, codes, Option, Some, None, if◌then◌else◌}
 use Rattle.std.specs.List.{list_any}
 use Rattle.lisp_data.specs.Name.{Nam, same_name}
-use Rattle.lisp_data.specs.Datum.{Dat, integer, symbol, string, list, dotted, method, Dats, nil, cons}
+use Rattle.lisp_data.specs.Datum.{Dat, Dats, nil, cons}
 use Rattle.clos_syntax_core.specs.Binding.{each, are_distinct}
 use Rattle.clos_syntax_core.specs.Body.{is_declaration}
 use Rattle.clos_syntax_core.specs.Fault.{◌>>=◌}

@@ -1,11 +1,11 @@
 -- Lambda lists (HyperSpec 3.4.1, 3.4.2, 3.4.3).
-use Rattle.std.specs.Prelude.{List, [], ◌∷◌, ◌++◌, Bool, true, false, ◌||◌, codes, Option, Some, None, is_some, map, not, if◌then◌else◌}
+use Rattle.std.specs.Prelude.{List, [], ◌∷◌, ◌++◌, Bool, true, false, ◌||◌, codes, Option, Some, None, is_some, if◌then◌else◌}
 use Rattle.std.specs.List.{list_any}
 use Rattle.lisp_data.specs.Name.{Nam}
 use Rattle.lisp_data.specs.Datum.{Dat, integer, symbol, string, list, dotted, method, Dats, nil, cons}
 use Rattle.clos_syntax_core.specs.Binding.{each, are_distinct}
 use Rattle.clos_syntax_core.specs.Fault.{◌>>=◌}
-use Rattle.clos_syntax_core.specs.FunctionName.{only_symbol_in, symbol_in, variable_in}
+use Rattle.clos_syntax_core.specs.FunctionName.{symbol_in, variable_in}
 use Rattle.clos_syntax_core.specs.Grammar.{form_of}
 use Rattle.clos_syntax_core.specs.Part.{at_most_one, only_in}
 use Rattle.clos_syntax_core.specs.declared.part.Context.TheVariants.{Plain}

@@ -10,3 +10,4 @@ pub mod Slot
 pub mod Class
 pub mod Generic
 pub mod Top
+pub mod Laws

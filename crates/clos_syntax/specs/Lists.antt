@@ -1,9 +1,6 @@
 -- Lists of things, as data write them.
-use Rattle.std.specs.Prelude.{List, [], ◌∷◌, ◌++◌, Bool, codes, Option, Some, None, option_map, if◌then◌else◌}
-use Rattle.lisp_data.specs.Name.{Nam}
+use Rattle.std.specs.Prelude.{List, [], ◌∷◌, ◌++◌, codes, Option, Some, None, option_map, if◌then◌else◌}
 use Rattle.lisp_data.specs.Datum.{Dat, integer, symbol, string, list, dotted, method, Dats, nil, cons}
-use Rattle.clos_syntax_core.specs.Fault.{◌>>=◌}
-use Rattle.clos_syntax_core.specs.FunctionName.{symbol_in}
 use Rattle.clos_syntax_core.specs.Names.{is_called}
 
 -- the elements of a list, which may be written NIL

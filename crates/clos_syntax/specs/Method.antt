@@ -8,7 +8,6 @@ use Rattle.clos_syntax_core.specs.Grammar.{form_of, body_forms_of}
 use Rattle.clos_syntax_core.specs.Names.{is_called}
 use Rattle.clos_syntax_core.specs.Part.{only_in}
 use Rattle.clos_syntax_core.specs.declared.part.Context.TheVariants.{Plain, Method}
-use Rattle.clos_syntax.specs.FunctionName.{method_function_in}
 use Rattle.clos_syntax.specs.LambdaList.{parameter_in, with_optionals}
 use Rattle.clos_syntax.specs.Lists.{list_in}
 use Rattle.clos_syntax.specs.Sections.{is_symbol_called, front, back}

@@ -1,6 +1,5 @@
 -- Global variables (HyperSpec 5.3 defvar, defparameter).
 use Rattle.std.specs.Prelude.{Bool, true, Option, Some, None, if◌then◌else◌}
-use Rattle.lisp_data.specs.Name.{Nam}
 use Rattle.lisp_data.specs.Datum.{Dat, Dats, nil, cons}
 use Rattle.clos_syntax_core.specs.Body.{is_string}
 use Rattle.clos_syntax_core.specs.Fault.{◌>>=◌}

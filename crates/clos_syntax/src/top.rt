@@ -1,7 +1,8 @@
 //! From data to checked top-level forms (HyperSpec 3.2.3.1).
-ghost use Rattle.std.specs.Prelude.{◌≡◌};
+ghost use Rattle.std.specs.Prelude.{◌≡◌, IfOk};
 ghost use Rattle.lisp_data.specs.DatumView.{datum_of};
 ghost use Rattle.clos_syntax_core.specs.Fault.{Gives};
+ghost use Rattle.clos_syntax.specs.Laws.{AreSpecialized};
 ghost use Rattle.clos_syntax.specs.Top.{any_has_method, any_top, defmethod_in, expression, has_method, headed_top, in_package, named_top, other_top, top_of, two_forms_in};
 
 use crate::class::{ClassDefinition, parse_class};
@@ -178,9 +179,10 @@ fn parse_any(alloc: Global, datum: &Datum) -> Result<Top, SyntaxFault>
     }
 }
 
-/// The checked form of a datum.
+/// The checked form of a datum. Each method in it has one specializer for each required parameter.
 pub fn parse_top(alloc: Global, datum: &Datum) -> Result<Top, SyntaxFault>
-    ensures { Gives (λ t. t) result (top_of (datum_of datum.now)) }
+    ensures form { Gives (λ t. t) result (top_of (datum_of datum.now)) }
+    ensures specialized { IfOk result AreSpecialized }
 {
     if mentions_method(datum) {
         return Err(SyntaxFault::Program);

@@ -128,7 +128,7 @@ room_of w = min w.limits.depth 4_000
 abbrev pub performed : Served → Run
 performed (DefineClass name super) w k = define_class name super (named w.classes name) w k
 performed (DefineMethod name parameters classes body) w k = define_method name parameters body (specializer_numbers w classes) w k
-performed (Expression form) w k = meaning (room_of w) (known []) (Plain form) w k
+performed (Expression f) w k = meaning (room_of w) (known []) (Plain f) w k
 
 abbrev pub served_run : Option Served → Run
 served_run None w k = stopped Unsupported [] w k

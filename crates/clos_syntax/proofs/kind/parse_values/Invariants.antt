@@ -2,8 +2,7 @@ use Rattle.std.proofs.Common.{◌≡◌}
 use Rattle.lisp_data.specs.Datum.{size_of_data}
 use Rattle.clos_syntax_core.specs.Binding.{each}
 use Rattle.clos_syntax.specs.Lists.{before}
-use Rattle.clos_syntax.specs.Property.{options_of, values_of}
-use Rattle.clos_syntax.specs.Sections.{front}
+use Rattle.clos_syntax.specs.Property.{values_of}
 use Rattle.clos_syntax.proofs.kind.parse_values.Given as goal
 
 abbrev pub invariant-loop-name : goal.invariant-loop-name
