@@ -1,10 +1,10 @@
 -- Outcomes through the levels of the machine.
 use Rattle.std.proofs.Common.{◌≡◌, ℕ, arith, Result, Ok, Err, List, [], ◌∷◌, Option, Some, None, refl, ap, sym, ◌∙◌}
-use Rattle.clos_eval.specs.World.{State}
+use Rattle.clos_eval.specs.World.{State, unbound}
 use Rattle.clos_syntax_core.specs.Form.{Frms, nil, cons}
-use Rattle.clos_eval.specs.Meaning.{Eval, Stopped, meaning, method_run, sequence, while_true, until_true, going}
+use Rattle.clos_eval.specs.Meaning.{Eval, Stopped, meaning, closed, method_run, sequence, while_true, until_true, going}
 use Rattle.clos_eval.specs.declared.machine.Control.TheVariants.{Progn, And, Or}
-use Rattle.clos_eval.specs.Machine.{below, passed, resume, inside, Grows}
+use Rattle.clos_eval.specs.Machine.{at, below, passed, resume, inside, Grows}
 use Rattle.clos_eval.specs.declared.condition.Stop.{Stop}
 use Rattle.clos_eval.specs.declared.machine.Doing.{Doing}
 use Rattle.clos_eval.specs.declared.arguments.Context.{Context}
@@ -23,20 +23,20 @@ passed_stopped ev env (Rest d fs) c w s = refl
 passed_stopped ev env (Keep fs v) c w s = refl
 passed_stopped ev env (Clause fs cs) c w s = refl
 passed_stopped ev env (Collect n fs vs) c w s = refl
-passed_stopped ev env (Body fs saved) c w s = refl
+passed_stopped ev env (Body fs saved locals) c w s = refl
 passed_stopped ev env (Known saved) c w s = refl
 passed_stopped ev env Passing c w s = refl
 
 -- a condition passes through all levels
-pub stopped_through : (ls : List Level) (env : Context) (c : Condition) (w : State) (s : ℕ) → resume ls env (Stopped c w s) ≡ Stopped c w s
+pub stopped_through : (ls : List Level) (env : Context) (c : Condition) (w : State) (s : ℕ) → closed (resume ls env (Stopped c w s)) ≡ Stopped c (unbound w) s
 stopped_through [] env c w s = refl
 stopped_through (l ∷ ls) env c w s =
-    ap (resume ls (below env l.frame)) (passed_stopped (meaning l.room) env l.frame c w s) ∙ stopped_through ls (below env l.frame) c w s
+    ap (λ o. closed (resume ls (below env l.frame) o)) (passed_stopped (meaning l.room) env l.frame c w s) ∙ stopped_through ls (below env l.frame) c w s
 
 -- there is no such method
 pub no_method : (m : Machine) (ev : Eval) (vs : List Val) (o : Option Method) (c : Condition) (w : State) (t : ℕ) → None ≡ o → c ≡ record { kind = ProgramError; items = [] }
-    → inside m (method_run ev vs o) w t ≡ Stopped c w t
-no_method m ev vs None c w t e k = stopped_through m.levels m.context (record { kind = ProgramError; items = [] }) w t ∙ ap (λ x. Stopped x w t) (sym k)
+    → inside m (method_run ev vs o) w t ≡ Stopped c (unbound w) t
+no_method m ev vs None c w t e k = stopped_through m.levels m.context (record { kind = ProgramError; items = [] }) (at m w) t ∙ ap (λ x. Stopped x (unbound w) t) (sym k)
 no_method m ev vs (Some x) c w t e k = cc
 
 -- what adds at most 2 adds at most 3

@@ -51,4 +51,5 @@ initial limits = record {
   instances = [];
   written = [];
   limits = limits;
+  locals = [];
 }

@@ -2,11 +2,11 @@ pub mod Limits
 pub mod Callee
 pub mod Class
 pub mod Generic
-pub mod Arguments
 pub mod Effective
 pub mod EffectiveView
 pub mod ParametersView
 pub mod Condition
+pub mod LocalsView
 pub mod World
 pub mod Meaning
 pub mod Machine

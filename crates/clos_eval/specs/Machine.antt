@@ -4,8 +4,8 @@ use Rattle.lisp_data.specs.Value.{Val}
 use Rattle.lisp_data.specs.ValueView.{value_of}
 use Rattle.lisp_data.specs.declared.ids.ClassId.{ClassId}
 use Rattle.lisp_data.specs.declared.value.Value.{Value}
-use Rattle.clos_eval.specs.World.{State}
-use Rattle.clos_eval.specs.Meaning.{Out, Gave, Stopped, Run, Eval, then_do, step_then, followed, keeping, tested, clauses, collect, called, sequence, meaning}
+use Rattle.clos_eval.specs.World.{State, bound_as, unbound}
+use Rattle.clos_eval.specs.Meaning.{Out, Gave, Stopped, Run, Eval, then_do, step_then, closed, restoring, followed, keeping, tested, clauses, collect, called, sequence, meaning}
 use Rattle.clos_eval.specs.declared.arguments.Context.{Context}
 use Rattle.clos_eval.specs.declared.condition.Condition.{Condition}
 use Rattle.clos_eval.specs.declared.condition.Stop.{Stop}
@@ -23,7 +23,7 @@ below env (Rest c fs) = env
 below env (Keep fs v) = env
 below env (Clause fs cs) = env
 below env (Collect name rest values) = env
-below env (Body rest saved) = saved
+below env (Body rest saved locals) = saved
 below env (Known saved) = saved
 below env Passing = env
 
@@ -33,7 +33,7 @@ passed ev env (Rest c fs) o = then_do o (λ v. followed ev env c fs v)
 passed ev env (Keep fs v) o = then_do o (λ u. keeping ev env fs (value_of v))
 passed ev env (Clause fs cs) o = then_do o (λ v. tested ev env fs (clauses ev env cs) v)
 passed ev env (Collect name rest values) o = then_do o (λ v. collect ev env rest (values ++ v ∷ []) (called ev env name))
-passed ev env (Body rest saved) o = then_do o (λ v. sequence ev env rest v)
+passed ev env (Body rest saved locals) o = then_do (then_do o (λ v. sequence ev env rest v)) (restoring locals)
 passed ev env (Known saved) o = o
 passed ev env Passing o = o
 
@@ -47,25 +47,29 @@ doing_run room env (Start task) w s = meaning room env task w s
 doing_run room env (Apply name values) w s = called (meaning room) env name values w s
 doing_run room env (Give value) w s = Gave (value_of value) w s
 
+-- the state with the machine's variables
+abbrev pub at : Machine → State → State
+at m w = bound_as m.locals w
+
 -- how the run ends from this state of the machine
 abbrev pub denote : Machine → Doing → Run
-denote m d w s = resume m.levels m.context (doing_run m.room m.context d w s)
+denote m d w s = closed (resume m.levels m.context (doing_run m.room m.context d (at m w) s))
 
 -- how it ends where a form has begun, or its level was taken off, and `run` is left to do
 abbrev pub inside : Machine → Run → Run
-inside m run w s = resume m.levels m.context (run w s)
+inside m run w s = closed (resume m.levels m.context (run (at m w) s))
 
 -- A control handler changes the machine alone.
 abbrev pub Leads : Run → State → Result Doing Stop → Machine → Type 0
 Leads run w (Ok d) m = (t : ℕ) → denote m d w t ≡ run w t
-Leads run w (Err (Refused c)) m = (t : ℕ) → run w t ≡ Stopped c w t
+Leads run w (Err (Refused c)) m = (t : ℕ) → run w t ≡ Stopped c (unbound w) t
 Leads run w (Err Storage) m = Unit {0}
 
 -- A turn may take steps and change the state; want of memory leaves both.
 abbrev pub Turns : Run → State → ℕ → Result Doing Stop → Machine → State → ℕ → Type 0
 Turns run w s (Ok d) m w' s' = (k : ℕ) × (s ≡ k + s') × ((t : ℕ) → denote m d w' t ≡ run w (k + t))
-Turns run w s (Err (Refused c)) m w' s' = run w s ≡ Stopped c w' s'
-Turns run w s (Err Storage) m w' s' = (w' ≡ w) × (s' ≡ s)
+Turns run w s (Err (Refused c)) m w' s' = run w s ≡ Stopped c (unbound w') s'
+Turns run w s (Err Storage) m w' s' = (unbound w' ≡ unbound w) × (s' ≡ s)
 
 -- where an outcome leaves the state and the steps
 abbrev pub leaves : Out → State → ℕ → Type 0
@@ -100,7 +104,7 @@ Designates d (Err Storage) = Unit {0}
 
 -- what a frame does with a value
 abbrev pub given_to : Machine → Frame → Val → Run
-given_to m f v w s = resume m.levels (below m.context f) (passed (meaning m.room) m.context f (Gave v w s))
+given_to m f v w s = closed (resume m.levels (below m.context f) (passed (meaning m.room) m.context f (Gave v (at m w) s)))
 
 -- A change takes one step, and touches the state alone; want of memory leaves both.
 abbrev pub Changes : Run → Val → State → ℕ → Result (Unit {0}) Stop → State → ℕ → Type 0

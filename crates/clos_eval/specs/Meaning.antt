@@ -12,11 +12,11 @@ use Rattle.clos_syntax_core.specs.Quotation.{name_value}
 use Rattle.clos_syntax_core.specs.Operator as of
 use Rattle.clos_eval.specs.Callee.{callee_of, only_value}
 use Rattle.clos_eval.specs.Effective.{Effective, call_method, progn, prog1, effective_form}
-use Rattle.clos_eval.specs.Arguments.{argument_named}
 use Rattle.clos_eval.specs.Class.{named}
+use Rattle.clos_eval.specs.declared.class.Class as declared
 use Rattle.clos_eval.specs.Generic.{function_named, ordered}
 use Rattle.clos_eval.specs.Condition.{nil_name, condition_of}
-use Rattle.clos_eval.specs.World.{State, names_of, lists_of}
+use Rattle.clos_eval.specs.World.{State, Local, bound_as, unbound, local_named, bound_to, names_of, lists_of}
 use Rattle.clos_eval.specs.declared.arguments.Context.{Context}
 use Rattle.clos_eval.specs.declared.callee.Callee.{Callee}
 use Rattle.clos_eval.specs.declared.callee.Callee.TheVariants.{Output, Terpri, Primitive, MakeInstance, Defined}
@@ -129,9 +129,9 @@ abbrev pub collect : Eval → Context → Frms → List Val → (List Val → Ru
 collect ev env form.nil vs go w s = go vs w s
 collect ev env (form.cons f fs) vs go w s = then_do (ev env (Plain f) w s) (λ v. collect ev env fs (vs ++ v ∷ []) go)
 
--- what an effective form knows: the arguments of its call, and no variables
+-- what a body and an effective form know: the arguments of the call
 abbrev pub known : List Val → Context
-known vs = record { parameters = []; arguments = vs }
+known vs = record { arguments = vs }
 
 -- ---- calls of generic functions (7.6.6)
 
@@ -150,10 +150,17 @@ abbrev pub called_function : Eval → Nam → List Val → Option ℕ → Run
 called_function ev name vs None w s = stopped UndefinedFunction (name_value name ∷ []) w s
 called_function ev name vs (Some g) w s = called_generic ev vs (slice_get w.generics g) w s
 
+-- with these variables and no others; those from before come back
+abbrev pub restoring : List Local → Val → Run
+restoring locals v w s = Gave v (bound_as locals w) s
+
+abbrev pub scoped : Run → List Local → Run
+scoped run locals w s = then_do (run (bound_as locals w) s) (restoring w.locals)
+
 -- a method runs its body with its parameters bound to the arguments
 abbrev pub method_run : Eval → List Val → Option Method → Run
 method_run ev vs None w s = stopped ProgramError [] w s
-method_run ev vs (Some m) w s = sequence ev (record { parameters = m.parameters; arguments = vs }) m.body (list nil) w s
+method_run ev vs (Some m) w s = scoped (sequence ev (known vs) m.body (list nil)) (bound_to m.parameters vs []) w s
 
 abbrev pub combined : Eval → Context → Effective → Run
 combined ev env (call_method m ns) w s = method_run ev env.arguments (slice_get w.methods m) w s
@@ -171,16 +178,16 @@ class_found name None = Err (record { kind = UndefinedClass; items = name_value 
 class_found name (Some n) = instantiable n
 
 -- the class that a value designates
-abbrev pub designated : State → Val → Result ℕ Condition
-designated w (symbol name) = class_found name (named w.classes name)
-designated w (list nil) = class_found nil_name (named w.classes nil_name)
-designated w (list (cons v l)) = Err (record { kind = TypeError; items = list (cons v l) ∷ [] })
-designated w (integer n) = Err (record { kind = TypeError; items = integer n ∷ [] })
-designated w (string s) = Err (record { kind = TypeError; items = string s ∷ [] })
-designated w (class n) = instantiable n
-designated w (generic n) = Err (record { kind = TypeError; items = generic n ∷ [] })
-designated w (method n) = Err (record { kind = TypeError; items = method n ∷ [] })
-designated w (instance n) = Err (record { kind = TypeError; items = instance n ∷ [] })
+abbrev pub designated : List declared.Class → Val → Result ℕ Condition
+designated cs (symbol name) = class_found name (named cs name)
+designated cs (list nil) = class_found nil_name (named cs nil_name)
+designated cs (list (cons v l)) = Err (record { kind = TypeError; items = list (cons v l) ∷ [] })
+designated cs (integer n) = Err (record { kind = TypeError; items = integer n ∷ [] })
+designated cs (string s) = Err (record { kind = TypeError; items = string s ∷ [] })
+designated cs (class n) = instantiable n
+designated cs (generic n) = Err (record { kind = TypeError; items = generic n ∷ [] })
+designated cs (method n) = Err (record { kind = TypeError; items = method n ∷ [] })
+designated cs (instance n) = Err (record { kind = TypeError; items = instance n ∷ [] })
 
 -- the next instance is made, and then initialised
 abbrev pub allocated : Eval → Context → ℕ → Run
@@ -218,7 +225,7 @@ answered (Err c) w s = Stopped (condition_of c) w s
 
 abbrev pub instance_made : Eval → Context → Option Val → Run
 instance_made ev env None w s = stopped Unsupported [] w s
-instance_made ev env (Some v) w s = made ev env (designated w v) w s
+instance_made ev env (Some v) w s = made ev env (designated w.classes v) w s
 
 abbrev pub applied : Eval → Context → Callee → Nam → List Val → Run
 applied ev env (Output o) name vs w s = output_of o (only_value vs) w s
@@ -240,7 +247,7 @@ variable_value name (Some v) w s = Gave v w s
 abbrev pub operated : Eval → Context → Opr → Frms → Run
 operated ev env (of.constant v) ps w s = Gave v w s
 operated ev env of.no_value ps w s = stopped Unsupported [] w s
-operated ev env (of.variable name) ps w s = variable_value name (argument_named env.parameters env.arguments name) w s
+operated ev env (of.variable name) ps w s = variable_value name (local_named w.locals name) w s
 operated ev env (of.function c) ps w s = stopped Unsupported [] w s
 operated ev env of.if_form ps w s = going ev env If ps (list nil) w s
 operated ev env of.cond ps w s = clauses ev env ps w s
@@ -282,3 +289,12 @@ begun ev env (System c) = system ev env c
 abbrev pub meaning : ℕ → Eval
 meaning zero env task w s = step_then (stopped DepthLimit []) w s
 meaning (suc n) env task w s = step_then (begun (meaning n) env task) w s
+
+-- no variables are left
+abbrev pub closed : Out → Out
+closed (Gave v w s) = Gave v (unbound w) s
+closed (Stopped c w s) = Stopped c (unbound w) s
+
+-- A form that is evaluated by itself begins with no variables and leaves none.
+abbrev pub evaluation : ℕ → Frm → Run
+evaluation room f w s = closed (meaning room (known []) (Plain f) (unbound w) s)

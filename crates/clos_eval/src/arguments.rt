@@ -1,12 +1,9 @@
 //! The arguments of calls, and what a running body knows of its own.
 ghost use Rattle.std.specs.Prelude.{◌≡◌, ◌++◌, ◌∷◌, [], IfOk, map, if◌then◌else◌, is_ok, option_map, length, slice_get, position};
-ghost use Rattle.lisp_data.specs.Name.{same_name};
 ghost use Rattle.lisp_data.specs.ValueView.{value_of};
-ghost use Rattle.clos_eval.specs.Arguments.{argument_named};
 ghost use Rattle.clos_eval.specs.Callee.{only_value};
 
-use crate::generic::Parameters;
-use lisp_data::{Name, Value};
+use lisp_data::Value;
 use std::alloc::{AllocError, Global};
 use std::marker::Model;
 use std::rc::Rc;
@@ -121,37 +118,5 @@ impl Arguments {
 /// What a running body or an effective form knows, and can't change.
 #[derive(Drop)]
 pub struct Context {
-    /// Of a body its method's parameters, of an effective form none.
-    pub parameters: Parameters,
     pub arguments: Arguments,
-}
-
-impl Context {
-    /// The same context, in a few steps.
-    pub fn copy(&self) -> Result<Context, AllocError>
-        ensures { IfOk result (λ r. r ≡ self.now) }
-    {
-        let parameters = self.parameters.copy()?;
-        let arguments = self.arguments.copy()?;
-        Ok(Context {
-            parameters,
-            arguments,
-        })
-    }
-
-    /// The value of the parameter of this name.
-    pub fn argument(&self, name: &Name) -> Option<&Value>
-        ensures { option_map (λ v. value_of v.now) result ≡ argument_named self.now.parameters self.now.arguments name.now }
-    {
-        match place_named(self.parameters.as_slice(), name) {
-            Some(place) => self.arguments.as_slice().get(place),
-            None => None,
-        }
-    }
-}
-
-fn place_named(parameters: &[Name], name: &Name) -> Option<usize>
-    ensures { result ≡ position (λ p. same_name p name.now) parameters.now }
-{
-    parameters.iter().position(|parameter| parameter.is(name))
 }

@@ -4,21 +4,19 @@ ghost use Rattle.lisp_data.specs.Value.{Val, list, nil};
 ghost use Rattle.lisp_data.specs.ValueView.{value_of};
 ghost use Rattle.lisp_prims.specs.Primitive.{answer};
 ghost use Rattle.clos_syntax_core.specs.OperatorView.{operator_of};
-ghost use Rattle.clos_eval.specs.World.{State, seen};
-ghost use Rattle.clos_eval.specs.Meaning.{Run, Gave, known, meaning, begun, body, operated, going, followed, branch, while_true, until_true, keeping, clauses, clause, tested, combined, system, collect, called, called_function, called_generic, answered, method_run, sequence, then_do, variable_value, dispatched};
-ghost use Rattle.clos_eval.specs.Arguments.{argument_named};
+ghost use Rattle.clos_eval.specs.World.{State, seen, bound_as, local_named};
+ghost use Rattle.clos_eval.specs.Meaning.{Run, Gave, known, meaning, begun, body, operated, going, followed, branch, while_true, until_true, keeping, clauses, clause, tested, combined, system, collect, called, called_function, called_generic, answered, method_run, sequence, restoring, scoped, then_do, variable_value, dispatched};
 ghost use Rattle.clos_eval.specs.Generic.{function_named, ordered};
 ghost use Rattle.clos_eval.specs.World.{lists_of};
 ghost use Rattle.clos_eval.specs.declared.machine.Task.TheVariants.{Plain};
 ghost use Rattle.clos_eval.specs.declared.machine.Frame.TheVariants.{Body, Collect};
-ghost use Rattle.clos_eval.specs.Machine.{Leads, Grows, inside, denote, resume, below, passed, given_to};
+ghost use Rattle.clos_eval.specs.Machine.{Leads, Grows, at, inside, denote, resume, below, passed, given_to};
 
 use crate::arguments::{Arguments, Context, Values};
 use crate::condition::{ConditionKind, Stop, about_call, about_name, of_function, plain};
 use crate::effective::{EffectiveForm, EffectiveNode, combined};
-use crate::generic::{
-    Generic, Method, Parameters, generic_named, method_numbered, ordered_methods,
-};
+use crate::generic::{Generic, Method, generic_named, method_numbered, ordered_methods};
+use crate::locals::{Locals, bind};
 use crate::machine::{Control, Doing, Frame, Level, Machine, SystemCall, Task};
 use crate::truth::{is_true, nil, t};
 use crate::world::World;
@@ -31,7 +29,7 @@ use std::mem;
 /// Evaluates this next, and then does what the frame does with its value.
 pub fn begin(machine: &mut Machine, next: Task, frame: Frame) -> Result<Doing, Stop>
     ensures leads { (run : Run) (w : State) → below machine.old.context frame ≡ machine.old.context
-        → ((t : ℕ) → passed (meaning machine.old.room) machine.old.context frame (meaning machine.old.room machine.old.context next w t) ≡ run w t)
+        → ((t : ℕ) → passed (meaning machine.old.room) machine.old.context frame (meaning machine.old.room machine.old.context next (at machine.old w) t) ≡ run (at machine.old w) t)
         → Leads (inside machine.old run) w result machine.new }
     ensures small { Grows 2 machine.old.levels result machine.new }
 {
@@ -42,7 +40,7 @@ pub fn begin(machine: &mut Machine, next: Task, frame: Frame) -> Result<Doing, S
 
 /// Gives this value.
 pub fn done(machine: &Machine, value: Value) -> Doing
-    ensures leads { (run : Run) (w : State) → ((t : ℕ) → run w t ≡ Gave (value_of value) w t)
+    ensures leads { (run : Run) (w : State) → ((t : ℕ) → run (at machine.now w) t ≡ Gave (value_of value) (at machine.now w) t)
         → Leads (inside machine.now run) w (Ok result) machine.now }
     ensures small { Grows 2 machine.now.levels (Ok result) machine.now }
 {
@@ -52,7 +50,7 @@ pub fn done(machine: &Machine, value: Value) -> Doing
 
 /// Evaluates this next, whose value is the machine's.
 fn turn_to(machine: &Machine, next: Task) -> Doing
-    ensures leads { (run : Run) (w : State) → ((t : ℕ) → meaning machine.now.room machine.now.context next w t ≡ run w t)
+    ensures leads { (run : Run) (w : State) → ((t : ℕ) → meaning machine.now.room machine.now.context next (at machine.now w) t ≡ run (at machine.now w) t)
         → Leads (inside machine.now run) w (Ok result) machine.now }
     ensures small { Grows 2 machine.now.levels (Ok result) machine.now }
 {
@@ -63,7 +61,7 @@ fn turn_to(machine: &Machine, next: Task) -> Doing
 /// Evaluates this next in a context of its own; the machine's comes back after it.
 fn enter_effect(machine: &mut Machine, context: Context, next: Task) -> Result<Doing, Stop>
     ensures leads { (run : Run) (w : State)
-        → ((t : ℕ) → meaning machine.old.room context next w t ≡ run w t)
+        → ((t : ℕ) → meaning machine.old.room context next (at machine.old w) t ≡ run (at machine.old w) t)
         → Leads (inside machine.old run) w result machine.new }
     ensures small { Grows 2 machine.old.levels result machine.new }
 {
@@ -74,21 +72,23 @@ fn enter_effect(machine: &mut Machine, context: Context, next: Task) -> Result<D
     Ok(Doing::Start(next))
 }
 
-/// Evaluates the forms of a body, of which this is the first, in a context of their own.
+/// Evaluates the forms of a body, of which this is the first, in a context of their own and with these variables.
 fn enter_body(
     machine: &mut Machine,
     context: Context,
+    locals: Locals,
     first: Form,
     rest: Forms,
 ) -> Result<Doing, Stop>
     ensures leads { (run : Run) (w : State)
-        → ((t : ℕ) → then_do (meaning machine.old.room context (Plain first) w t) (λ v. sequence (meaning machine.old.room) context rest v) ≡ run w t)
+        → ((t : ℕ) → then_do (then_do (meaning machine.old.room context (Plain first) (bound_as locals w) t) (λ v. sequence (meaning machine.old.room) context rest v)) (restoring machine.old.locals) ≡ run (at machine.old w) t)
         → Leads (inside machine.old run) w result machine.new }
     ensures small { Grows 2 machine.old.levels result machine.new }
 {
     let room = machine.room;
     let saved = mem::replace(&mut machine.context, context);
-    let frame = Frame::Body(rest, saved);
+    let outer = mem::replace(&mut machine.locals, locals);
+    let frame = Frame::Body(rest, saved, outer);
     machine.levels.push(Level { frame, room })?;
     Ok(Doing::Start(Task::Plain(first)))
 }
@@ -119,7 +119,7 @@ fn operate(
     ensures small { Grows 3 machine.old.levels result machine.new }
 {
     match operator {
-        Operator::Constant(value) => Ok(done(machine, value.copy()?)),
+        Operator::Constant(value) => Ok(Doing::Give(value.copy()?)),
         Operator::Variable(name) => variable(alloc, machine, world, name),
         Operator::If => go_on(machine, Control::If, parts, nil()),
         Operator::Cond => next_clause(machine, parts),
@@ -158,7 +158,7 @@ pub fn go_on(
     value: Value,
 ) -> Result<Doing, Stop>
     ensures leads { (run : Run) (w : State)
-        → ((t : ℕ) → going (meaning machine.old.room) machine.old.context control forms.now (value_of value) w t ≡ run w t)
+        → ((t : ℕ) → going (meaning machine.old.room) machine.old.context control forms.now (value_of value) (at machine.old w) t ≡ run (at machine.old w) t)
         → Leads (inside machine.old run) w result machine.new }
     ensures small { Grows 2 machine.old.levels result machine.new }
 {
@@ -181,7 +181,7 @@ pub fn follow(
     value: Value,
 ) -> Result<Doing, Stop>
     ensures leads { (run : Run) (w : State)
-        → ((t : ℕ) → followed (meaning machine.old.room) machine.old.context control rest.now (value_of value) w t ≡ run w t)
+        → ((t : ℕ) → followed (meaning machine.old.room) machine.old.context control rest.now (value_of value) (at machine.old w) t ≡ run (at machine.old w) t)
         → Leads (inside machine.old run) w result machine.new }
     ensures small { Grows 2 machine.old.levels result machine.new }
 {
@@ -220,7 +220,7 @@ pub fn follow(
 #[tactic(auto, using(crate::proofs::Turns::going_progn))]
 fn branch(machine: &mut Machine, holds: bool, forms: &Forms) -> Result<Doing, Stop>
     ensures leads { (run : Run) (w : State)
-        → ((t : ℕ) → branch (meaning machine.old.room) machine.old.context holds forms.now w t ≡ run w t)
+        → ((t : ℕ) → branch (meaning machine.old.room) machine.old.context holds forms.now (at machine.old w) t ≡ run (at machine.old w) t)
         → Leads (inside machine.old run) w result machine.new }
     ensures small { Grows 2 machine.old.levels result machine.new }
 {
@@ -238,7 +238,7 @@ fn branch(machine: &mut Machine, holds: bool, forms: &Forms) -> Result<Doing, St
 /// This value, after these forms.
 pub fn keep(machine: &mut Machine, forms: &Forms, value: Value) -> Result<Doing, Stop>
     ensures leads { (run : Run) (w : State)
-        → ((t : ℕ) → keeping (meaning machine.old.room) machine.old.context forms.now (value_of value) w t ≡ run w t)
+        → ((t : ℕ) → keeping (meaning machine.old.room) machine.old.context forms.now (value_of value) (at machine.old w) t ≡ run (at machine.old w) t)
         → Leads (inside machine.old run) w result machine.new }
     ensures small { Grows 2 machine.old.levels result machine.new }
 {
@@ -255,7 +255,7 @@ pub fn keep(machine: &mut Machine, forms: &Forms, value: Value) -> Result<Doing,
 /// The next clause of a cond form, or NIL.
 fn next_clause(machine: &mut Machine, forms: &Forms) -> Result<Doing, Stop>
     ensures leads { (run : Run) (w : State)
-        → ((t : ℕ) → clauses (meaning machine.old.room) machine.old.context forms.now w t ≡ run w t)
+        → ((t : ℕ) → clauses (meaning machine.old.room) machine.old.context forms.now (at machine.old w) t ≡ run (at machine.old w) t)
         → Leads (inside machine.old run) w result machine.new }
     ensures small { Grows 2 machine.old.levels result machine.new }
 {
@@ -268,7 +268,7 @@ fn next_clause(machine: &mut Machine, forms: &Forms) -> Result<Doing, Stop>
 /// The test of a clause, before these clauses.
 fn test_clause(machine: &mut Machine, forms: &Forms, others: &Forms) -> Result<Doing, Stop>
     ensures leads { (run : Run) (w : State)
-        → ((t : ℕ) → clause (meaning machine.old.room) machine.old.context forms.now (clauses (meaning machine.old.room) machine.old.context others.now) w t ≡ run w t)
+        → ((t : ℕ) → clause (meaning machine.old.room) machine.old.context forms.now (clauses (meaning machine.old.room) machine.old.context others.now) (at machine.old w) t ≡ run (at machine.old w) t)
         → Leads (inside machine.old run) w result machine.new }
     ensures small { Grows 2 machine.old.levels result machine.new }
 {
@@ -292,7 +292,7 @@ pub fn clause_tested(
     value: Value,
 ) -> Result<Doing, Stop>
     ensures leads { (run : Run) (w : State)
-        → ((t : ℕ) → tested (meaning machine.old.room) machine.old.context forms.now (clauses (meaning machine.old.room) machine.old.context others.now) (value_of value) w t ≡ run w t)
+        → ((t : ℕ) → tested (meaning machine.old.room) machine.old.context forms.now (clauses (meaning machine.old.room) machine.old.context others.now) (value_of value) (at machine.old w) t ≡ run (at machine.old w) t)
         → Leads (inside machine.old run) w result machine.new }
     ensures small { Grows 2 machine.old.levels result machine.new }
 {
@@ -305,11 +305,11 @@ pub fn clause_tested(
 /// A variable gives its value.
 #[tactic(auto, using(crate::proofs::Turns::stopped_through))]
 fn variable(alloc: Global, machine: &mut Machine, world: &World, name: &Name) -> Result<Doing, Stop>
-    ensures leads { Leads (inside machine.old (variable_value name.now (argument_named machine.old.context.parameters machine.old.context.arguments name.now))) (seen world.now) result machine.new }
+    ensures leads { Leads (inside machine.old (λ w. variable_value name.now (local_named w.locals name.now) w)) (seen world.now) result machine.new }
     ensures small { Grows 2 machine.old.levels result machine.new }
 {
     let _ = world;
-    match machine.context.argument(name) {
+    match machine.locals.get(name) {
         Some(value) => Ok(Doing::Give(value.copy()?)),
         None => {
             let condition = about_name(alloc, ConditionKind::UnboundVariable, name)?;
@@ -326,7 +326,7 @@ fn collect_next(
     values: Values,
 ) -> Result<Doing, Stop>
     ensures leads { (run : Run) (w : State)
-        → ((t : ℕ) → collect (meaning machine.old.room) machine.old.context forms.now values (called (meaning machine.old.room) machine.old.context name) w t ≡ run w t)
+        → ((t : ℕ) → collect (meaning machine.old.room) machine.old.context forms.now values (called (meaning machine.old.room) machine.old.context name) (at machine.old w) t ≡ run (at machine.old w) t)
         → Leads (inside machine.old run) w result machine.new }
     ensures small { Grows 3 machine.old.levels result machine.new }
 {
@@ -398,13 +398,25 @@ fn call_generic(
     if values.len() as u64 != generic.required {
         return Err(Stop::Refused(plain(alloc, ConditionKind::ProgramError)));
     }
+    call_applicable(alloc, machine, world, generic, values)
+}
+
+/// The applicable methods of a generic function are called, or no-applicable-method.
+fn call_applicable(
+    alloc: Global,
+    machine: &mut Machine,
+    world: &World,
+    generic: &Generic,
+    values: Values,
+) -> Result<Doing, Stop>
+    ensures leads { (run : Run)
+        → ((t : ℕ) → meaning machine.old.room (known values) (dispatched generic.now.name values (ordered (seen world.now).methods (lists_of (seen world.now) values) generic.now.methods)) (at machine.old (seen world.now)) t ≡ run (at machine.old (seen world.now)) t)
+        → Leads (inside machine.old run) (seen world.now) result machine.new }
+    ensures small { Grows 2 machine.old.levels result machine.new }
+{
     let arguments = Arguments::new(alloc, values)?;
     let next = dispatch(alloc, world, generic, &arguments)?;
-    let parameters = Parameters::none();
-    let context = Context {
-        parameters,
-        arguments,
-    };
+    let context = Context { arguments };
     enter_effect(machine, context, next)
 }
 
@@ -465,30 +477,46 @@ fn run_method(
 {
     match method_numbered(&world.methods, id) {
         None => Err(Stop::Refused(plain(alloc, ConditionKind::ProgramError))),
-        Some(method) => run_body(machine, world, method),
+        Some(method) => run_body(alloc, machine, world, method),
     }
 }
 
 /// The body of a method begins, with its parameters bound to the arguments.
-fn run_body(machine: &mut Machine, world: &World, method: &Method) -> Result<Doing, Stop>
+fn run_body(
+    alloc: Global,
+    machine: &mut Machine,
+    world: &World,
+    method: &Method,
+) -> Result<Doing, Stop>
     ensures leads { (run : Run)
-        → ((t : ℕ) → method_run (meaning machine.old.room) machine.old.context.arguments (Some method.now) (seen world.now) t ≡ run (seen world.now) t)
+        → ((t : ℕ) → method_run (meaning machine.old.room) machine.old.context.arguments (Some method.now) (at machine.old (seen world.now)) t ≡ run (at machine.old (seen world.now)) t)
         → Leads (inside machine.old run) (seen world.now) result machine.new }
     ensures small { Grows 2 machine.old.levels result machine.new }
 {
     let _ = world;
-    match method.body.split_first() {
+    let arguments = machine.context.arguments.copy()?;
+    let locals = bind(alloc, method.parameters.as_slice(), arguments.as_slice())?;
+    run_scoped(machine, Context { arguments }, locals, &method.body)
+}
+
+/// These forms are evaluated in a context of their own and with these variables.
+fn run_scoped(
+    machine: &mut Machine,
+    context: Context,
+    locals: Locals,
+    forms: &Forms,
+) -> Result<Doing, Stop>
+    ensures leads { (run : Run) (w : State)
+        → ((t : ℕ) → scoped (sequence (meaning machine.old.room) context forms.now (list nil)) locals (at machine.old w) t ≡ run (at machine.old w) t)
+        → Leads (inside machine.old run) w result machine.new }
+    ensures small { Grows 2 machine.old.levels result machine.new }
+{
+    match forms.split_first() {
         None => Ok(done(machine, nil())),
         Some((first, others)) => {
-            let parameters = method.parameters.copy()?;
-            let arguments = machine.context.arguments.copy()?;
-            let context = Context {
-                parameters,
-                arguments,
-            };
             let first = first.copy()?;
             let rest = others.copy()?;
-            enter_body(machine, context, first, rest)
+            enter_body(machine, context, locals, first, rest)
         }
     }
 }
@@ -515,7 +543,7 @@ fn start_system(
             let next = Task::System(SystemCall::InitializeShared(id));
             begin(machine, next, Frame::Passing)
         }
-        SystemCall::InitializeShared(id) => Ok(done(machine, Value::Instance(id))),
+        SystemCall::InitializeShared(id) => Ok(Doing::Give(Value::Instance(id))),
     }
 }
 
@@ -538,22 +566,24 @@ pub fn next_of_body(
     world: &World,
     rest: &Forms,
     saved: Context,
+    outer: Locals,
     value: Value,
 ) -> Result<Doing, Stop>
-    ensures leads { Leads (given_to machine.old (Body rest.now saved) (value_of value)) (seen world.now) result machine.new }
+    ensures leads { Leads (given_to machine.old (Body rest.now saved outer) (value_of value)) (seen world.now) result machine.new }
     ensures small { Grows 2 machine.old.levels result machine.new }
 {
     let _ = world;
     match rest.split_first() {
         None => {
             machine.context = saved;
+            machine.locals = outer;
             Ok(Doing::Give(value))
         }
         Some((first, others)) => {
             let room = machine.room;
             let next = Task::Plain(first.copy()?);
             let rest = others.copy()?;
-            let frame = Frame::Body(rest, saved);
+            let frame = Frame::Body(rest, saved, outer);
             machine.levels.push(Level { frame, room })?;
             Ok(Doing::Start(next))
         }
@@ -569,7 +599,7 @@ pub fn next_argument(
     value: Value,
 ) -> Result<Doing, Stop>
     ensures leads { (run : Run) (w : State)
-        → ((t : ℕ) → collect (meaning machine.old.room) machine.old.context rest.now (values ++ value_of value ∷ []) (called (meaning machine.old.room) machine.old.context name) w t ≡ run w t)
+        → ((t : ℕ) → collect (meaning machine.old.room) machine.old.context rest.now (values ++ value_of value ∷ []) (called (meaning machine.old.room) machine.old.context name) (at machine.old w) t ≡ run (at machine.old w) t)
         → Leads (inside machine.old run) w result machine.new }
     ensures small { Grows 3 machine.old.levels result machine.new }
 {

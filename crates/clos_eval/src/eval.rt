@@ -1,12 +1,12 @@
 //! Evaluation: the turns of the machine, and the whole of a form.
-ghost use Rattle.std.specs.Prelude.{◌≡◌, ◌∷◌, [], ℕ, ◌+◌, ◌-◌, ◌*◌, ◌<◌, ◌≤◌, ◌++◌, length, map, option_map, IfOk, OnErr, OnOk, Ok, Some};
+ghost use Rattle.std.specs.Prelude.{◌≡◌, ◌∷◌, [], ℕ, List, ◌+◌, ◌-◌, ◌*◌, ◌<◌, ◌≤◌, ◌++◌, length, map, option_map, IfOk, OnErr, OnOk, Ok, Some};
 ghost use Rattle.lisp_data.specs.Value.{Val, list, nil};
 ghost use Rattle.lisp_data.specs.ValueView.{value_of};
 ghost use Rattle.clos_eval.specs.Callee.{only_value};
-ghost use Rattle.clos_eval.specs.World.{State, seen, names_of};
-ghost use Rattle.clos_eval.specs.Meaning.{Run, Gave, Stopped, meaning, designated, class_found, instantiable, written, text_by, output_of, line_ended, applied, instance_made, step_then, made, known};
+ghost use Rattle.clos_eval.specs.World.{State, Local, seen, bound_as, names_of};
+ghost use Rattle.clos_eval.specs.Meaning.{Run, Gave, Stopped, meaning, evaluation, designated, class_found, instantiable, written, text_by, output_of, line_ended, applied, instance_made, step_then, made, known};
 ghost use Rattle.clos_eval.specs.Class.{named};
-ghost use Rattle.clos_eval.specs.Machine.{Turns, Leads, Answers, Grows, Designates, denote, inside, given_to, weight, given, Changes, Reached};
+ghost use Rattle.clos_eval.specs.Machine.{at, Turns, Leads, Answers, Grows, Designates, denote, inside, given_to, weight, given, Changes, Reached};
 ghost use Rattle.clos_eval.specs.declared.callee.Callee.TheVariants.{Output as Printing, Terpri, MakeInstance};
 ghost use Rattle.clos_eval.specs.declared.machine.Task.TheVariants.{Plain};
 ghost use Rattle.clos_eval.specs.declared.machine.Doing.TheVariants.{Start, Apply};
@@ -18,7 +18,7 @@ use crate::condition::{ConditionKind, Stop, about, about_name, plain};
 use crate::control::{
     begin, call, clause_tested, compute, follow, keep, next_argument, next_of_body, start,
 };
-use crate::generic::Parameters;
+use crate::locals::Locals;
 use crate::machine::{Doing, Frame, Level, Levels, Machine, SystemCall, Task};
 use crate::truth::nil;
 use crate::world::World;
@@ -46,7 +46,7 @@ fn text(alloc: Global, world: &World, output: Output, value: &Value) -> Result<V
 
 /// Writes bytes, which takes a step.
 fn write(alloc: Global, world: &mut World, bytes: &[u8], steps: &mut u64) -> Result<(), Stop>
-    ensures changes { (v : Val) → Changes (written bytes.now v) v (seen world.old) steps.old result (seen world.new) steps.new }
+    ensures changes { (v : Val) (l : List Local) → Changes (written bytes.now v) v (bound_as l (seen world.old)) steps.old result (bound_as l (seen world.new)) steps.new }
     ensures fewer { steps.new ≤ steps.old }
 {
     if *steps == 0 {
@@ -118,7 +118,7 @@ fn end_line(
 
 /// The class that a value designates, if there can be instances of it.
 fn designate(alloc: Global, world: &World, value: Value) -> Result<ClassId, Stop>
-    ensures { Designates (designated (seen world.now) (value_of value)) result }
+    ensures { Designates (designated (seen world.now).classes (value_of value)) result }
 {
     match value {
         Value::Sym(name) => found(alloc, world, &name),
@@ -130,7 +130,7 @@ fn designate(alloc: Global, world: &World, value: Value) -> Result<ClassId, Stop
 
 /// Of the lists only NIL, a symbol, may name a class.
 fn designate_list(alloc: Global, world: &World, items: Items) -> Result<ClassId, Stop>
-    ensures { Designates (designated (seen world.now) (list items)) result }
+    ensures { Designates (designated (seen world.now).classes (list items)) result }
 {
     match items.split_first() {
         None => found(alloc, world, &Name::fixed("NIL")),
@@ -167,7 +167,7 @@ fn make(
     value: Value,
     steps: &mut u64,
 ) -> Result<Doing, Stop>
-    ensures turns { Turns (inside machine.old (λ w s. made (meaning machine.old.room) machine.old.context (designated w (value_of value)) w s))
+    ensures turns { Turns (inside machine.old (λ w s. made (meaning machine.old.room) machine.old.context (designated w.classes (value_of value)) w s))
         (seen world.old) steps.old result machine.new (seen world.new) steps.new }
     ensures small { Grows 2 machine.old.levels result machine.new }
     ensures fewer { steps.new ≤ steps.old }
@@ -186,7 +186,7 @@ fn make_of(
     steps: &mut u64,
 ) -> Result<Doing, Stop>
     ensures turns { (run : Run)
-        → ((t : ℕ) → made (meaning machine.old.room) machine.old.context (Ok class.0) (seen world.old) t ≡ run (seen world.old) t)
+        → ((t : ℕ) → made (meaning machine.old.room) machine.old.context (Ok class.0) (at machine.old (seen world.old)) t ≡ run (at machine.old (seen world.old)) t)
         → Turns (inside machine.old run) (seen world.old) steps.old result machine.new (seen world.new) steps.new }
     ensures small { Grows 2 machine.old.levels result machine.new }
     ensures fewer { steps.new ≤ steps.old }
@@ -263,7 +263,9 @@ fn give(machine: &mut Machine, world: &World, frame: Frame, value: Value) -> Res
         Frame::Keep(rest, kept) => keep(machine, &rest, kept),
         Frame::Clause(forms, others) => clause_tested(machine, &forms, &others, value),
         Frame::Collect(name, rest, values) => next_argument(machine, name, &rest, values, value),
-        Frame::Body(rest, saved) => next_of_body(machine, world, &rest, saved, value),
+        Frame::Body(rest, saved, outer) => {
+            next_of_body(machine, world, &rest, saved, outer, value)
+        },
         Frame::Known(saved) => {
             machine.context = saved;
             Ok(Doing::Give(value))
@@ -314,20 +316,17 @@ pub fn evaluate(
     room: u64,
     steps: &mut u64,
 ) -> Result<Value, Stop>
-    ensures { Answers (meaning room (known []) (Plain form)) (seen world.old) steps.old result (seen world.new) steps.new }
+    ensures { Answers (evaluation room form) (seen world.old) steps.old result (seen world.new) steps.new }
 {
-    let parameters = Parameters::none();
     let Ok(arguments) = Arguments::new(alloc, Values::new(alloc)) else {
         return Err(Stop::Storage);
     };
-    let context = Context {
-        parameters,
-        arguments,
-    };
+    let context = Context { arguments };
     let levels = Levels::new(alloc);
     let mut machine = Machine {
         levels,
         context,
+        locals: Locals::new(alloc),
         room,
     };
     let mut doing = Doing::Start(Task::Plain(form));

@@ -10,6 +10,7 @@ mod effective;
 pub mod eval;
 pub mod generic;
 pub mod limits;
+mod locals;
 mod machine;
 pub mod predefined;
 mod truth;

@@ -3,6 +3,7 @@ ghost use Rattle.std.specs.Prelude.{◌≡◌, ◌∷◌, [], ℕ, ◌<◌, ◌�
 
 use crate::arguments::{Arguments, Context, Values};
 use crate::effective::EffectiveForm;
+use crate::locals::Locals;
 use clos_syntax_core::{Form, Forms};
 use lisp_data::{InstanceId, Name, Value};
 use std::alloc::{AllocError, Global};
@@ -67,8 +68,8 @@ pub enum Frame {
     Clause(Forms, Forms),
     /// It is the next argument of the function of this name.
     Collect(Name, Forms, Values),
-    /// The rest of a method's body follows; the context goes back to the caller's.
-    Body(Forms, Context),
+    /// The rest of a method's body follows; the context and the variables go back to the caller's.
+    Body(Forms, Context, Locals),
     /// The context goes back to the caller's.
     Known(Context),
     /// Nothing.
@@ -133,6 +134,8 @@ impl Levels {
 pub struct Machine {
     pub levels: Levels,
     pub context: Context,
+    /// The variables of the body that runs.
+    pub locals: Locals,
     /// How many more forms may nest.
     pub room: u64,
 }

@@ -6,7 +6,8 @@ use Rattle.lisp_data.specs.Datum.{Dat}
 use Rattle.clos_syntax_core.specs.Form.{Frms}
 use Rattle.clos_eval.specs.Class.{named}
 use Rattle.clos_eval.specs.Generic.{function_named}
-use Rattle.clos_eval.specs.World.{State}
+use Rattle.clos_eval.specs.World.{State, seen}
+use Rattle.clos_eval.specs.declared.world.World.{World}
 use Rattle.clos_eval.specs.Meaning.{Out, Run, known}
 use Rattle.clos_eval.specs.Machine.{Answers, leaves}
 use Rattle.clos_eval.specs.declared.condition.Stop.{Stop}
@@ -48,21 +49,21 @@ define_method_quiet : (name : Nam) (ps : List Nam) (body : Frms) (r : Result (Li
 define_method_quiet name ps body (Err c) w = (refl, refl)
 define_method_quiet name ps body (Ok ss) w = function_quiet name (function_named w.generics name) ps ss body w
 
-performed_quiet : (served : Served) (w : State) → leaves (performed served w 0) w 0
-performed_quiet (DefineClass name super) w = define_class_quiet name super (named w.classes name) w
-performed_quiet (DefineMethod name ps cs body) w = define_method_quiet name ps body (specializer_numbers w cs) w
-performed_quiet (Expression f) w = evaluation_quiet (room_of w) (known []) (Plain f) w
+performed_quiet : (served : Served) (w : World) → leaves (performed served (seen w) 0) (seen w) 0
+performed_quiet (DefineClass name super) w = define_class_quiet name super (named (seen w).classes name) (seen w)
+performed_quiet (DefineMethod name ps cs body) w = define_method_quiet name ps body (specializer_numbers (seen w) cs) (seen w)
+performed_quiet (Expression f) w = evaluation_quiet (room_of (seen w)) (known []) (Plain f) (seen w)
 
-served_quiet : (o : Option Served) (w : State) → leaves (served_run o w 0) w 0
+served_quiet : (o : Option Served) (w : World) → leaves (served_run o (seen w) 0) (seen w) 0
 served_quiet None w = (refl, refl)
 served_quiet (Some served) w = performed_quiet served w
 
-pub checked_quiet : (o : Option Top) (w : State) → leaves (checked o w 0) w 0
+pub checked_quiet : (o : Option Top) (w : World) → leaves (checked o (seen w) 0) (seen w) 0
 checked_quiet None w = (refl, refl)
 checked_quiet (Some top) w = served_quiet (served_of top) w
 
-pub step_quiet : (d : Dat) (w : State) → leaves (step d w 0) w 0
-step_quiet d w = either (is_combination d) _ (checked (top_of d) w 0) w (refl, refl) (checked_quiet (top_of d) w)
+pub step_quiet : (d : Dat) (w : World) → leaves (step d (seen w) 0) (seen w) 0
+step_quiet d w = either (is_combination d) _ (checked (top_of d) (seen w) 0) (seen w) (refl, refl) (checked_quiet (top_of d) w)
 
 -- where memory was refused, the steps taken are those that are gone
 pub stored : (run : Run) (w w' : State) (s s' : ℕ) (stop : Stop) → stop ≡ Storage → Answers run w s (Err stop) w' s'

@@ -12,7 +12,7 @@ use Rattle.clos_syntax.specs.Top.{top_of}
 use Rattle.clos_syntax.specs.declared.top.Top.{Top}
 use Rattle.clos_system.specs.Served.{is_combination, served_of}
 use Rattle.clos_eval.specs.World.{State}
-use Rattle.clos_eval.specs.Meaning.{Gave, Stopped, Run, stopped, step_then, meaning, known}
+use Rattle.clos_eval.specs.Meaning.{Gave, Stopped, Run, stopped, step_then, evaluation}
 use Rattle.clos_eval.specs.declared.class.Superclasses.TheVariants.{Direct}
 use Rattle.clos_eval.specs.declared.class.ClassIds.{ClassIds}
 use Rattle.clos_eval.specs.declared.condition.Condition.{Condition}
@@ -128,7 +128,7 @@ room_of w = min w.limits.depth 4_000
 abbrev pub performed : Served → Run
 performed (DefineClass name super) w k = define_class name super (named w.classes name) w k
 performed (DefineMethod name parameters classes body) w k = define_method name parameters body (specializer_numbers w classes) w k
-performed (Expression f) w k = meaning (room_of w) (known []) (Plain f) w k
+performed (Expression f) w k = evaluation (room_of w) f w k
 
 abbrev pub served_run : Option Served → Run
 served_run None w k = stopped Unsupported [] w k

@@ -1,6 +1,7 @@
 use Rattle.std.proofs.Common.{◌-◌, arith, ap, sym, ◌∙◌}
 use Rattle.clos_eval.specs.World.{seen}
 use Rattle.clos_eval.specs.Meaning.{Stopped}
+use Rattle.clos_eval.specs.Machine.{at}
 use Rattle.clos_eval.proofs.Running.{start_no_step, start_too_deep, start_begins, start_begins_at}
 use Rattle.clos_eval.proofs.eval.begin_task.Goals as goal
 
@@ -20,12 +21,12 @@ returns-in-Ok-clause-turns c = (
   omega (arith, c.if-steps-eq0.false),
   λ t.
       c.in-Ok.ensures.leads t
-      ∙ sym (start_begins_at c.args.machine.now.levels c.args.machine.now.room c.args.machine.now.context c.args.task (seen c.args.world.now) t
+      ∙ sym (start_begins_at c.args.machine.now.levels c.args.machine.now.room c.args.machine.now.context c.args.task (at c.args.machine.now (seen c.args.world.now)) t
       (omega (arith, c.if-machine-eq0.false))),
 )
 
 pub returns-in-Err-Refused-clause-turns : goal.returns-in-Err-Refused-clause-turns
 returns-in-Err-Refused-clause-turns c =
-    start_begins c.args.machine.now.levels c.args.machine.now.room c.args.machine.now.context c.args.task (seen c.args.world.now) c.args.steps.now
+    start_begins c.args.machine.now.levels c.args.machine.now.room c.args.machine.now.context c.args.task (at c.args.machine.now (seen c.args.world.now)) c.args.steps.now
     (omega (arith, c.if-machine-eq0.false)) (omega (arith, c.if-steps-eq0.false))
     ∙ (rw c.in-Err-Refused.field-0-is at c.in-Err-Refused.ensures.leads) (c.args.steps.now - 1)

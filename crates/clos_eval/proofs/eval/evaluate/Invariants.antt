@@ -1,12 +1,10 @@
-use Rattle.std.proofs.Common.{[]}
 use Rattle.clos_eval.specs.World.{seen}
-use Rattle.clos_eval.specs.Meaning.{meaning, known}
+use Rattle.clos_eval.specs.Meaning.{evaluation}
 use Rattle.clos_eval.specs.Machine.{Reached, denote, weight}
-use Rattle.clos_eval.specs.declared.machine.Task.TheVariants.{Plain}
 use Rattle.clos_eval.proofs.eval.evaluate.Given as goal
 
 abbrev pub invariant-loop-doing : goal.invariant-loop-doing
-invariant-loop-doing l = Reached (meaning l.fn.room (known []) (Plain l.fn.form)) (seen l.fn.world) l.fn.steps (denote l.machine l.doing) (seen l.world) l.steps
+invariant-loop-doing l = Reached (evaluation l.fn.room l.fn.form) (seen l.fn.world) l.fn.steps (denote l.machine l.doing) (seen l.world) l.steps
 
 abbrev pub decreases-loop-doing : goal.decreases-loop-doing
 decreases-loop-doing l = weight l.steps l.machine l.doing

@@ -1,7 +1,7 @@
 use Rattle.std.proofs.Common.{◌+◌, ◌++◌, ◌∷◌, [], ◌<◌, ◌≤◌, length, arith, ap, sym, ◌∙◌, refl}
 use Rattle.clos_eval.specs.World.{State, seen}
-use Rattle.clos_eval.specs.Meaning.{Stopped, meaning}
-use Rattle.clos_eval.specs.Machine.{resume}
+use Rattle.clos_eval.specs.Meaning.{Stopped, closed, meaning}
+use Rattle.clos_eval.specs.Machine.{at, resume}
 use Rattle.clos_eval.specs.declared.machine.SystemCall.TheVariants.{Initialize}
 use Rattle.clos_eval.specs.declared.machine.Task.TheVariants.{System}
 use Rattle.clos_eval.proofs.Running.{made_full, made_no_step, made_next}
@@ -11,7 +11,7 @@ pub returns-then-count-world-clause-turns : goal.returns-then-count-world-clause
 returns-then-count-world-clause-turns c = λ run h.
     let w : State = seen c.args.world.now in
     let full : w.limits.instances ≤ length w.instances = omega (arith, c.instance_count-count.ensures, c.if-count-world.true) in
-    ap (resume c.args.machine.now.levels c.args.machine.now.context) (sym (h c.args.steps.now))
+    ap (λ o. closed (resume c.args.machine.now.levels c.args.machine.now.context o)) (sym (h c.args.steps.now))
     ∙ made_full c.args.machine.now (meaning c.args.machine.now.room) c.args.machine.now.context c.args.class.0 w c.args.steps.now full
     ∙ ap (λ x. Stopped x w c.args.steps.now) (sym c.plain.ensures)
 
@@ -19,7 +19,7 @@ pub returns-then-steps-eq0-clause-turns : goal.returns-then-steps-eq0-clause-tur
 returns-then-steps-eq0-clause-turns c = λ run h.
     let w : State = seen c.args.world.now in
     let more : length w.instances < w.limits.instances = omega (arith, c.instance_count-count.ensures, c.if-count-world.false) in
-    ap (resume c.args.machine.now.levels c.args.machine.now.context) (sym (h c.args.steps.now))
+    ap (λ o. closed (resume c.args.machine.now.levels c.args.machine.now.context o)) (sym (h c.args.steps.now))
     ∙ made_no_step c.args.machine.now (meaning c.args.machine.now.room) c.args.machine.now.context c.args.class.0 w c.args.steps.now more c.if-steps-eq0.true
     ∙ ap (λ x. Stopped x w c.args.steps.now) (sym c.plain-then-steps-eq0.ensures)
 
@@ -32,10 +32,10 @@ returns-clause-turns c = λ run h.
       λ t.
           c.in-Ok.ensures.leads (λ u k. meaning c.args.machine.now.room c.args.machine.now.context
           (System (Initialize (record { 0 = c.instance_count-count.result + 1 }))) u k) (seen c.add_instance.new.self) refl (λ k. refl) t
-          ∙ ap (λ u. resume c.args.machine.now.levels c.args.machine.now.context (meaning c.args.machine.now.room c.args.machine.now.context
-          (System (Initialize (record { 0 = c.instance_count-count.result + 1 }))) u t)) c.in-Ok-add_instance.ensures.ok
-          ∙ ap (λ n. resume c.args.machine.now.levels c.args.machine.now.context (meaning c.args.machine.now.room c.args.machine.now.context
-          (System (Initialize (record { 0 = n + 1 }))) (record w { instances = w.instances ++ c.args.class.0 ∷ [] }) t)) c.instance_count-count.ensures
+          ∙ ap (λ u. closed (resume c.args.machine.now.levels c.args.machine.now.context (meaning c.args.machine.now.room c.args.machine.now.context
+          (System (Initialize (record { 0 = c.instance_count-count.result + 1 }))) (at c.args.machine.now u) t))) c.in-Ok-add_instance.ensures.ok
+          ∙ ap (λ n. closed (resume c.args.machine.now.levels c.args.machine.now.context (meaning c.args.machine.now.room c.args.machine.now.context
+          (System (Initialize (record { 0 = n + 1 }))) (at c.args.machine.now (record w { instances = w.instances ++ c.args.class.0 ∷ [] })) t))) c.instance_count-count.ensures
           ∙ sym (made_next c.args.machine.now (meaning c.args.machine.now.room) c.args.machine.now.context c.args.class.0 w t more)
-          ∙ ap (resume c.args.machine.now.levels c.args.machine.now.context) (h (1 + t)),
+          ∙ ap (λ o. closed (resume c.args.machine.now.levels c.args.machine.now.context o)) (h (1 + t)),
     )
