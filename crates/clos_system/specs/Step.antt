@@ -22,7 +22,6 @@ use Rattle.clos_eval.specs.declared.condition.ConditionKind.TheVariants.{Program
 use Rattle.clos_eval.specs.declared.generic.Generic.{Generic}
 use Rattle.clos_eval.specs.declared.generic.Method.{Method}
 use Rattle.clos_eval.specs.declared.generic.MethodIds.{MethodIds}
-use Rattle.clos_eval.specs.declared.machine.Task.TheVariants.{Plain}
 use Rattle.clos_system.specs.declared.served.Served.{Served}
 use Rattle.clos_system.specs.declared.served.Served.TheVariants.{DefineClass, DefineMethod, Expression}
 
