@@ -16,8 +16,8 @@ use crate::callee::{Callee, Output, callee_named};
 use crate::class::class_named;
 use crate::condition::{ConditionKind, Stop, about, about_name, plain};
 use crate::control::{
-    begin, call, clause_tested, compute, continue_within, follow, keep, next_argument, next_of_body,
-    next_variable, start,
+    begin, call, clause_tested, compute, continue_within, follow, keep, next_argument,
+    next_of_body, next_variable, start,
 };
 use crate::locals::Locals;
 use crate::machine::{Doing, Frame, Level, Levels, Machine, SystemCall, Task};
