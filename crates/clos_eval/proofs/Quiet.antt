@@ -7,6 +7,7 @@ use Rattle.lisp_data.specs.ValueView.{value_of}
 use Rattle.lisp_data.specs.Value as value
 use Rattle.lisp_prims.specs.Fault as prims
 use Rattle.lisp_prims.specs.Primitive.{answer}
+use Rattle.clos_syntax_core.specs.Operator.{Bound}
 use Rattle.clos_syntax_core.specs.Form.{Frms, nil, cons, parts_in}
 use Rattle.clos_eval.specs.Callee.{callee_of, only_value}
 use Rattle.clos_eval.specs.declared.callee.Callee.{Callee}
@@ -16,7 +17,7 @@ use Rattle.clos_eval.specs.declared.machine.Control.{Control}
 use Rattle.clos_eval.specs.declared.machine.Control.TheVariants.{Progn, Prog1, If, When, Unless, And, Or}
 use Rattle.clos_eval.specs.Generic.{function_named, ordered}
 use Rattle.clos_eval.specs.World.{State, Local, unbound, lists_of}
-use Rattle.clos_eval.specs.Meaning.{Out, Gave, Stopped, Run, Eval, then_do, step_then, closed, restoring, stopped, meaning, made, designated, collect, called, called_function, called_generic, applied, answered, output_of, line_ended, instance_made, is_true, while_true, until_true, followed, branch, keeping, clauses, clause, tested, sequence, known, dispatched, allocated}
+use Rattle.clos_eval.specs.Meaning.{Out, Gave, Stopped, Run, Eval, then_do, step_then, closed, restoring, inner, leaving, init_form, in_order, stopped, meaning, made, designated, collect, called, called_function, called_generic, applied, answered, output_of, line_ended, instance_made, is_true, while_true, until_true, followed, branch, keeping, clauses, clause, tested, sequence, known, dispatched, allocated}
 use Rattle.clos_eval.specs.Machine.{at, below, passed, resume, leaves, denote}
 use Rattle.clos_eval.specs.declared.arguments.Context.{Context}
 use Rattle.clos_eval.specs.declared.condition.Condition.{Condition}
@@ -24,7 +25,7 @@ use Rattle.clos_eval.specs.declared.condition.ConditionKind.TheVariants.{StepLim
 use Rattle.clos_eval.specs.declared.generic.Generic.{Generic}
 use Rattle.clos_eval.specs.declared.machine.Doing.TheVariants.{Start, Apply}
 use Rattle.clos_eval.specs.declared.machine.Frame.{Frame}
-use Rattle.clos_eval.specs.declared.machine.Frame.TheVariants.{Rest, Keep, Clause, Collect, Body, Known, Passing}
+use Rattle.clos_eval.specs.declared.machine.Frame.TheVariants.{Rest, Keep, Clause, Collect, Body, Scope, InOrder, Known, Passing}
 use Rattle.clos_eval.specs.declared.machine.Level.{Level}
 use Rattle.clos_eval.specs.declared.machine.Machine.{Machine}
 use Rattle.clos_eval.specs.declared.machine.Task.{Task}
@@ -131,6 +132,20 @@ tested_quiet : (n : ℕ) (env : Context) (fs cs : Frms) (v : Val) (w : State) �
 tested_quiet n env fs cs v w =
     choice_quiet (is_true v) (sequence (meaning n) env fs v w 0) (clauses (meaning n) env cs w 0) w (sequence_quiet n env fs v w) (clauses_quiet n env cs w)
 
+left_quiet : (m : ℕ) (o : Out) (w : State) → leaves (closed o) (unbound w) 0 → leaves (closed (then_do o (leaving m))) (unbound w) 0
+left_quiet m (Gave v u k) w h = h
+left_quiet m (Stopped c u k) w h = h
+
+init_quiet : (n : ℕ) (env : Context) (fs : Frms) (go : Frms → Val → Run) (w : State) → leaves (closed (init_form (meaning n) env fs go w 0)) (unbound w) 0
+init_quiet n env nil go w = (refl, refl)
+init_quiet n env (cons f fs) go w = then_quiet n env (Plain f) (λ v. go fs v) w
+
+order_quiet : (n : ℕ) (env : Context) (m : ℕ) (bs : List Bound) (fs : Frms) (w : State) → leaves (closed (in_order (meaning n) env m bs fs w 0)) (unbound w) 0
+order_quiet n env m [] fs w = left_quiet m (sequence (meaning n) env fs (value.list value.nil) w 0) w (sequence_quiet n env fs (value.list value.nil) w)
+order_quiet n env m (b ∷ bs) fs w =
+    choice_quiet b.has_init (init_form (meaning n) env fs (λ rest v u k. in_order (meaning n) env m bs rest (inner b.name v u) k) w 0) _ w
+    (init_quiet n env fs (λ rest v u k. in_order (meaning n) env m bs rest (inner b.name v u) k) w) (order_quiet n env m bs fs (inner b.name (value.list value.nil) w))
+
 restored_quiet : (l : List Local) (o : Out) (w : State) → leaves (closed o) (unbound w) 0 → leaves (closed (then_do o (restoring l))) (unbound w) 0
 restored_quiet l (Gave v u k) w h = h
 restored_quiet l (Stopped c u k) w h = h
@@ -141,6 +156,8 @@ given_quiet n env (Keep fs u) v w = keeping_quiet n env fs (value_of u) w
 given_quiet n env (Clause fs cs) v w = tested_quiet n env fs cs v w
 given_quiet n env (Collect name rest values) v w = collect_quiet n env rest (values ++ v ∷ []) name w
 given_quiet n env (Body rest saved locals) v w = restored_quiet locals (sequence (meaning n) env rest v w 0) w (sequence_quiet n env rest v w)
+given_quiet n env (Scope outer rest) v w = left_quiet outer (sequence (meaning n) env rest v w 0) w (sequence_quiet n env rest v w)
+given_quiet n env (InOrder outer name plan forms) v w = order_quiet n env outer plan forms (inner name v w)
 given_quiet n env (Known saved) v w = (refl, refl)
 given_quiet n env Passing v w = (refl, refl)
 
@@ -150,6 +167,8 @@ stop_quiet n env (Keep fs v) c u k w h = h
 stop_quiet n env (Clause fs cs) c u k w h = h
 stop_quiet n env (Collect name rest values) c u k w h = h
 stop_quiet n env (Body rest saved locals) c u k w h = h
+stop_quiet n env (Scope outer rest) c u k w h = h
+stop_quiet n env (InOrder outer name plan forms) c u k w h = h
 stop_quiet n env (Known saved) c u k w h = h
 stop_quiet n env Passing c u k w h = h
 

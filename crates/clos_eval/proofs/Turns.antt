@@ -2,15 +2,16 @@
 use Rattle.std.proofs.Common.{◌≡◌, ℕ, arith, Result, Ok, Err, List, [], ◌∷◌, Option, Some, None, refl, ap, sym, ◌∙◌}
 use Rattle.clos_eval.specs.World.{State, unbound}
 use Rattle.clos_syntax_core.specs.Form.{Frms, nil, cons}
-use Rattle.clos_eval.specs.Meaning.{Eval, Stopped, meaning, closed, method_run, sequence, while_true, until_true, going}
+use Rattle.clos_eval.specs.Meaning.{Run, Eval, Stopped, meaning, closed, method_run, sequence, while_true, until_true, going}
 use Rattle.clos_eval.specs.declared.machine.Control.TheVariants.{Progn, And, Or}
-use Rattle.clos_eval.specs.Machine.{at, below, passed, resume, inside, Grows}
+use Rattle.clos_eval.specs.Machine.{at, below, passed, resume, inside, Grows, Leads}
 use Rattle.clos_eval.specs.declared.condition.Stop.{Stop}
+use Rattle.clos_eval.specs.declared.condition.Stop.TheVariants.{Refused, Storage}
 use Rattle.clos_eval.specs.declared.machine.Doing.{Doing}
 use Rattle.clos_eval.specs.declared.arguments.Context.{Context}
 use Rattle.clos_eval.specs.declared.condition.Condition.{Condition}
 use Rattle.clos_eval.specs.declared.machine.Frame.{Frame}
-use Rattle.clos_eval.specs.declared.machine.Frame.TheVariants.{Rest, Keep, Clause, Collect, Body, Known, Passing}
+use Rattle.clos_eval.specs.declared.machine.Frame.TheVariants.{Rest, Keep, Clause, Collect, Body, Scope, InOrder, Known, Passing}
 use Rattle.clos_eval.specs.declared.machine.Level.{Level}
 use Rattle.clos_eval.specs.declared.machine.Machine.{Machine}
 use Rattle.clos_eval.specs.declared.generic.Method.{Method}
@@ -24,6 +25,8 @@ passed_stopped ev env (Keep fs v) c w s = refl
 passed_stopped ev env (Clause fs cs) c w s = refl
 passed_stopped ev env (Collect n fs vs) c w s = refl
 passed_stopped ev env (Body fs saved locals) c w s = refl
+passed_stopped ev env (Scope outer rest) c w s = refl
+passed_stopped ev env (InOrder outer name plan forms) c w s = refl
 passed_stopped ev env (Known saved) c w s = refl
 passed_stopped ev env Passing c w s = refl
 
@@ -56,3 +59,9 @@ going_and ev env (cons f fs) v w t = refl
 pub going_or : (ev : Eval) (env : Context) (fs : Frms) (v : Val) (w : State) (t : ℕ) → going ev env Or fs v w t ≡ until_true ev env fs v w t
 going_or ev env nil v w t = refl
 going_or ev env (cons f fs) v w t = refl
+
+-- a run that ends like another
+pub leads_same : (run run' : Run) (w : State) (r : Result Doing Stop) (m : Machine) → ((t : ℕ) → run w t ≡ run' w t) → Leads run w r m → Leads run' w r m
+leads_same run run' w (Ok d) m e h = λ t. h t ∙ e t
+leads_same run run' w (Err (Refused c)) m e h = λ t. sym (e t) ∙ h t
+leads_same run run' w (Err Storage) m e h = tt

@@ -1,11 +1,13 @@
 -- What a state of the machine stands for: the rest of the definition.
-use Rattle.std.specs.Prelude.{◌≡◌, ℕ, suc, ◌+◌, ◌*◌, ◌≤◌, List, [], ◌∷◌, ◌++◌, Result, Ok, Err, length}
+use Rattle.std.specs.Prelude.{◌≡◌, ℕ, suc, ◌+◌, ◌*◌, ◌≤◌, List, [], ◌∷◌, ◌++◌, Result, Ok, Err, Option, Some, None, length, true}
+use Rattle.lisp_data.specs.Name.{Nam}
+use Rattle.clos_syntax_core.specs.Operator.{Bound}
 use Rattle.lisp_data.specs.Value.{Val}
 use Rattle.lisp_data.specs.ValueView.{value_of}
 use Rattle.lisp_data.specs.declared.ids.ClassId.{ClassId}
 use Rattle.lisp_data.specs.declared.value.Value.{Value}
 use Rattle.clos_eval.specs.World.{State, bound_as, unbound}
-use Rattle.clos_eval.specs.Meaning.{Out, Gave, Stopped, Run, Eval, then_do, step_then, closed, restoring, followed, keeping, tested, clauses, collect, called, sequence, meaning}
+use Rattle.clos_eval.specs.Meaning.{Out, Gave, Stopped, Run, Eval, then_do, step_then, closed, restoring, inner, leaving, in_order, followed, keeping, tested, clauses, collect, called, sequence, meaning}
 use Rattle.clos_eval.specs.declared.arguments.Context.{Context}
 use Rattle.clos_eval.specs.declared.condition.Condition.{Condition}
 use Rattle.clos_eval.specs.declared.condition.Stop.{Stop}
@@ -13,9 +15,14 @@ use Rattle.clos_eval.specs.declared.condition.Stop.TheVariants.{Refused, Storage
 use Rattle.clos_eval.specs.declared.machine.Doing.{Doing}
 use Rattle.clos_eval.specs.declared.machine.Doing.TheVariants.{Start, Apply, Give}
 use Rattle.clos_eval.specs.declared.machine.Frame.{Frame}
-use Rattle.clos_eval.specs.declared.machine.Frame.TheVariants.{Rest, Keep, Clause, Collect, Body, Known, Passing}
+use Rattle.clos_eval.specs.declared.machine.Frame.TheVariants.{Rest, Keep, Clause, Collect, Body, Scope, InOrder, Known, Passing}
 use Rattle.clos_eval.specs.declared.machine.Level.{Level}
 use Rattle.clos_eval.specs.declared.machine.Machine.{Machine}
+
+-- these variables, after one of this name that has an init form
+abbrev pub with_next : Option Nam → List Bound → List Bound
+with_next None bs = []
+with_next (Some name) bs = (record { name = name; has_init = true }) ∷ bs
 
 -- the context under a frame
 abbrev pub below : Context → Frame → Context
@@ -24,6 +31,8 @@ below env (Keep fs v) = env
 below env (Clause fs cs) = env
 below env (Collect name rest values) = env
 below env (Body rest saved locals) = saved
+below env (Scope outer rest) = env
+below env (InOrder outer name plan forms) = env
 below env (Known saved) = saved
 below env Passing = env
 
@@ -34,6 +43,8 @@ passed ev env (Keep fs v) o = then_do o (λ u. keeping ev env fs (value_of v))
 passed ev env (Clause fs cs) o = then_do o (λ v. tested ev env fs (clauses ev env cs) v)
 passed ev env (Collect name rest values) o = then_do o (λ v. collect ev env rest (values ++ v ∷ []) (called ev env name))
 passed ev env (Body rest saved locals) o = then_do (then_do o (λ v. sequence ev env rest v)) (restoring locals)
+passed ev env (Scope outer rest) o = then_do (then_do o (λ v. sequence ev env rest v)) (leaving outer)
+passed ev env (InOrder outer name plan forms) o = then_do o (λ v u k. in_order ev env outer plan forms (inner name v u) k)
 passed ev env (Known saved) o = o
 passed ev env Passing o = o
 

@@ -7,7 +7,7 @@ use Rattle.lisp_prims.specs.Fault as prims
 use Rattle.lisp_prims.specs.Primitive.{answer, truth}
 use Rattle.clos_syntax_core.specs.Form.{Frm, Frms, operator_in, parts_in}
 use Rattle.clos_syntax_core.specs.Form as form
-use Rattle.clos_syntax_core.specs.Operator.{Opr}
+use Rattle.clos_syntax_core.specs.Operator.{Opr, Bound}
 use Rattle.clos_syntax_core.specs.Quotation.{name_value}
 use Rattle.clos_syntax_core.specs.Operator as of
 use Rattle.clos_eval.specs.Callee.{callee_of, only_value}
@@ -16,7 +16,7 @@ use Rattle.clos_eval.specs.Class.{named}
 use Rattle.clos_eval.specs.declared.class.Class as declared
 use Rattle.clos_eval.specs.Generic.{function_named, ordered}
 use Rattle.clos_eval.specs.Condition.{nil_name, condition_of}
-use Rattle.clos_eval.specs.World.{State, Local, bound_as, unbound, local_named, bound_to, names_of, lists_of}
+use Rattle.clos_eval.specs.World.{State, Local, bound_as, unbound, local_named, outermost, bound_to, names_of, lists_of}
 use Rattle.clos_eval.specs.declared.arguments.Context.{Context}
 use Rattle.clos_eval.specs.declared.callee.Callee.{Callee}
 use Rattle.clos_eval.specs.declared.callee.Callee.TheVariants.{Output, Terpri, Primitive, MakeInstance, Defined}
@@ -167,6 +167,28 @@ combined ev env (call_method m ns) w s = method_run ev env.arguments (slice_get 
 combined ev env (progn e) w s = ev env (Effect e) w s
 combined ev env (prog1 e) w s = ev env (Effect e) w s
 
+-- ---- variables bound one by one (5.3 `let*`)
+
+-- one more variable, within the others
+abbrev pub inner : Nam → Val → State → State
+inner name v w = bound_as ((name, v) ∷ w.locals) w
+
+-- this value, with so many of the outermost variables left
+abbrev pub leaving : ℕ → Val → Run
+leaving n v w s = Gave v (bound_as (outermost n w.locals) w) s
+
+-- Each variable has the value of its init form, the next of the forms, or NIL where it has none; then the body. The
+-- grammar gives a form to each variable that has one.
+abbrev pub init_form : Eval → Context → Frms → (Frms → Val → Run) → Run
+init_form ev env form.nil go w s = stopped ProgramError [] w s
+init_form ev env (form.cons f fs) go w s = then_do (ev env (Plain f) w s) (λ v. go fs v)
+
+abbrev pub in_order : Eval → Context → ℕ → List Bound → Frms → Run
+in_order ev env n [] fs w s = then_do (sequence ev env fs (list nil) w s) (leaving n)
+in_order ev env n (b ∷ bs) fs w s =
+    if b.has_init then init_form ev env fs (λ rest v u k. in_order ev env n bs rest (inner b.name v u) k) w s
+    else in_order ev env n bs fs (inner b.name (list nil) w) s
+
 -- ---- object creation (7.1)
 
 -- a class of which there can be instances
@@ -259,7 +281,7 @@ operated ev env of.or_form ps w s = going ev env Or ps (list nil) w s
 operated ev env of.progn ps w s = going ev env Progn ps (list nil) w s
 operated ev env of.prog1 ps w s = going ev env Prog1 ps (list nil) w s
 operated ev env (of.let_form bs) ps w s = stopped Unsupported [] w s
-operated ev env (of.let_in_order bs) ps w s = stopped Unsupported [] w s
+operated ev env (of.let_in_order bs) ps w s = in_order ev env (length w.locals) bs ps w s
 operated ev env (of.setq ns) ps w s = stopped Unsupported [] w s
 operated ev env of.setf ps w s = stopped Unsupported [] w s
 operated ev env of.incf ps w s = stopped Unsupported [] w s

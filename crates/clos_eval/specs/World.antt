@@ -1,5 +1,5 @@
 -- The state of a session (HyperSpec 3.1.1, 4.3, 7.6): lists that only grow at their ends.
-use Rattle.std.specs.Prelude.{ℕ, ◌-◌, ◌==◌, List, [], ◌∷◌, ◌||◌, nat_le, Option, Some, None, map, option_map, unwrap_or, slice_get, if◌then◌else◌}
+use Rattle.std.specs.Prelude.{ℕ, ◌-◌, ◌==◌, List, [], ◌∷◌, ◌||◌, nat_le, Option, Some, None, map, reverse, take, option_map, unwrap_or, slice_get, if◌then◌else◌}
 use Rattle.lisp_data.specs.Name.{Nam, same_name}
 use Rattle.lisp_data.specs.Value.{Val, integer, symbol, string, list, class, generic, method, instance, nil, cons}
 use Rattle.lisp_data.specs.Print.{Names, MethodParts, by_symbol, on_class}
@@ -47,6 +47,10 @@ unbound w = bound_as [] w
 abbrev pub local_named : List Local → Nam → Option Val
 local_named [] name = None
 local_named (l ∷ ls) name = if same_name l.0 name then Some l.1 else local_named ls name
+
+-- so many of the outermost variables
+abbrev pub outermost : ℕ → List Local → List Local
+outermost n ls = reverse (take n (reverse ls))
 
 -- these names bound to the values in turn, from left to right, within these
 abbrev pub bound_to : List Nam → List Val → List Local → List Local

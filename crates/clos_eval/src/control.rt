@@ -5,18 +5,18 @@ ghost use Rattle.lisp_data.specs.ValueView.{value_of};
 ghost use Rattle.lisp_prims.specs.Primitive.{answer};
 ghost use Rattle.clos_syntax_core.specs.OperatorView.{operator_of};
 ghost use Rattle.clos_eval.specs.World.{State, seen, bound_as, local_named};
-ghost use Rattle.clos_eval.specs.Meaning.{Run, Gave, known, meaning, begun, body, operated, going, followed, branch, while_true, until_true, keeping, clauses, clause, tested, combined, system, collect, called, called_function, called_generic, answered, method_run, sequence, restoring, scoped, then_do, variable_value, dispatched};
+ghost use Rattle.clos_eval.specs.Meaning.{Run, Gave, known, meaning, begun, body, operated, going, followed, branch, while_true, until_true, keeping, clauses, clause, tested, combined, system, collect, called, called_function, called_generic, answered, method_run, sequence, restoring, scoped, inner, leaving, in_order, then_do, variable_value, dispatched};
 ghost use Rattle.clos_eval.specs.Generic.{function_named, ordered};
 ghost use Rattle.clos_eval.specs.World.{lists_of};
 ghost use Rattle.clos_eval.specs.declared.machine.Task.TheVariants.{Plain};
 ghost use Rattle.clos_eval.specs.declared.machine.Frame.TheVariants.{Body, Collect};
-ghost use Rattle.clos_eval.specs.Machine.{Leads, Grows, at, inside, denote, resume, below, passed, given_to};
+ghost use Rattle.clos_eval.specs.Machine.{Leads, Grows, at, with_next, inside, denote, resume, below, passed, given_to};
 
 use crate::arguments::{Arguments, Context, Values};
 use crate::condition::{ConditionKind, Stop, about_call, about_name, of_function, plain};
 use crate::effective::{EffectiveForm, EffectiveNode, combined};
 use crate::generic::{Generic, Method, generic_named, method_numbered, ordered_methods};
-use crate::locals::{Locals, bind};
+use crate::locals::{Locals, Plan, bind, skip};
 use crate::machine::{Control, Doing, Frame, Level, Machine, SystemCall, Task};
 use crate::truth::{is_true, nil, t};
 use crate::world::World;
@@ -137,7 +137,11 @@ fn operate(
         Operator::Function(_) => Err(Stop::Refused(plain(alloc, ConditionKind::Unsupported))),
         Operator::Clause => Err(Stop::Refused(plain(alloc, ConditionKind::Unsupported))),
         Operator::Let(_) => Err(Stop::Refused(plain(alloc, ConditionKind::Unsupported))),
-        Operator::LetInOrder(_) => Err(Stop::Refused(plain(alloc, ConditionKind::Unsupported))),
+        Operator::LetInOrder(bindings) => {
+            let plan = Plan::new(alloc, bindings.as_slice())?;
+            let outer = machine.locals.len();
+            bind_in_order(alloc, machine, outer, plan, parts)
+        }
         Operator::Setq(_) => Err(Stop::Refused(plain(alloc, ConditionKind::Unsupported))),
         Operator::Setf => Err(Stop::Refused(plain(alloc, ConditionKind::Unsupported))),
         Operator::Incf => Err(Stop::Refused(plain(alloc, ConditionKind::Unsupported))),
@@ -519,6 +523,105 @@ fn run_scoped(
             enter_body(machine, context, locals, first, rest)
         }
     }
+}
+
+/// The forms of a body, within variables that are gone after it.
+fn run_within(machine: &mut Machine, outer: usize, forms: &Forms) -> Result<Doing, Stop>
+    ensures leads { (run : Run) (w : State)
+        → ((t : ℕ) → then_do (sequence (meaning machine.old.room) machine.old.context forms.now (list nil) (at machine.old w) t) (leaving outer) ≡ run (at machine.old w) t)
+        → Leads (inside machine.old run) w result machine.new }
+    ensures small { Grows 2 machine.old.levels result machine.new }
+{
+    continue_within(machine, outer, forms, nil())
+}
+
+/// The rest of such a body follows the value of one of its forms.
+pub fn continue_within(
+    machine: &mut Machine,
+    outer: usize,
+    forms: &Forms,
+    value: Value,
+) -> Result<Doing, Stop>
+    ensures leads { (run : Run) (w : State)
+        → ((t : ℕ) → then_do (sequence (meaning machine.old.room) machine.old.context forms.now (value_of value) (at machine.old w) t) (leaving outer) ≡ run (at machine.old w) t)
+        → Leads (inside machine.old run) w result machine.new }
+    ensures small { Grows 2 machine.old.levels result machine.new }
+{
+    match forms.split_first() {
+        None => {
+            machine.locals.leave(outer);
+            Ok(Doing::Give(value))
+        }
+        Some((first, others)) => {
+            let next = Task::Plain(first.copy()?);
+            let rest = others.copy()?;
+            begin(machine, next, Frame::Scope(outer, rest))
+        }
+    }
+}
+
+/// Variables are bound one by one; then the body.
+fn bind_in_order(
+    alloc: Global,
+    machine: &mut Machine,
+    outer: usize,
+    mut plan: Plan,
+    forms: &Forms,
+) -> Result<Doing, Stop>
+    ensures leads { (run : Run) (w : State)
+        → ((t : ℕ) → in_order (meaning machine.old.room) machine.old.context outer plan forms.now (at machine.old w) t ≡ run (at machine.old w) t)
+        → Leads (inside machine.old run) w result machine.new }
+    ensures small { Grows 2 machine.old.levels result machine.new }
+{
+    let next = skip(&mut machine.locals, &mut plan)?;
+    bind_next(alloc, machine, outer, next, plan, forms)
+}
+
+/// The init form of the variable of this name, or the body.
+#[tactic(auto, using(crate::proofs::Turns::stopped_through))]
+fn bind_next(
+    alloc: Global,
+    machine: &mut Machine,
+    outer: usize,
+    next: Option<Name>,
+    plan: Plan,
+    forms: &Forms,
+) -> Result<Doing, Stop>
+    ensures leads { (run : Run) (w : State)
+        → ((t : ℕ) → in_order (meaning machine.old.room) machine.old.context outer (with_next next plan) forms.now (at machine.old w) t ≡ run (at machine.old w) t)
+        → Leads (inside machine.old run) w result machine.new }
+    ensures small { Grows 2 machine.old.levels result machine.new }
+{
+    match next {
+        None => run_within(machine, outer, forms),
+        Some(name) => match forms.split_first() {
+            None => Err(Stop::Refused(plain(alloc, ConditionKind::ProgramError))),
+            Some((first, others)) => {
+                let init = Task::Plain(first.copy()?);
+                let rest = others.copy()?;
+                begin(machine, init, Frame::InOrder(outer, name, plan, rest))
+            }
+        },
+    }
+}
+
+/// The value of a variable is there.
+pub fn next_variable(
+    alloc: Global,
+    machine: &mut Machine,
+    outer: usize,
+    name: Name,
+    plan: Plan,
+    forms: &Forms,
+    value: Value,
+) -> Result<Doing, Stop>
+    ensures leads { (run : Run) (w : State)
+        → ((t : ℕ) → in_order (meaning machine.old.room) machine.old.context outer plan forms.now (inner name (value_of value) (at machine.old w)) t ≡ run (at machine.old w) t)
+        → Leads (inside machine.old run) w result machine.new }
+    ensures small { Grows 2 machine.old.levels result machine.new }
+{
+    machine.locals.push(name, value)?;
+    bind_in_order(alloc, machine, outer, plan, forms)
 }
 
 /// The effective form of a system generic function begins.

@@ -16,7 +16,8 @@ use crate::callee::{Callee, Output, callee_named};
 use crate::class::class_named;
 use crate::condition::{ConditionKind, Stop, about, about_name, plain};
 use crate::control::{
-    begin, call, clause_tested, compute, follow, keep, next_argument, next_of_body, start,
+    begin, call, clause_tested, compute, continue_within, follow, keep, next_argument,
+    next_of_body, next_variable, start,
 };
 use crate::locals::Locals;
 use crate::machine::{Doing, Frame, Level, Levels, Machine, SystemCall, Task};
@@ -254,7 +255,13 @@ fn apply(
 }
 
 /// A frame goes on with the value that it waited for.
-fn give(machine: &mut Machine, world: &World, frame: Frame, value: Value) -> Result<Doing, Stop>
+fn give(
+    alloc: Global,
+    machine: &mut Machine,
+    world: &World,
+    frame: Frame,
+    value: Value,
+) -> Result<Doing, Stop>
     ensures leads { Leads (given_to machine.old frame (value_of value)) (seen world.now) result machine.new }
     ensures small { Grows 3 machine.old.levels result machine.new }
 {
@@ -266,6 +273,10 @@ fn give(machine: &mut Machine, world: &World, frame: Frame, value: Value) -> Res
         Frame::Body(rest, saved, outer) => {
             next_of_body(machine, world, &rest, saved, outer, value)
         },
+        Frame::Scope(outer, rest) => continue_within(machine, outer, &rest, value),
+        Frame::InOrder(outer, name, plan, rest) => {
+            next_variable(alloc, machine, outer, name, plan, &rest, value)
+        }
         Frame::Known(saved) => {
             machine.context = saved;
             Ok(Doing::Give(value))
@@ -352,7 +363,7 @@ pub fn evaluate(
                 Some(level) => {
                     let Level { frame, room } = level;
                     machine.room = room;
-                    match give(&mut machine, world, frame, value) {
+                    match give(alloc, &mut machine, world, frame, value) {
                         Ok(next) => doing = next,
                         Err(stop) => return Err(stop),
                     }

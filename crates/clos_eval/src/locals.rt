@@ -1,8 +1,15 @@
 //! The lexical variables of the body that runs (HyperSpec 3.1.2.1.1).
-ghost use Rattle.std.specs.Prelude.{◌≡◌, ◌∷◌, [], IfOk, OnOk, map, option_map};
+ghost use Rattle.std.specs.Prelude.{◌≡◌, ◌∷◌, [], ℕ, IfOk, OnOk, MatchOption, map, option_map, length};
 ghost use Rattle.lisp_data.specs.ValueView.{value_of};
-ghost use Rattle.clos_eval.specs.World.{local_named, bound_to};
+ghost use Rattle.clos_eval.specs.World.{State, local_named, outermost, bound_as, bound_to};
+ghost use Rattle.clos_syntax_core.specs.BoundView.{bound};
+ghost use Rattle.clos_syntax_core.specs.Form.{Frms};
+ghost use Rattle.clos_eval.specs.Meaning.{Eval, in_order};
+ghost use Rattle.clos_eval.specs.Machine.{with_next};
+ghost use Rattle.clos_eval.specs.declared.arguments.Context.{Context};
 
+use crate::truth::nil;
+use clos_syntax_core::Binding;
 use lisp_data::{Name, Value};
 use std::alloc::{AllocError, Global};
 use std::marker::Model;
@@ -53,6 +60,22 @@ impl Locals {
         Ok(())
     }
 
+    /// How many they are.
+    #[tactic(auto, using(crate::proofs::Lists::as_many))]
+    pub fn len(&self) -> usize
+        ensures { result ≡ length self.now }
+    {
+        self.locals.len()
+    }
+
+    /// Leaves so many of the outermost.
+    #[tactic(auto, using(crate::proofs::Lists::outermost_of_map))]
+    pub fn leave(&mut self, outer: usize)
+        ensures { self.new ≡ outermost outer self.old }
+    {
+        self.locals.truncate(outer);
+    }
+
     /// The value of the innermost variable of this name.
     pub fn get(&self, name: &Name) -> Option<&Value>
         ensures { option_map (λ v. value_of v.now) result ≡ local_named self.now name.now }
@@ -85,4 +108,73 @@ pub fn bind(alloc: Global, names: &[Name], values: &[Value]) -> Result<Locals, A
         values_left = other_values;
     }
     Ok(locals)
+}
+
+/// The variables that are still to be bound, in order. Contracts see the list.
+#[derive(Drop)]
+pub struct Plan {
+    left: Vec<Binding>,
+}
+
+impl Model for Plan {
+    ghost use Rattle.std.specs.Prelude.{List, map, reverse};
+    ghost use Rattle.clos_syntax_core.specs.Operator.{Bound, bounds_code};
+
+    ghost Value = { List Bound };
+
+    ghost coded = { bounds_code };
+
+    ghost use Rattle.clos_syntax_core.specs.BoundView.{bound};
+
+    ghost view = { λ a. reverse (map bound a.left.items) };
+}
+
+impl Plan {
+    /// All of these variables.
+    #[tactic(auto, using(crate::proofs::Lists::last_mapped))]
+    pub fn new(alloc: Global, bindings: &[Binding]) -> Result<Plan, AllocError>
+        ensures { IfOk result (λ r. r ≡ map bound bindings.now) }
+    {
+        let mut plan = Plan {
+            left: Vec::new(alloc),
+        };
+        let mut rest = bindings;
+        while let Some((last, before)) = rest.split_last() {
+            let name = last.name.copy()?;
+            let has_init = last.has_init;
+            plan.push(Binding { name, has_init })?;
+            rest = before;
+        }
+        Ok(plan)
+    }
+
+    /// One more variable, before the others.
+    fn push(&mut self, binding: Binding) -> Result<(), AllocError>
+        ensures { OnOk result (self.new ≡ bound binding ∷ self.old) }
+    {
+        self.left.push(binding)?;
+        Ok(())
+    }
+
+    /// Takes off the first.
+    fn pop(&mut self) -> Option<Binding>
+        ensures { MatchOption result ((self.old ≡ []) × (self.new ≡ [])) (λ b. self.old ≡ bound b ∷ self.new) }
+    {
+        self.left.pop()
+    }
+}
+
+/// Binds the next variables that have no init form to NIL. The name of the first that has one is taken off.
+pub fn skip(locals: &mut Locals, plan: &mut Plan) -> Result<Option<Name>, AllocError>
+    ensures { IfOk result (λ r. (ev : Eval) (env : Context) (n : ℕ) (fs : Frms) (w : State) (t : ℕ)
+        → in_order ev env n (with_next r plan.new) fs (bound_as locals.new w) t ≡ in_order ev env n plan.old fs (bound_as locals.old w) t) }
+{
+    while let Some(binding) = plan.pop() {
+        let Binding { name, has_init } = binding;
+        if has_init {
+            return Ok(Some(name));
+        }
+        locals.push(name, nil())?;
+    }
+    Ok(None)
 }

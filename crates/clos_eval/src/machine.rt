@@ -3,7 +3,7 @@ ghost use Rattle.std.specs.Prelude.{◌≡◌, ◌∷◌, [], ℕ, ◌<◌, ◌�
 
 use crate::arguments::{Arguments, Context, Values};
 use crate::effective::EffectiveForm;
-use crate::locals::Locals;
+use crate::locals::{Locals, Plan};
 use clos_syntax_core::{Form, Forms};
 use lisp_data::{InstanceId, Name, Value};
 use std::alloc::{AllocError, Global};
@@ -70,6 +70,10 @@ pub enum Frame {
     Collect(Name, Forms, Values),
     /// The rest of a method's body follows; the context and the variables go back to the caller's.
     Body(Forms, Context, Locals),
+    /// The rest of a body follows; of the variables only so many of the outermost stay.
+    Scope(usize, Forms),
+    /// It is the value of the variable of this name, before these variables, with the forms left for them and the body.
+    InOrder(usize, Name, Plan, Forms),
     /// The context goes back to the caller's.
     Known(Context),
     /// Nothing.

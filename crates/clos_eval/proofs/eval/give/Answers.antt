@@ -3,7 +3,7 @@ use Rattle.lisp_data.specs.ValueView.{value_of}
 use Rattle.clos_eval.specs.World.{seen}
 use Rattle.clos_eval.specs.Meaning.{Gave, meaning}
 use Rattle.clos_eval.specs.Machine.{Leads, given_to, passed}
-use Rattle.clos_eval.specs.declared.machine.Frame.TheVariants.{Rest, Keep, Clause, Collect}
+use Rattle.clos_eval.specs.declared.machine.Frame.TheVariants.{Rest, Keep, Clause, Collect, Scope, InOrder}
 use Rattle.clos_eval.proofs.eval.give.Goals as goal
 
 pub returns-in-Rest-clause-leads : goal.returns-in-Rest-clause-leads
@@ -31,3 +31,17 @@ returns-in-Collect-clause-leads c =
     (sym c.in-Collect.is)
     (c.next_argument.ensures.leads (λ u k. passed (meaning c.args.machine.now.room) c.args.machine.now.context
     (Collect c.in-Collect.name c.in-Collect.rest c.in-Collect.values) (Gave (value_of c.args.value) u k)) (seen c.args.world.now) (λ t. refl))
+
+pub returns-in-Scope-clause-leads : goal.returns-in-Scope-clause-leads
+returns-in-Scope-clause-leads c =
+    subst (λ f. Leads (given_to c.args.machine.now f (value_of c.args.value)) (seen c.args.world.now) c.continue_within.result c.continue_within.new.machine)
+    (sym c.in-Scope.is)
+    (c.continue_within.ensures.leads (λ u k. passed (meaning c.args.machine.now.room) c.args.machine.now.context (Scope c.in-Scope.outer c.in-Scope.rest)
+    (Gave (value_of c.args.value) u k)) (seen c.args.world.now) (λ t. refl))
+
+pub returns-in-InOrder-clause-leads : goal.returns-in-InOrder-clause-leads
+returns-in-InOrder-clause-leads c =
+    subst (λ f. Leads (given_to c.args.machine.now f (value_of c.args.value)) (seen c.args.world.now) c.next_variable.result c.next_variable.new.machine)
+    (sym c.in-InOrder.is)
+    (c.next_variable.ensures.leads (λ u k. passed (meaning c.args.machine.now.room) c.args.machine.now.context
+    (InOrder c.in-InOrder.outer c.in-InOrder.name c.in-InOrder.plan c.in-InOrder.rest) (Gave (value_of c.args.value) u k)) (seen c.args.world.now) (λ t. refl))
