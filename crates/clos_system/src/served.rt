@@ -246,7 +246,7 @@ fn serves(operator: &Operator, parts: &Forms) -> bool
         Operator::Call(name) => calls(name, parts),
         Operator::Function(_) => false,
         Operator::Let(_) => false,
-        Operator::LetInOrder(_) => false,
+        Operator::LetInOrder(_) => true,
         Operator::Setq(_) => false,
         Operator::Setf => false,
         Operator::Incf => false,

@@ -318,6 +318,48 @@ fn forms_one_after_another(rt: HostRuntime) -> Result<(), Fail> {
 }
 
 #[test]
+fn variables(rt: HostRuntime) -> Result<(), Fail> {
+    let alloc = rt.alloc();
+    for (text, output) in [
+        (
+            "(princ (let* ((a 1) (b (+ a 1)) c (d)) (list a b c d)))",
+            "(1 2 NIL NIL)",
+        ),
+        ("(princ (let* ((a 1) (a (+ a 1))) a))", "2"),
+        ("(princ (let* () 1 2)) (princ (let* ((a 1))))", "2NIL"),
+        (
+            "(defmethod f (x) (let* ((x (+ x 1)) (y x)) (princ (list x y))) (princ x)) (f 1)",
+            "(2 2)1",
+        ),
+        (
+            "(defmethod g (y) (+ y 1)) (defmethod f (x) (let* ((y (g x))) (g y) (princ (list x y)))) (f 1)",
+            "(1 2)",
+        ),
+        ("(princ (let* ((a 1)) (let* ((b 2)) (princ b)) a))", "21"),
+    ] {
+        writes(&rt, alloc, Limits::default(), text, output, 0)?;
+    }
+    for text in [
+        "(progn (let* ((x 1)) x) x)",
+        "(let* ((y x) (x 1)) y)",
+        "(defmethod g () x) (defmethod f (x) (g)) (f 1)",
+        "(defmethod g () x) (let* ((x 1)) (g))",
+    ] {
+        writes(
+            &rt,
+            alloc,
+            Limits::default(),
+            text,
+            "; 2 (UNBOUND-VARIABLE X)\n",
+            1,
+        )?;
+    }
+    let bound = "(let* ((a 1) b) (princ a))";
+    writes(&rt, alloc, with_steps(5), bound, "1", 0)?;
+    writes(&rt, alloc, with_steps(4), bound, "; 29 (STEP-LIMIT)\n", 1)
+}
+
+#[test]
 fn functions_of_the_language(rt: HostRuntime) -> Result<(), Fail> {
     let alloc = rt.alloc();
     for (text, output) in [
