@@ -3,6 +3,7 @@ pub mod Callee
 pub mod Class
 pub mod Generic
 pub mod Effective
+pub mod EffectiveCode
 pub mod EffectiveView
 pub mod ParametersView
 pub mod Condition

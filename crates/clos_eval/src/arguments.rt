@@ -17,7 +17,8 @@ pub struct Values {
 impl Model for Values {
     ghost use Rattle.std.specs.Prelude.{List, map};
     ghost use Rattle.std.specs.Coded.{coded_list};
-    ghost use Rattle.lisp_data.specs.Value.{Val, value_code};
+    ghost use Rattle.lisp_data.specs.Value.{Val};
+    ghost use Rattle.lisp_data.specs.ValueCode.{value_code};
 
     ghost Value = { List Val };
 
@@ -81,7 +82,8 @@ pub struct Arguments {
 impl Model for Arguments {
     ghost use Rattle.std.specs.Prelude.{List};
     ghost use Rattle.std.specs.Coded.{coded_list};
-    ghost use Rattle.lisp_data.specs.Value.{Val, value_code};
+    ghost use Rattle.lisp_data.specs.Value.{Val};
+    ghost use Rattle.lisp_data.specs.ValueCode.{value_code};
 
     ghost Value = { List Val };
 

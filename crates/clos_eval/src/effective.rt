@@ -28,7 +28,8 @@ pub enum EffectiveNode {
 }
 
 impl Model for EffectiveForm {
-    ghost use Rattle.clos_eval.specs.Effective.{Effective, effective_code, size_of_effective};
+    ghost use Rattle.clos_eval.specs.Effective.{Effective, size_of_effective};
+    ghost use Rattle.clos_eval.specs.EffectiveCode.{effective_code};
 
     ghost Value = { Effective };
 

@@ -77,7 +77,8 @@ pub struct Parameters {
 impl Model for Parameters {
     ghost use Rattle.std.specs.Prelude.{List};
     ghost use Rattle.std.specs.Coded.{coded_list};
-    ghost use Rattle.lisp_data.specs.Name.{Nam, name_code};
+    ghost use Rattle.lisp_data.specs.Name.{Nam};
+    ghost use Rattle.lisp_data.specs.NameCode.{name_code};
 
     ghost Value = { List Nam };
 

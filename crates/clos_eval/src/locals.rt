@@ -30,8 +30,10 @@ pub struct Locals {
 impl Model for Locals {
     ghost use Rattle.std.specs.Prelude.{List, map, reverse};
     ghost use Rattle.std.specs.Coded.{coded_list, coded×};
-    ghost use Rattle.lisp_data.specs.Name.{Nam, name_code};
-    ghost use Rattle.lisp_data.specs.Value.{Val, value_code};
+    ghost use Rattle.lisp_data.specs.Name.{Nam};
+    ghost use Rattle.lisp_data.specs.NameCode.{name_code};
+    ghost use Rattle.lisp_data.specs.Value.{Val};
+    ghost use Rattle.lisp_data.specs.ValueCode.{value_code};
 
     ghost Value = { List (Nam × Val) };
 
@@ -118,7 +120,8 @@ pub struct Plan {
 
 impl Model for Plan {
     ghost use Rattle.std.specs.Prelude.{List, map, reverse};
-    ghost use Rattle.clos_syntax_core.specs.Operator.{Bound, bounds_code};
+    ghost use Rattle.clos_syntax_core.specs.Operator.{Bound};
+    ghost use Rattle.clos_syntax_core.specs.OperatorCode.{bounds_code};
 
     ghost Value = { List Bound };
 

@@ -1,11 +1,10 @@
 -- Each method that is read has a specializer for each required parameter.
-use Rattle.std.proofs.Common.{◌≡◌, Bool, true, false, List, ◌∷◌, All, Option, Some, None, Result, Ok, Err, length, refl, ap, sym, ◌∙◌, arith, rules}
-use Rattle.std.specs.Prelude.{IfSome, IfOk, codes, if◌then◌else◌}
-use Rattle.std.proofs.lemmas.List.Elements.{All-nil, All-cons}
-use Rattle.std.proofs.lemmas.Option.{none-some}
+use Rattle.std.proofs.Common.{◌≡◌, List, All, Option, Some, None, length, refl, ap, sym, ◌∙◌}
+use Rattle.std.specs.Prelude.{IfSome, ⊤, codes, if◌then◌else◌}
 use Rattle.lisp_data.specs.Name.{Nam}
 use Rattle.lisp_data.specs.Datum.{Dat, integer, symbol, string, list, dotted, method, Dats, nil, cons, length_of}
-use Rattle.clos_syntax_core.specs.Binding.{each, are_distinct}
+use Rattle.clos_syntax_core.specs.Binding.{each}
+use Rattle.clos_syntax_core.specs.Distinct.{are_distinct}
 use Rattle.clos_syntax_core.specs.Fault.{◌>>=◌, Gives}
 use Rattle.clos_syntax_core.specs.Form.{Frms}
 use Rattle.clos_syntax_core.specs.Grammar.{body_forms_of}
@@ -36,40 +35,7 @@ use Rattle.clos_syntax.specs.declared.method.MethodDefinition.{MethodDefinition}
 use Rattle.clos_syntax.specs.declared.method.ParameterSpecializer.{ParameterSpecializer}
 use Rattle.clos_syntax.specs.declared.top.Top.{Top}
 use Rattle.clos_syntax.specs.declared.top.Top.TheVariants.{DefClass, DefGeneric, DefMethod, Defun, DefVar, RemoveMethod, AddDependent, RemoveDependent, InPackage, Expr}
-use Rattle.clos_syntax.specs.declared.variable.Definer.TheVariants.{DefVar as a_defvar, DefParameter as a_defparameter}
-
--- ---- what holds of a value that may be there
-
-passes : {A B : Type 0} (P : B → Type 0) (o : Option A) (k : A → Option B) → ((a : A) → IfSome (k a) P) → IfSome (o >>= k) P
-passes P (Some a) k h = h a
-passes P None k h = tt
-
-keeps : {A B : Type 0} (Q : A → Type 0) (P : B → Type 0) (o : Option A) (k : A → Option B) → IfSome o Q → ((a : A) → Q a → IfSome (k a) P) → IfSome (o >>= k) P
-keeps Q P (Some a) k q h = h a q
-keeps Q P None k q h = tt
-
-follows : {A : Type 0} (Q P : A → Type 0) (o : Option A) → IfSome o Q → ((a : A) → Q a → P a) → IfSome o P
-follows Q P (Some a) q h = h a q
-follows Q P None q h = tt
-
-either : {A : Type 0} (P : A → Type 0) (b : Bool) (x y : Option A) → IfSome x P → IfSome y P → IfSome (if b then x else y) P
-either P true x y p q = p
-either P false x y p q = q
-
--- ---- lists
-
-one_for_each : {A : Type 0} (f : Dat → Option A) (l : Dats) → IfSome (each f l) (λ xs. length xs ≡ length_of l)
-one_for_each f nil = refl
-one_for_each f (cons d l) =
-    passes (λ xs. length xs ≡ length_of (cons d l)) (f d) (λ x. each f l >>= λ xs. Some (x ∷ xs))
-    (λ x. keeps (λ xs. length xs ≡ length_of l) (λ xs. length xs ≡ length_of (cons d l)) (each f l) (λ xs. Some (x ∷ xs)) (one_for_each f l)
-    (λ xs q. omega (arith, q)))
-
-all_of_each : {A : Type 0} (P : A → Type 0) (f : Dat → Option A) (h : (d : Dat) → IfSome (f d) P) (l : Dats) → IfSome (each f l) (All P)
-all_of_each P f h nil = All-nil P
-all_of_each P f h (cons d l) =
-    keeps P (All P) (f d) (λ x. each f l >>= λ xs. Some (x ∷ xs)) (h d)
-    (λ x p. keeps (All P) (All P) (each f l) (λ xs. Some (x ∷ xs)) (all_of_each P f h l) (λ xs ps. All-cons P x xs p ps))
+use Rattle.clos_syntax.proofs.WhereGiven.{passes, keeps, follows, either, one_for_each, all_of_each, Cases}
 
 -- ---- lambda lists keep their required parameters
 
@@ -185,76 +151,20 @@ defmethod_law (cons name l) =
     (λ n. keeps IsSpecialized AreSpecialized (method_in l) (λ m. Some (DefMethod n m)) (method_law l) (λ m p. p))
 
 -- without methods
-none_in : {A : Type 0} (o : Option A) (top : A → Top) (h : (a : A) → AreSpecialized (top a)) → IfSome (o >>= λ a. Some (top a)) AreSpecialized
-none_in o top h = passes AreSpecialized o (λ a. Some (top a)) h
+nothing : {A : Type 0} (o : Option A) → IfSome o (λ a. ⊤)
+nothing (Some a) = tt
+nothing None = tt
 
-expression_law : (d : Dat) → IfSome (expression d) AreSpecialized
-expression_law d = none_in (form_in d) Expr (λ f. tt)
-
-of_five : (a b c d : Bool) (u v w x y : Option Top) → IfSome u AreSpecialized → IfSome v AreSpecialized → IfSome w AreSpecialized → IfSome x AreSpecialized → IfSome y AreSpecialized → IfSome (if a then u else if b then v else if c then w else if d then x else y) AreSpecialized
-of_five true b c d u v w x y hu hv hw hx hy = hu
-of_five false true c d u v w x y hu hv hw hx hy = hv
-of_five false false true d u v w x y hu hv hw hx hy = hw
-of_five false false false true u v w x y hu hv hw hx hy = hx
-of_five false false false false u v w x y hu hv hw hx hy = hy
-
-other_law : (name : Nam) (l : Dats) (d : Dat) → IfSome (other_top name l d) AreSpecialized
-other_law name l d =
-    of_five (is_called (codes "REMOVE-METHOD") name) (is_called (codes "ADD-DEPENDENT") name) (is_called (codes "REMOVE-DEPENDENT") name)
-    (is_called (codes "IN-PACKAGE") name) (two_forms_in l >>= λ p. Some (RemoveMethod p.0 p.1)) (two_forms_in l >>= λ p. Some (AddDependent p.0 p.1))
-    (two_forms_in l >>= λ p. Some (RemoveDependent p.0 p.1)) (in_package l) (expression d)
-    (none_in (two_forms_in l) (λ p. RemoveMethod p.0 p.1) (λ p. tt)) (none_in (two_forms_in l) (λ p. AddDependent p.0 p.1) (λ p. tt))
-    (none_in (two_forms_in l) (λ p. RemoveDependent p.0 p.1) (λ p. tt)) (none_in (only_in l) (λ x. InPackage) (λ x. tt)) (expression_law d)
-
--- the definitions after those of methods
-abbrev past_methods : Nam → Dats → Dat → Option Top
-past_methods name l d =
-    if is_called (codes "DEFUN") name then (function_in l >>= λ f. Some (Defun f))
-    else if is_called (codes "DEFVAR") name then (variable_definition_in a_defvar l >>= λ v. Some (DefVar v))
-    else if is_called (codes "DEFPARAMETER") name then (variable_definition_in a_defparameter l >>= λ v. Some (DefVar v))
-    else other_top name l d
-
-past_methods_law : (name : Nam) (l : Dats) (d : Dat) → IfSome (past_methods name l d) AreSpecialized
-past_methods_law name l d =
-    of_five (is_called (codes "DEFUN") name) (is_called (codes "DEFVAR") name) (is_called (codes "DEFPARAMETER") name) true
-    (function_in l >>= λ f. Some (Defun f)) (variable_definition_in a_defvar l >>= λ v. Some (DefVar v))
-    (variable_definition_in a_defparameter l >>= λ v. Some (DefVar v)) (other_top name l d) None
-    (none_in (function_in l) Defun (λ f. tt)) (none_in (variable_definition_in a_defvar l) DefVar (λ v. tt))
-    (none_in (variable_definition_in a_defparameter l) DefVar (λ v. tt)) (other_law name l d) tt
-
-named_law : (name : Nam) (l : Dats) (d : Dat) → IfSome (named_top name l d) AreSpecialized
-named_law name l d =
-    of_five (is_called (codes "DEFCLASS") name) (is_called (codes "DEFGENERIC") name) (is_called (codes "DEFMETHOD") name) true
-    (class_in l >>= λ c. Some (DefClass c)) (generic_in l >>= λ g. Some (DefGeneric g)) (defmethod_in l) (past_methods name l d) None
-    (none_in (class_in l) DefClass (λ c. tt))
-    (keeps OfGeneric AreSpecialized (generic_in l) (λ g. Some (DefGeneric g)) (generic_law l) (λ g ps. ps)) (defmethod_law l)
-    (past_methods_law name l d) tt
-
-headed_law : (head : Dat) (l : Dats) (d : Dat) → IfSome (headed_top head l d) AreSpecialized
-headed_law (integer n) l d = expression_law d
-headed_law (symbol name) l d = named_law name l d
-headed_law (string s) l d = expression_law d
-headed_law (list m) l d = expression_law d
-headed_law (dotted m e) l d = expression_law d
-headed_law (method n) l d = expression_law d
-
-listed_law : (l : Dats) (d : Dat) → IfSome (listed_top l d) AreSpecialized
-listed_law nil d = expression_law d
-listed_law (cons head l) d = headed_law head l d
-
-any_law : (d : Dat) → IfSome (any_top d) AreSpecialized
-any_law (integer n) = expression_law (integer n)
-any_law (symbol name) = expression_law (symbol name)
-any_law (string s) = expression_law (string s)
-any_law (list l) = listed_law l (list l)
-any_law (dotted l d) = expression_law (dotted l d)
-any_law (method n) = expression_law (method n)
-
-so_of : (o : Option Top) (t : Top) → o ≡ Some t → IfSome o AreSpecialized → AreSpecialized t
-so_of (Some u) t e h = let k : u ≡ t = search (rules, e) in rw (sym k) h
-so_of None t e h = absurd (none-some t e)
-
--- what is given is so
-pub given_so : (r : Result Top SyntaxFault) (d : Dat) → Gives (λ t. t) r (any_top d) → IfOk r AreSpecialized
-given_so (Ok t) d e = so_of (any_top d) t e (any_law d)
-given_so (Err f) d e = tt
+pub specialized_cases : Cases AreSpecialized
+specialized_cases = record {
+  class = λ l. nothing (class_in l);
+  generic = generic_law;
+  defmethod = defmethod_law;
+  function = λ l. nothing (function_in l);
+  variable = λ definer l. nothing (variable_definition_in definer l);
+  removal = λ l. nothing (two_forms_in l);
+  addition = λ l. nothing (two_forms_in l);
+  dismissal = λ l. nothing (two_forms_in l);
+  in_package = tt;
+  form = λ d. nothing (form_in d);
+}

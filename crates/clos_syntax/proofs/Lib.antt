@@ -1,2 +1,4 @@
 pub mod Lists
+pub mod WhereGiven
 pub mod Laws
+pub mod WellFormed

@@ -2,7 +2,8 @@
 use Rattle.std.specs.Prelude.{ℕ, List, [], ◌∷◌, ◌||◌, codes, Option, Some, None, if◌then◌else◌}
 use Rattle.lisp_data.specs.Name.{Nam}
 use Rattle.lisp_data.specs.Datum.{Dat, Dats, nil, cons}
-use Rattle.clos_syntax_core.specs.Binding.{each, are_distinct}
+use Rattle.clos_syntax_core.specs.Binding.{each}
+use Rattle.clos_syntax_core.specs.Distinct.{are_distinct}
 use Rattle.clos_syntax_core.specs.Fault.{◌>>=◌}
 use Rattle.clos_syntax_core.specs.FunctionName.{symbol_in}
 use Rattle.clos_syntax_core.specs.Names.{is_one_of}

@@ -1,9 +1,9 @@
 -- Generic functions (HyperSpec 7.7 defgeneric).
-use Rattle.std.specs.Prelude.{List, [], ◌∷◌, Bool, true, ◌||◌, ◌&&◌, codes, Option, Some, None, if◌then◌else◌}
-use Rattle.std.specs.List.{list_any}
-use Rattle.lisp_data.specs.Name.{Nam, same_name}
+use Rattle.std.specs.Prelude.{List, Bool, true, ◌||◌, ◌&&◌, codes, Option, Some, None, if◌then◌else◌}
+use Rattle.lisp_data.specs.Name.{Nam}
 use Rattle.lisp_data.specs.Datum.{Dat, Dats, nil, cons}
-use Rattle.clos_syntax_core.specs.Binding.{each, are_distinct}
+use Rattle.clos_syntax_core.specs.Binding.{each}
+use Rattle.clos_syntax_core.specs.Distinct.{are_among, are_distinct}
 use Rattle.clos_syntax_core.specs.Body.{is_declaration}
 use Rattle.clos_syntax_core.specs.Fault.{◌>>=◌}
 use Rattle.clos_syntax_core.specs.FunctionName.{symbol_in}
@@ -50,11 +50,6 @@ generic_options_in l =
     >>= λ methods. Some (record { precedence = precedence; combination = combination; methods = methods })
 
 -- ---- the order of the arguments
-
--- whether each of these names is one of those
-abbrev pub are_among : List Nam → List Nam → Bool
-are_among [] ms = true
-are_among (n ∷ ns) ms = list_any (λ m. same_name m n) ms && are_among ns ms
 
 -- each required parameter exactly once
 abbrev pub orders : List Nam → List Nam → Bool

@@ -3,7 +3,8 @@ use Rattle.std.specs.Prelude.{List, [], ◌∷◌, ◌++◌, Bool, true, false, 
 use Rattle.std.specs.List.{list_any}
 use Rattle.lisp_data.specs.Name.{Nam}
 use Rattle.lisp_data.specs.Datum.{Dat, integer, symbol, string, list, dotted, method, Dats, nil, cons}
-use Rattle.clos_syntax_core.specs.Binding.{each, are_distinct}
+use Rattle.clos_syntax_core.specs.Binding.{each}
+use Rattle.clos_syntax_core.specs.Distinct.{are_distinct}
 use Rattle.clos_syntax_core.specs.Fault.{◌>>=◌}
 use Rattle.clos_syntax_core.specs.FunctionName.{symbol_in, variable_in}
 use Rattle.clos_syntax_core.specs.Grammar.{form_of}

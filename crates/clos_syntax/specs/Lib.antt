@@ -11,3 +11,4 @@ pub mod Class
 pub mod Generic
 pub mod Top
 pub mod Laws
+pub mod WellFormed

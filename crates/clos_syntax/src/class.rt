@@ -115,7 +115,7 @@ fn parse_superclasses(alloc: Global, datum: &Datum) -> Result<Sequence<Name>, Sy
 {
     let elements = parse_list(datum)?;
     let names = parse_each::<Symbols>(alloc, &elements)?;
-    if !are_distinct(names.as_slice()) {
+    if !are_distinct(alloc, names.as_slice())? {
         return Err(SyntaxFault::Program);
     }
     Ok(names)
@@ -138,7 +138,7 @@ fn parse_slots(alloc: Global, datum: &Datum) -> Result<Sequence<SlotSpecifier>, 
     let elements = parse_list(datum)?;
     let slots = parse_each::<Slots>(alloc, &elements)?;
     let names = slot_names(alloc, slots.as_slice())?;
-    if !are_distinct(&names) {
+    if !are_distinct(alloc, &names)? {
         return Err(SyntaxFault::Program);
     }
     Ok(slots)
@@ -208,7 +208,7 @@ fn parse_defaults(alloc: Global, option: &Datum) -> Result<Sequence<DefaultInita
         Some(arguments) => {
             let defaults = parse_defaults_from(alloc, arguments)?;
             let names = default_names(alloc, defaults.as_slice())?;
-            if !are_distinct(&names) {
+            if !are_distinct(alloc, &names)? {
                 return Err(SyntaxFault::Program);
             }
             Ok(defaults)

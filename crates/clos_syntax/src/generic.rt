@@ -1,9 +1,9 @@
 //! Generic functions (HyperSpec 7.7 `defgeneric`).
-ghost use Rattle.std.specs.Prelude.{◌≡◌};
+ghost use Rattle.std.specs.Prelude.{◌≡◌, IfOk};
 ghost use Rattle.std.specs.Option.{option_copied};
 ghost use Rattle.lisp_data.specs.DatumView.{datum_of};
 ghost use Rattle.clos_syntax_core.specs.Fault.{Gives};
-ghost use Rattle.clos_syntax.specs.Generic.{are_among, combination_in, combination_with, fits, generic_in, generic_option_in, generic_options_in, generic_with, method_option_in, orders, symbols_in};
+ghost use Rattle.clos_syntax.specs.Generic.{combination_in, combination_with, fits, generic_in, generic_option_in, generic_options_in, generic_with, method_option_in, orders, symbols_in};
 
 use crate::class::DocumentationOptions;
 use crate::function_name::parse_new_function;
@@ -12,9 +12,9 @@ use crate::lambda_list::{LambdaList, parse_generic_lambda_list};
 use crate::method::{MethodDefinition, parse_method};
 use crate::property::{arguments, is_option};
 use crate::sequence::Sequence;
-use clos_syntax_core::{FunctionName, SyntaxFault, are_distinct, has_name, is_declaration};
+use clos_syntax_core::{FunctionName, SyntaxFault, are_among, are_distinct, is_declaration};
 use lisp_data::{Data, Datum, Name};
-use std::alloc::Global;
+use std::alloc::{AllocError, Global};
 
 /// The method combination of a generic function, and what it is given (HyperSpec 7.6.6.4).
 #[derive(Drop)]
@@ -165,33 +165,25 @@ fn parse_generic_options(alloc: Global, options: &Data) -> Result<GenericOptions
     })
 }
 
-/// Whether each of these names is one of those.
-fn are_among(names: &[Name], others: &[Name]) -> bool
-    ensures { result ≡ are_among names.now others.now }
-{
-    let mut rest = names;
-    while let Some((first, more)) = rest.split_first() {
-        if !has_name(others, first) {
-            return false;
-        }
-        rest = more;
-    }
-    true
-}
-
 /// Whether these are the required parameters, each exactly once.
-fn orders(required: &[Name], names: &[Name]) -> bool
-    ensures { result ≡ orders required.now names.now }
+fn orders(alloc: Global, required: &[Name], names: &[Name]) -> Result<bool, AllocError>
+    ensures { IfOk result (λ r. r ≡ orders required.now names.now) }
 {
-    are_distinct(names) && are_among(names, required) && are_among(required, names)
+    Ok(are_distinct(alloc, names)?
+        && are_among(alloc, names, required)?
+        && are_among(alloc, required, names)?)
 }
 
-fn fits(required: &[Name], precedence: &Option<Sequence<Name>>) -> bool
-    ensures { result ≡ fits required.now precedence.now }
+fn fits(
+    alloc: Global,
+    required: &[Name],
+    precedence: &Option<Sequence<Name>>,
+) -> Result<bool, AllocError>
+    ensures { IfOk result (λ r. r ≡ fits required.now precedence.now) }
 {
     match precedence {
-        None => true,
-        Some(names) => orders(required, names.as_slice()),
+        None => Ok(true),
+        Some(names) => orders(alloc, required, names.as_slice()),
     }
 }
 
@@ -222,7 +214,7 @@ fn parse_generic_with(
     let name = parse_new_function(name)?;
     let lambda_list = parse_generic_lambda_list(alloc, parameters)?;
     let options = parse_generic_options(alloc, options)?;
-    if !fits(lambda_list.required.as_slice(), &options.precedence) {
+    if !fits(alloc, lambda_list.required.as_slice(), &options.precedence)? {
         return Err(SyntaxFault::Program);
     }
     let GenericOptions {

@@ -398,7 +398,7 @@ fn if_distinct(alloc: Global, list: LambdaList) -> Result<LambdaList, SyntaxFaul
     ensures { Gives (λ l. l) result (if_distinct list) }
 {
     let names = all_variables(alloc, &list)?;
-    if !are_distinct(&names) {
+    if !are_distinct(alloc, &names)? {
         return Err(SyntaxFault::Program);
     }
     Ok(list)

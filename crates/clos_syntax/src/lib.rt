@@ -25,6 +25,3 @@ pub use sequence::Sequence;
 pub use slot::{Accessor, Allocation, SlotSpecifier};
 pub use top::{Top, parse_top};
 pub use variable::{Definer, VariableDefinition};
-
-#[cfg(test)]
-mod tests;

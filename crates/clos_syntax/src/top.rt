@@ -4,6 +4,7 @@ ghost use Rattle.lisp_data.specs.DatumView.{datum_of};
 ghost use Rattle.clos_syntax_core.specs.Fault.{Gives};
 ghost use Rattle.clos_syntax.specs.Laws.{AreSpecialized};
 ghost use Rattle.clos_syntax.specs.Top.{any_has_method, any_top, defmethod_in, expression, has_method, headed_top, in_package, named_top, other_top, top_of, two_forms_in};
+ghost use Rattle.clos_syntax.specs.WellFormed.{AreWellFormed};
 
 use crate::class::{ClassDefinition, parse_class};
 use crate::function::{FunctionDefinition, parse_function};
@@ -179,10 +180,12 @@ fn parse_any(alloc: Global, datum: &Datum) -> Result<Top, SyntaxFault>
     }
 }
 
-/// The checked form of a datum. Each method in it has one specializer for each required parameter.
+/// The checked form of a datum. Each method in it has one specializer for each required parameter, and each form is well
+/// formed.
 pub fn parse_top(alloc: Global, datum: &Datum) -> Result<Top, SyntaxFault>
     ensures form { Gives (λ t. t) result (top_of (datum_of datum.now)) }
     ensures specialized { IfOk result AreSpecialized }
+    ensures well_formed { IfOk result AreWellFormed }
 {
     if mentions_method(datum) {
         return Err(SyntaxFault::Program);

@@ -1,4 +1,6 @@
 pub mod Lists
+pub mod NamesBehind
 pub mod Parts
 pub mod Quoting
 pub mod Room
+pub mod WellFormed

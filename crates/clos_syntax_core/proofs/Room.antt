@@ -3,8 +3,9 @@ use Rattle.std.proofs.Common.{◌≡◌, ◌≤◌, ◌<◌, ℕ, zero, suc, Boo
 use Rattle.std.specs.Prelude.{⊤, nat_le, ◌==◌, ◌&&◌, ◌||◌, if◌then◌else◌, codes}
 use Rattle.lisp_data.specs.Name.{Nam}
 use Rattle.lisp_data.specs.Datum.{Dat, integer, symbol, string, list, dotted, method, Dats, nil, cons, length_of, nesting_of, nesting_in}
-use Rattle.clos_syntax_core.specs.Binding.{Entry, Counter, each, each_in, are_distinct, names_of, bounds_of, inits_of, binding_in, entry, let_with, let_shape, let_in_order_shape, assignments_in, counter_in, counted, dotimes_with, dotimes_shape}
+use Rattle.clos_syntax_core.specs.Binding.{Entry, Counter, each, each_in, names_of, bounds_of, inits_of, binding_in, entry, let_with, let_shape, let_in_order_shape, assignments_in, counter_in, counted, dotimes_with, dotimes_shape}
 use Rattle.clos_syntax_core.specs.Body.{body_of, body_parts, or_alone, is_declaration, is_string}
+use Rattle.clos_syntax_core.specs.Distinct.{are_distinct}
 use Rattle.clos_syntax_core.specs.Fault.{◌>>=◌}
 use Rattle.clos_syntax_core.specs.Form.{Frm, form, Frms, cons as more, nil as none}
 use Rattle.clos_syntax_core.specs.FunctionName.{symbol_in, variable_in, unless_constant, function_named}

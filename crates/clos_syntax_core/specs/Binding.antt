@@ -1,9 +1,9 @@
 -- The variables of let, let*, setq and dotimes (HyperSpec 5.3, 6.2).
-use Rattle.std.specs.Prelude.{List, [], ◌∷◌, ◌++◌, Bool, true, not, ◌&&◌, Option, Some, None, is_some, codes, if◌then◌else◌}
-use Rattle.std.specs.List.{list_any}
-use Rattle.lisp_data.specs.Name.{Nam, same_name}
+use Rattle.std.specs.Prelude.{List, [], ◌∷◌, ◌++◌, Bool, Option, Some, None, is_some, codes, if◌then◌else◌}
+use Rattle.lisp_data.specs.Name.{Nam}
 use Rattle.lisp_data.specs.Datum.{Dat, integer, symbol, string, list, dotted, method, Dats, nil, cons}
 use Rattle.clos_syntax_core.specs.Body.{body_parts}
+use Rattle.clos_syntax_core.specs.Distinct.{are_distinct}
 use Rattle.clos_syntax_core.specs.Fault.{◌>>=◌}
 use Rattle.clos_syntax_core.specs.FunctionName.{variable_in, unless_constant}
 use Rattle.clos_syntax_core.specs.Names.{is_called}
@@ -24,11 +24,6 @@ each_in f (string s) = None
 each_in f (list l) = each f l
 each_in f (dotted l d) = None
 each_in f (method n) = None
-
--- whether no name stands twice
-abbrev pub are_distinct : List Nam → Bool
-are_distinct [] = true
-are_distinct (n ∷ ns) = not (list_any (λ m. same_name m n) ns) && are_distinct ns
 
 -- a variable, and the datum of its value, where there is one
 pub record Entry : Type 0 where

@@ -1,9 +1,11 @@
 pub mod Names
 pub mod Special
 pub mod Operator
+pub mod OperatorCode
 pub mod BoundView
 pub mod OperatorView
 pub mod Form
+pub mod FormCode
 pub mod FormView
 pub mod Fault
 pub mod Part
@@ -11,10 +13,12 @@ pub mod PartView
 pub mod FunctionName
 pub mod Quotation
 pub mod Body
+pub mod Distinct
 pub mod Binding
 pub mod BindingView
 pub mod Slots
 pub mod Place
 pub mod Shape
 pub mod Grammar
+pub mod WellFormed
 pub mod Room

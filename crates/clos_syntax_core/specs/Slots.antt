@@ -2,8 +2,9 @@
 use Rattle.std.specs.Prelude.{List, [], ◌∷◌, Option, Some, None, if◌then◌else◌}
 use Rattle.lisp_data.specs.Name.{Nam}
 use Rattle.lisp_data.specs.Datum.{Dat, integer, symbol, string, list, dotted, method, Dats, nil, cons}
-use Rattle.clos_syntax_core.specs.Binding.{each_in, are_distinct}
+use Rattle.clos_syntax_core.specs.Binding.{each_in}
 use Rattle.clos_syntax_core.specs.Body.{body_parts}
+use Rattle.clos_syntax_core.specs.Distinct.{are_distinct}
 use Rattle.clos_syntax_core.specs.Fault.{◌>>=◌}
 use Rattle.clos_syntax_core.specs.FunctionName.{only_symbol_in, variable_in, unless_constant}
 use Rattle.clos_syntax_core.specs.Operator.{BoundSlot, with_slots}

@@ -1,9 +1,7 @@
 //! The variables of `let`, `let*`, `setq` and `dotimes` (HyperSpec 5.3, 6.2).
 ghost use Rattle.std.specs.Prelude.{◌≡◌, ◌++◌, OnOk, IfOk, map, option_map};
-ghost use Rattle.std.specs.List.{list_any};
 ghost use Rattle.lisp_data.specs.DatumView.{datum_of};
-ghost use Rattle.lisp_data.specs.Name.{same_name};
-ghost use Rattle.clos_syntax_core.specs.Binding.{are_distinct, assignments_in, binding_in, bound_by, bounds_of, counted, counter_in, dotimes_shape, dotimes_with, each, each_in, inits_of, let_in_order_shape, let_shape, let_with, listed_binding, listed_counter, names_of, setq_shape};
+ghost use Rattle.clos_syntax_core.specs.Binding.{assignments_in, binding_in, bound_by, bounds_of, counted, counter_in, dotimes_shape, dotimes_with, each, each_in, inits_of, let_in_order_shape, let_shape, let_with, listed_binding, listed_counter, names_of, setq_shape};
 ghost use Rattle.clos_syntax_core.specs.BindingView.{counter_of, entry_of};
 ghost use Rattle.clos_syntax_core.specs.Body.{body_parts};
 ghost use Rattle.clos_syntax_core.specs.BoundView.{bound};
@@ -12,6 +10,7 @@ ghost use Rattle.clos_syntax_core.specs.PartView.{part_of, shape_told};
 
 use crate::body::push_body;
 use crate::bound::{Binding, Bindings, Names};
+use crate::distinct::are_distinct;
 use crate::fault::SyntaxFault;
 use crate::function_name::{unless_constant, variable_name};
 use crate::names::is_the;
@@ -55,7 +54,7 @@ fn let_with<'a>(
     ensures { Gives shape_told result (let_with (map entry_of entries.now) body.now) }
 {
     let names = names_of(alloc, entries)?;
-    if !are_distinct(&names) {
+    if !are_distinct(alloc, &names)? {
         return Err(SyntaxFault::Program);
     }
     let operator = Operator::Let(bindings_of(alloc, entries)?);
@@ -191,26 +190,6 @@ fn push_inits<'a>(parts: &mut Vec<Part<'a>>, entries: &[Entry<'a>]) -> Result<()
         push_optional(parts, entry.init)?;
     }
     Ok(())
-}
-
-/// Whether no name stands twice.
-pub fn are_distinct(names: &[Name]) -> bool
-    ensures { result ≡ are_distinct names.now }
-{
-    let mut rest = names;
-    while let Some((first, others)) = rest.split_first() {
-        if has_name(others, first) {
-            return false;
-        }
-        rest = others;
-    }
-    true
-}
-
-pub fn has_name(names: &[Name], name: &Name) -> bool
-    ensures { result ≡ list_any (λ n. same_name n name.now) names.now }
-{
-    names.iter().any(|n| n.is(name))
 }
 
 pub(crate) fn setq_shape<'a>(alloc: Global, rest: &'a Data) -> Result<Shape<'a>, SyntaxFault>

@@ -41,7 +41,8 @@ pub struct SlotBindings {
 impl Model for Names {
     ghost use Rattle.std.specs.Prelude.{List};
     ghost use Rattle.std.specs.Coded.{coded_list};
-    ghost use Rattle.lisp_data.specs.Name.{Nam, name_code};
+    ghost use Rattle.lisp_data.specs.Name.{Nam};
+    ghost use Rattle.lisp_data.specs.NameCode.{name_code};
 
     ghost Value = { List Nam };
 
@@ -52,7 +53,8 @@ impl Model for Names {
 
 impl Model for Bindings {
     ghost use Rattle.std.specs.Prelude.{List, map};
-    ghost use Rattle.clos_syntax_core.specs.Operator.{Bound, bounds_code};
+    ghost use Rattle.clos_syntax_core.specs.Operator.{Bound};
+    ghost use Rattle.clos_syntax_core.specs.OperatorCode.{bounds_code};
 
     ghost Value = { List Bound };
 
@@ -65,7 +67,8 @@ impl Model for Bindings {
 
 impl Model for SlotBindings {
     ghost use Rattle.std.specs.Prelude.{List, map};
-    ghost use Rattle.clos_syntax_core.specs.Operator.{BoundSlot, bound_slots_code};
+    ghost use Rattle.clos_syntax_core.specs.Operator.{BoundSlot};
+    ghost use Rattle.clos_syntax_core.specs.OperatorCode.{bound_slots_code};
 
     ghost Value = { List BoundSlot };
 

@@ -44,7 +44,8 @@ struct Pair {
 }
 
 impl Model for Form {
-    ghost use Rattle.clos_syntax_core.specs.Form.{Frm, form_code, size_of_form};
+    ghost use Rattle.clos_syntax_core.specs.Form.{Frm, size_of_form};
+    ghost use Rattle.clos_syntax_core.specs.FormCode.{form_code};
 
     ghost Value = { Frm };
 
@@ -58,7 +59,8 @@ impl Model for Form {
 }
 
 impl Model for Forms {
-    ghost use Rattle.clos_syntax_core.specs.Form.{Frms, forms_code, size_of_forms};
+    ghost use Rattle.clos_syntax_core.specs.Form.{Frms, size_of_forms};
+    ghost use Rattle.clos_syntax_core.specs.FormCode.{forms_code};
 
     ghost Value = { Frms };
 

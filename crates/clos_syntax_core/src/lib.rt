@@ -4,6 +4,7 @@
 mod binding;
 mod body;
 pub mod bound;
+mod distinct;
 pub mod fault;
 pub mod form;
 pub mod function_name;
@@ -16,13 +17,11 @@ pub mod quotation;
 mod shape;
 mod slots;
 pub mod special;
-#[cfg(test)]
-mod tests;
 pub mod tree;
 
-pub use binding::{are_distinct, has_name};
 pub use body::{is_declaration, is_string};
 pub use bound::{Binding, Bindings, Names, SlotBinding, SlotBindings};
+pub use distinct::{are_among, are_distinct};
 pub use fault::SyntaxFault;
 pub use form::{Form, Forms};
 pub use function_name::{parse_function_name, symbol_name, variable_name};

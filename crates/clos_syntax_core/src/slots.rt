@@ -7,9 +7,9 @@ ghost use Rattle.clos_syntax_core.specs.Fault.{Gives};
 ghost use Rattle.clos_syntax_core.specs.PartView.{shape_told};
 ghost use Rattle.clos_syntax_core.specs.Slots.{listed_slot, slot_entry, slot_in, slots_with, variables_of, with_slots_shape};
 
-use crate::binding::are_distinct;
 use crate::body::push_body;
 use crate::bound::{SlotBinding, SlotBindings};
+use crate::distinct::are_distinct;
 use crate::fault::SyntaxFault;
 use crate::function_name::{only_symbol, unless_constant, variable_name};
 use crate::names::is_the;
@@ -42,7 +42,7 @@ fn slots_with<'a>(
     ensures { Gives shape_told result (slots_with (map bound_slot slots.items) (datum_of instance.now) body.now) }
 {
     let variables = variables_of(alloc, &slots)?;
-    if !are_distinct(&variables) {
+    if !are_distinct(alloc, &variables)? {
         return Err(SyntaxFault::Program);
     }
     let mut parts: Vec<Part<'a>> = Vec::new(alloc);

@@ -1,9 +1,10 @@
 //! The form that a datum is: its shape, with each part's form.
-ghost use Rattle.std.specs.Prelude.{◌≡◌, ℕ, map, IfOk};
+ghost use Rattle.std.specs.Prelude.{◌≡◌, ℕ, true, map, IfOk};
 ghost use Rattle.lisp_data.specs.DatumView.{datum_of};
 ghost use Rattle.clos_syntax_core.specs.Fault.{Gives};
 ghost use Rattle.clos_syntax_core.specs.Grammar.{body_forms_of, form_of, forms_of, tree_at, trees_at};
 ghost use Rattle.clos_syntax_core.specs.PartView.{part_of};
+ghost use Rattle.clos_syntax_core.specs.WellFormed.{are_well_formed, is_well_formed};
 
 use crate::body::push_body;
 use crate::fault::SyntaxFault;
@@ -18,7 +19,8 @@ const ROOM: u64 = MAX_NESTING + 1;
 
 /// The form that a datum is (HyperSpec 3.1.2.1).
 pub fn parse_form(alloc: Global, context: Context, datum: &Datum) -> Result<Form, SyntaxFault>
-    ensures { Gives (λ f. f) result (form_of context (datum_of datum.now)) }
+    ensures form { Gives (λ f. f) result (form_of context (datum_of datum.now)) }
+    ensures well_formed { IfOk result (λ f. is_well_formed context f ≡ true) }
 {
     let role = Role::Expression;
     tree_at(alloc, ROOM, context, Part { role, datum })
@@ -30,7 +32,8 @@ pub fn parse_forms<'a>(
     context: Context,
     elements: &'a Data,
 ) -> Result<Forms, SyntaxFault>
-    ensures { Gives (λ fs. fs) result (forms_of context elements.now) }
+    ensures forms { Gives (λ fs. fs) result (forms_of context elements.now) }
+    ensures well_formed { IfOk result (λ fs. are_well_formed context fs ≡ true) }
 {
     let mut parts: Vec<Part<'a>> = Vec::new(alloc);
     push_parts(&mut parts, Role::Expression, elements)?;
@@ -44,7 +47,8 @@ pub fn parse_body<'a>(
     context: Context,
     forms: &'a Data,
 ) -> Result<Forms, SyntaxFault>
-    ensures { Gives (λ fs. fs) result (body_forms_of context forms.now) }
+    ensures forms { Gives (λ fs. fs) result (body_forms_of context forms.now) }
+    ensures well_formed { IfOk result (λ fs. are_well_formed context fs ≡ true) }
 {
     let mut parts: Vec<Part<'a>> = Vec::new(alloc);
     push_body(&mut parts, forms)?;

@@ -1,9 +1,12 @@
 pub mod Limits
 pub mod Name
+pub mod NameCode
 pub mod NameView
 pub mod Value
+pub mod ValueCode
 pub mod ValueView
 pub mod Datum
+pub mod DatumCode
 pub mod DatumView
 pub mod Same
 pub mod Keys

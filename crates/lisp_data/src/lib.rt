@@ -9,8 +9,6 @@ pub mod limits;
 pub mod name;
 pub mod naming;
 pub mod print;
-#[cfg(test)]
-mod tests;
 pub mod text;
 pub mod value;
 

@@ -25,7 +25,8 @@ pub struct Name {
 }
 
 impl Model for Name {
-    ghost use Rattle.lisp_data.specs.Name.{Nam, name_code};
+    ghost use Rattle.lisp_data.specs.Name.{Nam};
+    ghost use Rattle.lisp_data.specs.NameCode.{name_code};
 
     ghost Value = { Nam };
 

@@ -80,7 +80,8 @@ struct Pair {
 
 impl Model for Items {
     ghost use Rattle.std.specs.Prelude.{◌≡◌};
-    ghost use Rattle.lisp_data.specs.Value.{Vals, values_code, size_of_values, length_of, nesting_in, IsWithinLimits};
+    ghost use Rattle.lisp_data.specs.Value.{Vals, size_of_values, length_of, nesting_in, IsWithinLimits};
+    ghost use Rattle.lisp_data.specs.ValueCode.{values_code};
 
     ghost Value = { Vals };
 
