@@ -8,10 +8,9 @@ mod settings;
 mod tests;
 
 use clap::error::ErrorKind;
-use clos_system::{Limits, Session};
+use clos_system::Session;
 use program::{Fault, STATUS_DONE, STATUS_FAULT, STATUS_USAGE, report};
 use settings::Settings;
-use std::alloc::Global;
 use std::io::{self, BufWriter};
 use std::process::ExitCode;
 
@@ -21,19 +20,10 @@ fn fail(rt: &HostRuntime, fault: Fault<'_>) -> u8 {
     STATUS_FAULT
 }
 
-fn session_of(alloc: Global, settings: &Settings<'_>) -> Option<Session> {
-    let limits = Limits {
-        steps: settings.steps,
-        depth: settings.depth,
-        ..Limits::default()
-    };
-    Session::new(alloc, limits).ok()
-}
-
 /// Runs what the settings ask for over the process's own input and outputs.
 fn run_settings(rt: &HostRuntime, settings: &Settings<'_>) -> u8 {
     let alloc = rt.alloc();
-    let Some(mut session) = session_of(alloc, settings) else {
+    let Ok(mut session) = Session::new(alloc, program::limits(settings)) else {
         return fail(rt, Fault::Memory);
     };
     let Ok(mut output) = BufWriter::new(alloc, io::writer(rt)) else {

@@ -1,8 +1,12 @@
 //! Running files, one after the other, and what the program says of a fault.
-ghost use Rattle.std.specs.Prelude.{◌≡◌, ◌⊎◌};
+ghost use Rattle.std.specs.Prelude.{◌≡◌, ◌⊎◌, [], IfOk, IfErr, MatchResult};
+ghost use Rattle.std.specs.Io.KnownBytes.{Keeps};
+ghost use Rattle.clos_eval.specs.Limits.{standard};
+ghost use Rattle.clos_system.specs.Session.{state_of};
+ghost use Rattle.clos.specs.Program.{Failed, Ran, RunsInput, fault_status, status_of};
 
 use crate::settings::Settings;
-use clos_system::{RunFault, Session, run};
+use clos_system::{Limits, RunFault, Session, run};
 use lisp_reader::ReadFault;
 use std::alloc::Global;
 use std::fmt;
@@ -82,6 +86,17 @@ pub fn report<E: Write>(errors: &mut E, fault: Fault<'_>) {
     let _ = writeln!(errors, "clos: {fault}");
 }
 
+/// The limits that the settings ask for; the others are those of `Limits`.
+pub fn limits(settings: &Settings<'_>) -> Limits
+    ensures { result ≡ record standard { steps = settings.now.steps; depth = settings.now.depth } }
+{
+    Limits {
+        steps: settings.steps,
+        depth: settings.depth,
+        ..Limits::default()
+    }
+}
+
 /// Runs one text, and says whether a condition or storage line was written.
 fn run_text<'a, I: Read, O: Write>(
     alloc: Global,
@@ -90,7 +105,10 @@ fn run_text<'a, I: Read, O: Write>(
     input: &mut I,
     output: &mut O,
     echo: bool,
-) -> Result<bool, Fault<'a>> {
+) -> Result<bool, Fault<'a>>
+    ensures finishes { IfOk result (Ran echo (I.remaining input.old) (state_of session.old) (state_of session.new) (O.contents output.old) (O.contents output.new)) }
+    ensures fails { IfErr result (λ _. Failed echo (I.remaining input.old) (state_of session.old) (state_of session.new) (O.contents output.old) (O.contents output.new)) }
+{
     match run(alloc, session, input, output, echo) {
         Ok(summary) => Ok(summary.conditions > 0 || summary.storages > 0),
         Err(fault) => Err(Fault::of_run(name, &fault)),
@@ -111,26 +129,39 @@ fn run_file<'a, R: Files, O: Write>(
     }
 }
 
-/// Runs the files in order, or the input where there are none, and flushes the output. It says whether a condition
-/// or storage line was written.
-fn run_all<'a, R: Files, I: Read, O: Write>(
+/// Runs the files in order, and says whether a condition or storage line was written.
+fn run_files<'a, R: Files, O: Write>(
     rt: &R,
     alloc: Global,
     session: &mut Session,
     settings: &Settings<'a>,
-    input: &mut I,
     output: &mut O,
 ) -> Result<bool, Fault<'a>> {
     let mut any = false;
-    if settings.files.is_empty() {
-        any = run_text(alloc, session, INPUT_NAME, input, output, settings.echo)?;
-    }
     for name in settings.files.iter() {
         any |= run_file(rt, alloc, session, *name, output, settings.echo)?;
     }
-    match output.flush() {
-        Ok(()) => Ok(any),
-        Err(_) => Err(Fault::Write),
+    Ok(any)
+}
+
+/// Flushes the output, tells a fault in one line on `errors`, and gives the exit status.
+fn finish<O: Write, E: Write>(ran: Result<bool, Fault<'_>>, output: &mut O, errors: &mut E) -> u8
+    ensures keeps { Keeps (O.contents output.old) (O.contents output.new) }
+    ensures status { MatchResult ran.entry (λ told. (result ≡ status_of told) ⊎ (result ≡ fault_status)) (λ _. result ≡ fault_status) }
+{
+    let flushed = output.flush();
+    match ran {
+        Err(fault) => {
+            report(errors, fault);
+            STATUS_FAULT
+        }
+        Ok(told) => {
+            if flushed.is_err() {
+                report(errors, Fault::Write);
+                return STATUS_FAULT;
+            }
+            if told { STATUS_CONDITION } else { STATUS_DONE }
+        }
     }
 }
 
@@ -145,15 +176,14 @@ pub fn program<R: Files, I: Read, O: Write, E: Write>(
     output: &mut O,
     errors: &mut E,
 ) -> u8
-    ensures { (result ≡ STATUS_DONE) ⊎ (result ≡ STATUS_CONDITION) ⊎ (result ≡ STATUS_FAULT) }
+    ensures status { (result ≡ STATUS_DONE) ⊎ (result ≡ STATUS_CONDITION) ⊎ (result ≡ STATUS_FAULT) }
+    ensures input { settings.now.files.items ≡ [] → RunsInput settings.now.echo (I.remaining input.old) (state_of session.old) (state_of session.new)
+        (O.contents output.old) (O.contents output.new) result }
 {
-    match run_all(rt, alloc, session, settings, input, output) {
-        Ok(false) => STATUS_DONE,
-        Ok(true) => STATUS_CONDITION,
-        Err(fault) => {
-            let _ = output.flush();
-            report(errors, fault);
-            STATUS_FAULT
-        }
+    if settings.files.is_empty() {
+        let ran = run_text(alloc, session, INPUT_NAME, input, output, settings.echo);
+        return finish(ran, output, errors);
     }
+    let ran = run_files(rt, alloc, session, settings, output);
+    finish(ran, output, errors)
 }

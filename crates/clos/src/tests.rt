@@ -1,9 +1,9 @@
 //! What no clause says: the texts and statuses of the program, and the examples of the repository.
 use crate::command_line::settings;
-use crate::program::program;
+use crate::program::{limits, program};
 use clos_system::{Limits, Session};
 use std::alloc::Global;
-use std::fs::Files;
+use std::fs::{self, Files};
 use std::io::{self, Read, Write};
 use std::process::Abort;
 use std::test::Fail;
@@ -42,6 +42,26 @@ impl Write for Forgetful {
     }
 }
 
+/// So many writes succeed, and then none.
+#[derive(Drop)]
+struct Tiring {
+    writes: u64,
+}
+
+impl Write for Tiring {
+    fn write(&mut self, buf: &[u8]) -> io::Result<usize> {
+        if self.writes == 0 {
+            return Err(io::Error::from(io::ErrorKind::Other));
+        }
+        self.writes -= 1;
+        Ok(buf.len())
+    }
+
+    fn flush(&mut self) -> io::Result<()> {
+        Ok(())
+    }
+}
+
 /// Blanks without end.
 #[derive(Drop)]
 struct Blanks;
@@ -63,7 +83,7 @@ fn status<R: Files + AllocGlobal, I: Read, O: Write>(
 ) -> Result<u8, Fail> {
     let alloc = rt.alloc();
     let settings = settings(alloc, words)?;
-    let mut session = Session::new(alloc, Limits::default())?;
+    let mut session = Session::new(alloc, limits(&settings))?;
     Ok(program(rt, alloc, &mut session, &settings, input, output, errors))
 }
 
@@ -164,6 +184,91 @@ fn tells_what_can_not_be_read_or_written(rt: HostRuntime) -> Result<(), Fail> {
     let mut text: &[u8] = b"(princ 1)";
     let got = status(&rt, &["clos"], &mut text, &mut Forgetful, &mut told)?;
     assert!(rt; got == 3 && is_text(&told, "clos: write fault\n"));
+    Ok(())
+}
+
+/// Files and options: what is written, the status, and the line on standard error.
+fn check_words<R: Files + AllocGlobal + Abort>(
+    rt: &R,
+    words: &[&str],
+    output: &str,
+    status_wanted: u8,
+    errors: &str,
+) -> Result<(), Fail> {
+    let mut written = new_bytes(rt.alloc());
+    let mut told = new_bytes(rt.alloc());
+    let mut text: &[u8] = b"(princ (list 1 2)) (f)";
+    let got = status(rt, words, &mut text, &mut written, &mut told)?;
+    assert_eq!(rt; got, status_wanted, "the status");
+    assert!(rt; is_text(&written, output), "the output");
+    assert!(rt; is_text(&told, errors), "the errors");
+    Ok(())
+}
+
+#[test]
+fn runs_files_in_one_session(rt: HostRuntime) -> Result<(), Fail> {
+    fs::write(&rt, "first.lisp", "(defclass a () ()) (princ 1)")?;
+    fs::write(&rt, "second.lisp", "(make-instance 'a)")?;
+    check_words(&rt, &["clos", "first.lisp", "second.lisp"], "1", 0, "")?;
+    let echoed = "#<CLASS A>\n1\n1\n#<A 1>\n";
+    check_words(
+        &rt,
+        &["clos", "--echo", "first.lisp", "second.lisp"],
+        echoed,
+        0,
+        "",
+    )?;
+    let missing = "clos: none.lisp: read fault\n";
+    check_words(&rt, &["clos", "first.lisp", "none.lisp"], "1", 3, missing)?;
+    check_words(
+        &rt,
+        &["clos", "second.lisp"],
+        "; 7 (UNDEFINED-CLASS A)\n",
+        1,
+        "",
+    )
+}
+
+#[test]
+fn obeys_steps_and_depth(rt: HostRuntime) -> Result<(), Fail> {
+    let undefined = "(1 2)\n; 3 (UNDEFINED-FUNCTION F)\n";
+    check_words(
+        &rt,
+        &["clos", "--steps", "5", "--depth", "3"],
+        undefined,
+        1,
+        "",
+    )?;
+    let stepless = "; 29 (STEP-LIMIT)\n; 3 (UNDEFINED-FUNCTION F)\n";
+    check_words(
+        &rt,
+        &["clos", "--steps", "4", "--depth", "3"],
+        stepless,
+        1,
+        "",
+    )?;
+    let shallow = "; 30 (DEPTH-LIMIT)\n; 3 (UNDEFINED-FUNCTION F)\n";
+    check_words(
+        &rt,
+        &["clos", "--steps", "5", "--depth", "2"],
+        shallow,
+        1,
+        "",
+    )
+}
+
+#[test]
+fn tells_each_write_that_fails(rt: HostRuntime) -> Result<(), Fail> {
+    for writes in 0..3 {
+        let mut told = new_bytes(rt.alloc());
+        let mut text: &[u8] = b"(princ 1) (princ 2) (f)";
+        let mut output = Tiring { writes };
+        let got = status(&rt, &["clos"], &mut text, &mut output, &mut told)?;
+        assert!(rt;
+            got == 3 && is_text(&told, "clos: write fault\n"),
+            "after {writes}"
+        );
+    }
     Ok(())
 }
 

@@ -169,9 +169,11 @@ fn parse_generic_options(alloc: Global, options: &Data) -> Result<GenericOptions
 fn orders(alloc: Global, required: &[Name], names: &[Name]) -> Result<bool, AllocError>
     ensures { IfOk result (λ r. r ≡ orders required.now names.now) }
 {
-    Ok(are_distinct(alloc, names)?
-        && are_among(alloc, names, required)?
-        && are_among(alloc, required, names)?)
+    Ok(
+        are_distinct(alloc, names)?
+            && are_among(alloc, names, required)?
+            && are_among(alloc, required, names)?,
+    )
 }
 
 fn fits(

@@ -1,6 +1,5 @@
 -- How the loop over the forms of a text makes a run, and what is told of a form.
-use Rattle.std.proofs.Common.{◌≡◌, ℕ, ◌+◌, ◌-◌, ◌<◌, ◌≤◌, ◌==◌, suc, get_or, append-nil, List, [], ◌∷◌, ◌++◌, Option, Some, None, Result, Ok, Err, Bool, length, drop, refl, ap, sym, subst, ◌∙◌, arith, append_assoc}
-use Rattle.std.specs.Prelude.{IfSome}
+use Rattle.std.proofs.Common.{◌≡◌, ℕ, ◌+◌, ◌-◌, ◌<◌, ◌≤◌, ◌==◌, suc, get_or, append-nil, List, [], ◌∷◌, ◌++◌, Option, Some, None, Result, Ok, Err, Bool, length, drop, refl, ap, sym, subst, ◌∙◌, arith, append_assoc, inl}
 use Rattle.std.specs.Io.KnownBytes.{Appends}
 use Rattle.lisp_data.specs.Datum.{Dat}
 use Rattle.lisp_data.specs.declared.value.Value.{Value}
@@ -8,7 +7,7 @@ use Rattle.lisp_reader.specs.Answers.{Next}
 use Rattle.clos_eval.specs.World.{State}
 use Rattle.clos_eval.specs.Machine.{Answers}
 use Rattle.clos_system.specs.Step.{step}
-use Rattle.clos_system.specs.Transcript.{Ran, begins, performs, cuts, told, told_for, counted, counted_for, state_after, ends_line, Stands, Performs, FailsAfter, Faults, RunFaults, SourceFails, none_yet}
+use Rattle.clos_system.specs.Transcript.{Ran, begins, performs, cuts, told, told_for, counted, counted_for, state_after, ends_line, Stands, Performs, FailsAfter, Faults, RunFaults, SourceFails}
 use Rattle.clos_eval.specs.declared.condition.Stop.{Stop}
 use Rattle.clos_eval.specs.declared.condition.Stop.TheVariants.{Refused, Storage}
 use Rattle.clos_system.specs.declared.transcript.Summary.{Summary}
@@ -99,14 +98,10 @@ fails_after echo text start w w' a b c at next n fresh d Read s h p = absurd p
 fails_after echo text start w w' a b c at next n fresh d TooLong s h p = absurd p
 fails_after echo text start w w' a b c at next n fresh d (Reader f) s h p = absurd p
 
-memory_at_first : (echo : Bool) (known : Option (List ℕ)) (s : State) (new : Option (List ℕ)) → IfSome known (λ text. Faults echo text s s new new Memory)
-memory_at_first echo None s new = tt
-memory_at_first echo (Some text) s new = (0, none_yet, [], begins)
-
 -- the source could not be had, and no form ran
 pub source_fails : (echo : Bool) (known : Option (List ℕ)) (s : State) (new : Option (List ℕ)) (e : RunFault) → SourceFails known e → RunFaults echo known s s new new e
 source_fails echo known s new Read h = (refl, refl)
 source_fails echo known s new TooLong h = (refl, refl, h)
 source_fails echo known s new (Reader f) h = absurd h
 source_fails echo known s new Write h = absurd h
-source_fails echo known s new Memory h = memory_at_first echo known s new
+source_fails echo known s new Memory h = inl (refl, refl)

@@ -1,5 +1,5 @@
 -- Runs of whole texts, and their transcripts.
-use Rattle.std.specs.Prelude.{◌≡◌, ℕ, ◌+◌, ◌-◌, ◌<◌, ◌≤◌, ◌==◌, List, [], ◌∷◌, ◌++◌, Bool, true, codes, Option, Result, Ok, Err, IfSome, if◌then◌else◌, length, drop}
+use Rattle.std.specs.Prelude.{◌≡◌, ◌⊎◌, ℕ, ◌+◌, ◌-◌, ◌<◌, ◌≤◌, ◌==◌, List, [], ◌∷◌, ◌++◌, Bool, true, codes, Option, Result, Ok, Err, IfSome, IsSome, if◌then◌else◌, length, drop}
 use Rattle.std.specs.List.{flat_map}
 use Rattle.std.specs.Fmt.{decimal}
 use Rattle.std.specs.Io.KnownBytes.{Appends}
@@ -8,7 +8,7 @@ use Rattle.lisp_data.specs.Print.{Names, text_of}
 use Rattle.lisp_data.specs.ValueView.{value_of}
 use Rattle.lisp_data.specs.declared.value.Value.{Value}
 use Rattle.lisp_reader.specs.Answers.{Next, NextFails}
-use Rattle.lisp_reader.specs.Fault.{OnFault}
+use Rattle.lisp_reader.specs.Fault.{OnFault, offset_of}
 use Rattle.lisp_reader.specs.Gaps.{Gaps}
 use Rattle.clos_eval.specs.Condition.{number_of, condition_name}
 use Rattle.clos_eval.specs.World.{State, names_of}
@@ -100,7 +100,8 @@ Finishes echo text start end old new n = (at : ℕ) × Comes echo text start end
 -- The run came to a place where the text has no next datum, or memory or the writer failed it after a form.
 abbrev pub Faults : Bool → List ℕ → State → State → Option (List ℕ) → Option (List ℕ) → RunFault → Type 0
 Faults echo text start end old new (Reader fault) =
-    (at : ℕ) × (n : Summary) × Comes echo text start end old new at n × OnFault fault (λ kind k. (k ≤ length text) × NextFails (drop at text) kind (drop k text))
+    (at : ℕ) × (n : Summary) × Comes echo text start end old new at n × IsSome (offset_of fault)
+    × OnFault fault (λ kind k. (k ≤ length text) × NextFails (drop at text) kind (drop k text))
 Faults echo text start end old new Write = (at : ℕ) × (n : Summary) × (out : List ℕ) × Ran echo text start end at out n
 Faults echo text start end old new Memory = (at : ℕ) × (n : Summary) × (out : List ℕ) × Ran echo text start end at out n
 Faults echo text start end old new Read = ⊥
@@ -148,10 +149,16 @@ SourceFails known (Reader fault) = ⊥
 SourceFails known Write = ⊥
 SourceFails known Memory = Unit {0}
 
--- Where the source could not be read, or is too long, no form ran and nothing was written.
+-- It holds of a text that is not too long, and that is what the reader had, where that is known.
+abbrev pub OverText : Option (List ℕ) → (List ℕ → Type 0) → Type 0
+OverText known P = (text : List ℕ) × (length text ≤ 16_777_216) × IfSome known (λ had. text ≡ had) × P text
+
+-- Where the source could not be read, or is too long, no form ran and nothing was written. After any other fault the
+-- session stands after a whole number of the text's forms. Want of memory has a kind of its own, also in the reader.
 abbrev pub RunFaults : Bool → Option (List ℕ) → State → State → Option (List ℕ) → Option (List ℕ) → RunFault → Type 0
 RunFaults echo known start end old new Read = (end ≡ start) × (new ≡ old)
 RunFaults echo known start end old new TooLong = (end ≡ start) × (new ≡ old) × IfSome known (λ text. 16_777_216 < length text)
-RunFaults echo known start end old new (Reader fault) = IfSome known (λ text. Faults echo text start end old new (Reader fault))
-RunFaults echo known start end old new Write = IfSome known (λ text. Faults echo text start end old new Write)
-RunFaults echo known start end old new Memory = IfSome known (λ text. Faults echo text start end old new Memory)
+RunFaults echo known start end old new (Reader fault) = OverText known (λ text. Faults echo text start end old new (Reader fault))
+RunFaults echo known start end old new Write = OverText known (λ text. Faults echo text start end old new Write)
+RunFaults echo known start end old new Memory =
+    ((end ≡ start) × (new ≡ old)) ⊎ OverText known (λ text. Faults echo text start end old new Memory)

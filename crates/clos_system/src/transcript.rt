@@ -5,7 +5,7 @@ ghost use Rattle.lisp_data.specs.ValueView.{value_of};
 ghost use Rattle.lisp_data.specs.DatumView.{datum_of};
 ghost use Rattle.clos_eval.specs.World.{State, seen, names_of};
 ghost use Rattle.clos_system.specs.Session.{state_of};
-ghost use Rattle.clos_system.specs.Transcript.{ends_line, fresh_line, condition_text, storage_text, told_for, counted_for, Finishes, Faults, Performs, FailsAfter, RunFaults, SourceFails};
+ghost use Rattle.clos_system.specs.Transcript.{ends_line, fresh_line, condition_text, storage_text, told_for, counted_for, Finishes, Faults, Performs, FailsAfter, OverText, RunFaults, SourceFails};
 
 use crate::session::{Session, perform};
 use clos_eval::condition::{Condition, Stop};
@@ -59,8 +59,8 @@ pub fn run<R: Read, W: Write>(
     writer: &mut W,
     echo: bool,
 ) -> Result<Summary, RunFault>
-    ensures finishes { IfOk result (λ n. IfSome (R.remaining reader.old) (λ text. (length text ≤ 16_777_216)
-        × Finishes echo text (state_of session.old) (state_of session.new) (W.contents writer.old) (W.contents writer.new) n)) }
+    ensures finishes { IfOk result (λ n. OverText (R.remaining reader.old) (λ text.
+        Finishes echo text (state_of session.old) (state_of session.new) (W.contents writer.old) (W.contents writer.new) n)) }
     ensures faults { IfErr result (RunFaults echo (R.remaining reader.old) (state_of session.old) (state_of session.new)
         (W.contents writer.old) (W.contents writer.new)) }
 {
