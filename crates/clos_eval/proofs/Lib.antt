@@ -3,3 +3,4 @@ pub mod Order
 pub mod Turns
 pub mod Quiet
 pub mod Running
+pub mod Kept

@@ -12,3 +12,4 @@ pub mod World
 pub mod Meaning
 pub mod Machine
 pub mod Initial
+pub mod Definitions

@@ -1,3 +1,4 @@
+pub mod Definitions
 pub mod Steps
 pub mod StepQuiet
 pub mod Runs

@@ -1,4 +1,5 @@
 pub mod Served
 pub mod Step
 pub mod Session
+pub mod Definitions
 pub mod Transcript

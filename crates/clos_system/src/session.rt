@@ -7,6 +7,7 @@ ghost use Rattle.clos_eval.specs.Meaning.{Run};
 ghost use Rattle.clos_eval.specs.Machine.{Answers};
 ghost use Rattle.clos_system.specs.Step.{checked, performed, step};
 ghost use Rattle.clos_eval.specs.Initial.{initial};
+ghost use Rattle.clos_system.specs.Definitions.{DefinesNothing};
 ghost use Rattle.clos_system.specs.Session.{state_of, Replies};
 
 use crate::definition::{defclass, defmethod};
@@ -65,7 +66,8 @@ impl Session {
 
     /// Performs a top-level form (HyperSpec 3.1.2.1), and answers as its rules have it. A refused form defines nothing.
     pub fn submit(&mut self, datum: &Datum) -> Reply
-        ensures { Replies (step (datum_of datum.now)) (state_of self.old) result (state_of self.new) }
+        ensures reply { Replies (step (datum_of datum.now)) (state_of self.old) result (state_of self.new) }
+        ensures refused { DefinesNothing result (state_of self.old) (state_of self.new) }
     {
         let limit = self.world.limits.steps;
         let mut left = limit;

@@ -1,14 +1,23 @@
 use Rattle.lisp_data.specs.DatumView.{datum_of}
 use Rattle.clos_eval.specs.World.{seen}
+use Rattle.clos_system.specs.Session.{Replies}
 use Rattle.clos_system.specs.Step.{step}
+use Rattle.clos_system.specs.declared.session.Reply.TheVariants.{Condition}
+use Rattle.clos_system.proofs.Definitions.{defines_nothing}
 use Rattle.clos_system.proofs.StepQuiet.{stored}
 use Rattle.clos_system.proofs.session.Session.submit.Goals as goal
 
-pub returns-in-Err-Refused : goal.returns-in-Err-Refused
-returns-in-Err-Refused c =
+pub returns-in-Err-Refused-clause-reply : goal.returns-in-Err-Refused-clause-reply
+returns-in-Err-Refused-clause-reply c =
     (c.in-Err-Refused.condition.kind, c.perform.new.steps, c.number.ensures, (rw c.in-Err-Refused.field-0-is at c.in-Err-Refused.ensures))
 
-pub returns-in-Err-Storage : goal.returns-in-Err-Storage
-returns-in-Err-Storage c =
+pub returns-in-Err-Refused-clause-refused : goal.returns-in-Err-Refused-clause-refused
+returns-in-Err-Refused-clause-refused c =
+    defines_nothing (datum_of c.args.datum.now) (seen c.args.self.now.world) (seen c.perform.new.world)
+    (Condition c.number.result c.in-Err-Refused.condition.items)
+    (c.in-Err-Refused.condition.kind, c.perform.new.steps, c.number.ensures, (rw c.in-Err-Refused.field-0-is at c.in-Err-Refused.ensures))
+
+pub returns-in-Err-Storage-clause-reply : goal.returns-in-Err-Storage-clause-reply
+returns-in-Err-Storage-clause-reply c =
     stored (step (datum_of c.args.datum.now)) (seen c.args.self.now.world) (seen c.perform.new.world) c.args.self.now.world.limits.steps
     c.perform.new.steps c.in-Err-Storage.field-0 c.in-Err-Storage.field-0-is c.in-Err-Storage.ensures

@@ -1,0 +1,92 @@
+-- A definition that is refused defines nothing, and neither does any other form.
+use Rattle.std.proofs.Common.{◌≡◌, ℕ, zero, suc, ◌==◌, List, Option, Some, None, Result, Ok, Err, Bool, true, false, length, slice_get, subst}
+use Rattle.std.specs.Prelude.{⊤, nat_lt, ◌&&◌, if◌then◌else◌}
+use Rattle.lisp_data.specs.Datum.{Dat}
+use Rattle.lisp_data.specs.Name.{Nam}
+use Rattle.clos_syntax_core.specs.Form.{Frms}
+use Rattle.clos_syntax.specs.Top.{top_of}
+use Rattle.clos_syntax.specs.declared.top.Top.{Top}
+use Rattle.clos_eval.specs.Class.{named}
+use Rattle.clos_eval.specs.Definitions.{Same}
+use Rattle.clos_eval.specs.Generic.{function_named}
+use Rattle.clos_eval.specs.World.{State}
+use Rattle.clos_eval.specs.Meaning.{Out, Gave, Stopped, Run, step_then, evaluation}
+use Rattle.clos_eval.specs.declared.condition.Condition.{Condition}
+use Rattle.clos_eval.specs.declared.generic.Generic.{Generic}
+use Rattle.clos_eval.proofs.Kept.{same, Kept, evaluation_kept}
+use Rattle.clos_system.specs.Definitions.{DefinesNothing}
+use Rattle.clos_system.specs.Served.{is_combination, served_of}
+use Rattle.clos_system.specs.Session.{Replies}
+use Rattle.clos_system.specs.Step.{checked, class_added, define_class, define_method, function_added, method_added, new_class, new_method, on_function, performed, room_of, served_run, specializer_numbers, step, superclass_number, first_defined}
+use Rattle.clos_system.specs.declared.served.Served.{Served}
+use Rattle.clos_system.specs.declared.served.Served.TheVariants.{DefineClass, DefineMethod, Expression}
+use Rattle.clos_system.specs.declared.session.Reply.{Reply}
+use Rattle.clos_system.specs.declared.session.Reply.TheVariants.{Value, Condition as a_condition, Storage}
+
+-- where a form is refused, the definitions are those before
+
+abbrev Refuses : State → Out → Type 0
+Refuses w (Gave v u k) = ⊤
+Refuses w (Stopped c u k) = Same w u
+
+kept_refuses : (w : State) (o : Out) → Kept w o → Refuses w o
+kept_refuses w (Gave v u k) h = tt
+kept_refuses w (Stopped c u k) h = h
+
+choice_refuses : (b : Bool) (w : State) (x y : Out) → Refuses w x → Refuses w y → Refuses w (if b then x else y)
+choice_refuses true w x y h g = h
+choice_refuses false w x y h g = g
+
+step_refuses : (run : Run) (w : State) (k : ℕ) → ((j : ℕ) → Refuses w (run w j)) → Refuses w (step_then run w k)
+step_refuses run w zero h = same w
+step_refuses run w (suc k) h = h k
+
+new_class_refuses : (name : Nam) (s : Option ℕ) (w : State) (k : ℕ) → Refuses w (new_class name s w k)
+new_class_refuses name None w k = same w
+new_class_refuses name (Some s) w k =
+    choice_refuses (nat_lt (length w.classes) _) w (step_then (class_added name s) w k) _ (step_refuses (class_added name s) w k (λ j. tt)) (same w)
+
+class_refuses : (name : Nam) (super : Option Nam) (o : Option ℕ) (w : State) (k : ℕ) → Refuses w (define_class name super o w k)
+class_refuses name super None w k = new_class_refuses name (superclass_number w super) w k
+class_refuses name super (Some n) w k = choice_refuses (nat_lt n first_defined) w _ _ (same w) (same w)
+
+new_method_refuses : (name : Nam) (g : ℕ) (o : Option Generic) (parameters : List Nam) (specializers : List ℕ) (body : Frms) (w : State) (k : ℕ) → Refuses w (new_method name g o parameters specializers body w k)
+new_method_refuses name g None parameters specializers body w k = same w
+new_method_refuses name g (Some old) parameters specializers body w k =
+    choice_refuses (old.required == length parameters) w _ _
+    (choice_refuses (nat_lt (length w.methods) w.limits.methods) w (step_then (method_added g old parameters specializers body) w k) _
+    (step_refuses (method_added g old parameters specializers body) w k (λ j. tt)) (same w))
+    (same w)
+
+function_refuses : (name : Nam) (o : Option ℕ) (parameters : List Nam) (specializers : List ℕ) (body : Frms) (w : State) (k : ℕ) → Refuses w (on_function name o parameters specializers body w k)
+function_refuses name None parameters specializers body w k =
+    choice_refuses (nat_lt (length w.generics) w.limits.generics && nat_lt (length w.methods) w.limits.methods) w
+    (step_then (function_added name parameters specializers body) w k) _ (step_refuses (function_added name parameters specializers body) w k (λ j. tt)) (same w)
+function_refuses name (Some g) parameters specializers body w k =
+    new_method_refuses name g (slice_get w.generics g) parameters specializers body w k
+
+method_refuses : (name : Nam) (parameters : List Nam) (body : Frms) (r : Result (List ℕ) Condition) (w : State) (k : ℕ) → Refuses w (define_method name parameters body r w k)
+method_refuses name parameters body (Err c) w k = same w
+method_refuses name parameters body (Ok specializers) w k = function_refuses name (function_named w.generics name) parameters specializers body w k
+
+performed_refuses : (served : Served) (w : State) (k : ℕ) → Refuses w (performed served w k)
+performed_refuses (DefineClass name super) w k = class_refuses name super (named w.classes name) w k
+performed_refuses (DefineMethod name parameters classes body) w k = method_refuses name parameters body (specializer_numbers w classes) w k
+performed_refuses (Expression f) w k = kept_refuses w (evaluation (room_of w) f w k) (evaluation_kept (room_of w) f w k)
+
+served_refuses : (o : Option Served) (w : State) (k : ℕ) → Refuses w (served_run o w k)
+served_refuses None w k = same w
+served_refuses (Some served) w k = performed_refuses served w k
+
+checked_refuses : (o : Option Top) (w : State) (k : ℕ) → Refuses w (checked o w k)
+checked_refuses None w k = same w
+checked_refuses (Some top) w k = served_refuses (served_of top) w k
+
+step_refused : (d : Dat) (w : State) (k : ℕ) → Refuses w (step d w k)
+step_refused d w k = choice_refuses (is_combination d) w _ (checked (top_of d) w k) (same w) (checked_refuses (top_of d) w k)
+
+-- what a session replies
+pub defines_nothing : (d : Dat) (w u : State) (r : Reply) → Replies (step d) w r u → DefinesNothing r w u
+defines_nothing d w u (Value v) h = tt
+defines_nothing d w u (a_condition number items) h = subst (Refuses w) h.3 (step_refused d w w.limits.steps)
+defines_nothing d w u (Storage k) h = tt
