@@ -6,9 +6,9 @@ use Rattle.lisp_data.specs.Value.{Val}
 use Rattle.lisp_data.specs.Value as value
 use Rattle.lisp_prims.specs.Fault as prims
 use Rattle.lisp_prims.specs.Primitive.{answer}
-use Rattle.clos_syntax_core.specs.Form.{Frm, Frms, nil, cons, parts_in, operator_in}
-use Rattle.clos_syntax_core.specs.Operator as of
-use Rattle.clos_syntax_core.specs.Operator.{Opr, Bound}
+use Rattle.clos_forms.specs.Form.{Frm, Frms, nil, cons, parts_in, operator_in}
+use Rattle.clos_forms.specs.Operator as of
+use Rattle.clos_forms.specs.Operator.{Opr, Bound}
 use Rattle.clos_eval.specs.Callee.{callee_of, only_value}
 use Rattle.clos_eval.specs.Effective.{Effective, call_method, progn, prog1}
 use Rattle.clos_eval.specs.Generic.{function_named, ordered}

@@ -7,8 +7,8 @@ use Rattle.lisp_data.specs.ValueView.{value_of}
 use Rattle.lisp_data.specs.Value as value
 use Rattle.lisp_prims.specs.Fault as prims
 use Rattle.lisp_prims.specs.Primitive.{answer}
-use Rattle.clos_syntax_core.specs.Operator.{Bound}
-use Rattle.clos_syntax_core.specs.Form.{Frms, nil, cons, parts_in}
+use Rattle.clos_forms.specs.Operator.{Bound}
+use Rattle.clos_forms.specs.Form.{Frms, nil, cons, parts_in}
 use Rattle.clos_eval.specs.Callee.{callee_of, only_value}
 use Rattle.clos_eval.specs.declared.callee.Callee.{Callee}
 use Rattle.clos_eval.specs.declared.callee.Callee.TheVariants.{Output, Terpri, Primitive, MakeInstance, Defined}

@@ -1,7 +1,7 @@
 -- Outcomes through the levels of the machine.
 use Rattle.std.proofs.Common.{◌≡◌, ℕ, arith, Result, Ok, Err, List, [], ◌∷◌, Option, Some, None, refl, ap, sym, ◌∙◌}
 use Rattle.clos_eval.specs.World.{State, unbound}
-use Rattle.clos_syntax_core.specs.Form.{Frms, nil, cons}
+use Rattle.clos_forms.specs.Form.{Frms, nil, cons}
 use Rattle.clos_eval.specs.Meaning.{Run, Eval, Stopped, meaning, closed, method_run, sequence, while_true, until_true, going}
 use Rattle.clos_eval.specs.declared.machine.Control.TheVariants.{Progn, And, Or}
 use Rattle.clos_eval.specs.Machine.{at, below, passed, resume, inside, Grows, Leads}

@@ -4,7 +4,7 @@ use Rattle.lisp_data.specs.Name.{Nam}
 use Rattle.lisp_data.specs.Value.{Val}
 use Rattle.lisp_prims.specs.Primitive.{primitive_of}
 use Rattle.lisp_prims.specs.declared.primitive.Primitive as of_values
-use Rattle.clos_syntax_core.specs.Names.{is_called}
+use Rattle.clos_forms.specs.Names.{is_called}
 use Rattle.clos_eval.specs.declared.callee.Callee.{Callee}
 use Rattle.clos_eval.specs.declared.callee.Callee.TheVariants.{Output, Terpri, Primitive, MakeInstance, Defined}
 use Rattle.clos_eval.specs.declared.callee.Output.TheVariants.{Princ, Prin1, Print}

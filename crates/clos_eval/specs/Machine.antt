@@ -1,7 +1,7 @@
 -- What a state of the machine stands for: the rest of the definition.
 use Rattle.std.specs.Prelude.{◌≡◌, ℕ, suc, ◌+◌, ◌*◌, ◌≤◌, List, [], ◌∷◌, ◌++◌, Result, Ok, Err, Option, Some, None, length, true}
 use Rattle.lisp_data.specs.Name.{Nam}
-use Rattle.clos_syntax_core.specs.Operator.{Bound}
+use Rattle.clos_forms.specs.Operator.{Bound}
 use Rattle.lisp_data.specs.Value.{Val}
 use Rattle.lisp_data.specs.ValueView.{value_of}
 use Rattle.lisp_data.specs.declared.ids.ClassId.{ClassId}

@@ -5,11 +5,11 @@ use Rattle.lisp_data.specs.Value.{Val, integer, symbol, string, list, class, gen
 use Rattle.lisp_data.specs.Print.{Names, text_of}
 use Rattle.lisp_prims.specs.Fault as prims
 use Rattle.lisp_prims.specs.Primitive.{answer, truth}
-use Rattle.clos_syntax_core.specs.Form.{Frm, Frms, operator_in, parts_in}
-use Rattle.clos_syntax_core.specs.Form as form
-use Rattle.clos_syntax_core.specs.Operator.{Opr, Bound}
-use Rattle.clos_syntax_core.specs.Quotation.{name_value}
-use Rattle.clos_syntax_core.specs.Operator as of
+use Rattle.clos_forms.specs.Form.{Frm, Frms, operator_in, parts_in}
+use Rattle.clos_forms.specs.Form as form
+use Rattle.clos_forms.specs.Operator.{Opr, Bound}
+use Rattle.clos_forms.specs.Quotation.{name_value}
+use Rattle.clos_forms.specs.Operator as of
 use Rattle.clos_eval.specs.Callee.{callee_of, only_value}
 use Rattle.clos_eval.specs.Effective.{Effective, call_method, progn, prog1, effective_form}
 use Rattle.clos_eval.specs.Class.{named}

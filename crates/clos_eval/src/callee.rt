@@ -2,7 +2,7 @@
 ghost use Rattle.std.specs.Prelude.{◌≡◌};
 ghost use Rattle.clos_eval.specs.Callee.{callee_of, value_function};
 
-use clos_syntax_core::is_the;
+use clos_forms::is_the;
 use lisp_data::Name;
 use lisp_prims::Primitive;
 

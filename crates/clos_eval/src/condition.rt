@@ -3,13 +3,13 @@ ghost use Rattle.std.specs.Prelude.{◌≡◌, ◌∷◌, [], IfOk, map};
 ghost use Rattle.lisp_data.specs.ValueView.{value_of};
 ghost use Rattle.lisp_prims.specs.Fault.{Condition as Signalled, StandsFor};
 ghost use Rattle.lisp_prims.specs.declared.fault.PrimFault.TheVariants.{Memory};
-ghost use Rattle.clos_syntax_core.specs.Quotation.{name_value};
+ghost use Rattle.clos_forms.specs.Quotation.{name_value};
 ghost use Rattle.clos_eval.specs.Condition.{number_of, condition_name, condition_of, Signals};
 ghost use Rattle.clos_eval.specs.declared.condition.Condition.{Condition};
 ghost use Rattle.clos_eval.specs.declared.condition.Stop.TheVariants.{Storage};
 
 use crate::arguments::Values;
-use clos_syntax_core::value_named;
+use clos_forms::value_named;
 use lisp_data::{Name, Value};
 use lisp_prims::PrimFault;
 use std::alloc::{AllocError, AllocFailed, Global};

@@ -3,7 +3,7 @@ ghost use Rattle.std.specs.Prelude.{◌≡◌, ◌∷◌, [], ℕ, ◌+◌, ◌*
 ghost use Rattle.lisp_data.specs.Value.{Val, list, nil};
 ghost use Rattle.lisp_data.specs.ValueView.{value_of};
 ghost use Rattle.lisp_prims.specs.Primitive.{answer};
-ghost use Rattle.clos_syntax_core.specs.OperatorView.{operator_of};
+ghost use Rattle.clos_forms.specs.OperatorView.{operator_of};
 ghost use Rattle.clos_eval.specs.World.{State, seen, bound_as, local_named};
 ghost use Rattle.clos_eval.specs.Meaning.{Run, Gave, known, meaning, begun, body, operated, going, followed, branch, while_true, until_true, keeping, clauses, clause, tested, combined, system, collect, called, called_function, called_generic, answered, method_run, sequence, restoring, scoped, inner, leaving, in_order, then_do, variable_value, dispatched};
 ghost use Rattle.clos_eval.specs.Generic.{function_named, ordered};
@@ -20,7 +20,7 @@ use crate::locals::{Locals, Plan, bind, skip};
 use crate::machine::{Control, Doing, Frame, Level, Machine, SystemCall, Task};
 use crate::truth::{is_true, nil, t};
 use crate::world::World;
-use clos_syntax_core::{Form, Forms, Operator};
+use clos_forms::{Form, Forms, Operator};
 use lisp_data::{MethodId, Name, Value};
 use lisp_prims::Primitive;
 use std::alloc::{AllocError, Global};

@@ -23,7 +23,7 @@ use crate::locals::Locals;
 use crate::machine::{Doing, Frame, Level, Levels, Machine, SystemCall, Task};
 use crate::truth::nil;
 use crate::world::World;
-use clos_syntax_core::Form;
+use clos_forms::Form;
 use lisp_data::{ClassId, InstanceId, Items, Name, Value, prin1, princ};
 use std::alloc::{AllocError, Global};
 

@@ -3,7 +3,7 @@ ghost use Rattle.std.specs.Prelude.{◌≡◌, ◌<◌, ◌≤◌, ◌++◌, ◌
 ghost use Rattle.clos_eval.specs.Generic.{function_named, specializers_of, specializers_in, is_applicable, stands_before, is_before, placed, ordered};
 
 use crate::class::ClassIds;
-use clos_syntax_core::Forms;
+use clos_forms::Forms;
 use lisp_data::{ClassId, GenericId, MethodId, Name};
 use std::alloc::{AllocError, Global};
 use std::marker::Model;

@@ -2,14 +2,14 @@
 ghost use Rattle.std.specs.Prelude.{◌≡◌, ◌∷◌, [], ℕ, IfOk, OnOk, MatchOption, map, option_map, length};
 ghost use Rattle.lisp_data.specs.ValueView.{value_of};
 ghost use Rattle.clos_eval.specs.World.{State, local_named, outermost, bound_as, bound_to};
-ghost use Rattle.clos_syntax_core.specs.BoundView.{bound};
-ghost use Rattle.clos_syntax_core.specs.Form.{Frms};
+ghost use Rattle.clos_forms.specs.BoundView.{bound};
+ghost use Rattle.clos_forms.specs.Form.{Frms};
 ghost use Rattle.clos_eval.specs.Meaning.{Eval, in_order};
 ghost use Rattle.clos_eval.specs.Machine.{with_next};
 ghost use Rattle.clos_eval.specs.declared.arguments.Context.{Context};
 
 use crate::truth::nil;
-use clos_syntax_core::Binding;
+use clos_forms::Binding;
 use lisp_data::{Name, Value};
 use std::alloc::{AllocError, Global};
 use std::marker::Model;
@@ -120,14 +120,14 @@ pub struct Plan {
 
 impl Model for Plan {
     ghost use Rattle.std.specs.Prelude.{List, map, reverse};
-    ghost use Rattle.clos_syntax_core.specs.Operator.{Bound};
-    ghost use Rattle.clos_syntax_core.specs.OperatorCode.{bounds_code};
+    ghost use Rattle.clos_forms.specs.Operator.{Bound};
+    ghost use Rattle.clos_forms.specs.OperatorCode.{bounds_code};
 
     ghost Value = { List Bound };
 
     ghost coded = { bounds_code };
 
-    ghost use Rattle.clos_syntax_core.specs.BoundView.{bound};
+    ghost use Rattle.clos_forms.specs.BoundView.{bound};
 
     ghost view = { λ a. reverse (map bound a.left.items) };
 }

@@ -4,7 +4,7 @@ ghost use Rattle.std.specs.Prelude.{◌≡◌, ◌∷◌, [], ℕ, ◌<◌, ◌�
 use crate::arguments::{Arguments, Context, Values};
 use crate::effective::EffectiveForm;
 use crate::locals::{Locals, Plan};
-use clos_syntax_core::{Form, Forms};
+use clos_forms::{Form, Forms};
 use lisp_data::{InstanceId, Name, Value};
 use std::alloc::{AllocError, Global};
 use std::marker::Model;

@@ -3,16 +3,16 @@ use Rattle.std.proofs.Common.{◌≡◌, List, All, Option, Some, None, length, 
 use Rattle.std.specs.Prelude.{IfSome, ⊤, codes, if◌then◌else◌}
 use Rattle.lisp_data.specs.Name.{Nam}
 use Rattle.lisp_data.specs.Datum.{Dat, integer, symbol, string, list, dotted, method, Dats, nil, cons, length_of}
-use Rattle.clos_syntax_core.specs.Binding.{each}
-use Rattle.clos_syntax_core.specs.Distinct.{are_distinct}
-use Rattle.clos_syntax_core.specs.Fault.{◌>>=◌, Gives}
-use Rattle.clos_syntax_core.specs.Form.{Frms}
-use Rattle.clos_syntax_core.specs.Grammar.{body_forms_of}
-use Rattle.clos_syntax_core.specs.Names.{is_called}
-use Rattle.clos_syntax_core.specs.Part.{only_in}
-use Rattle.clos_syntax_core.specs.declared.fault.SyntaxFault.{SyntaxFault}
-use Rattle.clos_syntax_core.specs.declared.operator.FunctionName.{FunctionName}
-use Rattle.clos_syntax_core.specs.declared.part.Context.TheVariants.{Method}
+use Rattle.clos_forms.specs.Binding.{each}
+use Rattle.clos_forms.specs.Distinct.{are_distinct}
+use Rattle.clos_forms.specs.Fault.{◌>>=◌, Gives}
+use Rattle.clos_forms.specs.Form.{Frms}
+use Rattle.clos_forms.specs.Grammar.{body_forms_of}
+use Rattle.clos_forms.specs.Names.{is_called}
+use Rattle.clos_forms.specs.Part.{only_in}
+use Rattle.clos_forms.specs.declared.fault.SyntaxFault.{SyntaxFault}
+use Rattle.clos_forms.specs.declared.operator.FunctionName.{FunctionName}
+use Rattle.clos_forms.specs.declared.part.Context.TheVariants.{Method}
 use Rattle.clos_syntax.specs.Class.{class_in, documentation_option_in}
 use Rattle.clos_syntax.specs.Function.{function_in}
 use Rattle.clos_syntax.specs.FunctionName.{method_function_in, new_function_in}

@@ -1,6 +1,6 @@
 -- Lists of things, one after another.
 use Rattle.std.proofs.Common.{◌≡◌, map, List, [], ◌∷◌, ◌++◌, Option, Some, None, refl, ap, sym, append_assoc}
-use Rattle.clos_syntax_core.specs.Fault.{◌>>=◌}
+use Rattle.clos_forms.specs.Fault.{◌>>=◌}
 use Rattle.lisp_data.specs.Datum.{Dats, cons}
 use Rattle.lisp_data.specs.DatumView.{datum_of}
 use Rattle.lisp_data.specs.declared.datum.Datum.{Datum}

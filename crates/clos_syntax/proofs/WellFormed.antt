@@ -4,19 +4,19 @@ use Rattle.std.specs.Prelude.{ℕ, IfSome, codes, if◌then◌else◌}
 use Rattle.std.proofs.lemmas.List.Elements.{All-nil, All-cons}
 use Rattle.lisp_data.specs.Name.{Nam}
 use Rattle.lisp_data.specs.Datum.{Dat, integer, symbol, string, list, dotted, method, Dats, nil, cons}
-use Rattle.clos_syntax_core.specs.Binding.{each}
-use Rattle.clos_syntax_core.specs.Body.{body_of}
-use Rattle.clos_syntax_core.specs.Distinct.{are_distinct}
-use Rattle.clos_syntax_core.specs.Fault.{◌>>=◌}
-use Rattle.clos_syntax_core.specs.Form.{Frm, Frms}
-use Rattle.clos_syntax_core.specs.FunctionName.{symbol_in, variable_in}
-use Rattle.clos_syntax_core.specs.Grammar.{form_of, body_forms_of, full_room}
-use Rattle.clos_syntax_core.specs.Part.{at_most_one, only_in}
-use Rattle.clos_syntax_core.specs.WellFormed.{are_well_formed}
-use Rattle.clos_syntax_core.specs.declared.operator.FunctionName.{FunctionName}
-use Rattle.clos_syntax_core.specs.declared.part.Context.{Context}
-use Rattle.clos_syntax_core.specs.declared.part.Context.TheVariants.{Plain, Method}
-use Rattle.clos_syntax_core.proofs.WellFormed.{form_is_well_formed, forms_are_well_formed}
+use Rattle.clos_forms.specs.Binding.{each}
+use Rattle.clos_forms.specs.Body.{body_of}
+use Rattle.clos_forms.specs.Distinct.{are_distinct}
+use Rattle.clos_forms.specs.Fault.{◌>>=◌}
+use Rattle.clos_forms.specs.Form.{Frm, Frms}
+use Rattle.clos_forms.specs.FunctionName.{symbol_in, variable_in}
+use Rattle.clos_forms.specs.Grammar.{form_of, body_forms_of, full_room}
+use Rattle.clos_forms.specs.Part.{at_most_one, only_in}
+use Rattle.clos_forms.specs.WellFormed.{are_well_formed}
+use Rattle.clos_forms.specs.declared.operator.FunctionName.{FunctionName}
+use Rattle.clos_forms.specs.declared.part.Context.{Context}
+use Rattle.clos_forms.specs.declared.part.Context.TheVariants.{Plain, Method}
+use Rattle.clos_forms.proofs.WellFormed.{form_is_well_formed, forms_are_well_formed}
 use Rattle.clos_syntax.specs.Class.{class_in, class_option_in, class_options_in, class_with, default_names, default_with, defaults_from, defaults_in, documentation_option_in, if_distinct_defaults, if_distinct_slots, metaclass_in, new_class_in, slot_names, slots_in, superclasses_in}
 use Rattle.clos_syntax.specs.Function.{function_in, function_with}
 use Rattle.clos_syntax.specs.FunctionName.{method_function_in, new_function_in}

@@ -5,11 +5,11 @@ use Rattle.std.proofs.lemmas.List.Elements.{All-nil, All-cons, All-head}
 use Rattle.std.proofs.lemmas.Option.{none-some}
 use Rattle.lisp_data.specs.Name.{Nam}
 use Rattle.lisp_data.specs.Datum.{Dat, integer, symbol, string, list, dotted, method, Dats, nil, cons, length_of}
-use Rattle.clos_syntax_core.specs.Binding.{each}
-use Rattle.clos_syntax_core.specs.Fault.{◌>>=◌, Gives}
-use Rattle.clos_syntax_core.specs.Names.{is_called}
-use Rattle.clos_syntax_core.specs.Part.{only_in}
-use Rattle.clos_syntax_core.specs.declared.fault.SyntaxFault.{SyntaxFault}
+use Rattle.clos_forms.specs.Binding.{each}
+use Rattle.clos_forms.specs.Fault.{◌>>=◌, Gives}
+use Rattle.clos_forms.specs.Names.{is_called}
+use Rattle.clos_forms.specs.Part.{only_in}
+use Rattle.clos_forms.specs.declared.fault.SyntaxFault.{SyntaxFault}
 use Rattle.clos_syntax.specs.Class.{class_in}
 use Rattle.clos_syntax.specs.Function.{function_in}
 use Rattle.clos_syntax.specs.Generic.{generic_in}

@@ -2,12 +2,12 @@
 use Rattle.std.specs.Prelude.{ℕ, List, [], ◌∷◌, ◌||◌, codes, Option, Some, None, if◌then◌else◌}
 use Rattle.lisp_data.specs.Name.{Nam}
 use Rattle.lisp_data.specs.Datum.{Dat, Dats, nil, cons}
-use Rattle.clos_syntax_core.specs.Binding.{each}
-use Rattle.clos_syntax_core.specs.Distinct.{are_distinct}
-use Rattle.clos_syntax_core.specs.Fault.{◌>>=◌}
-use Rattle.clos_syntax_core.specs.FunctionName.{symbol_in}
-use Rattle.clos_syntax_core.specs.Names.{is_one_of}
-use Rattle.clos_syntax_core.specs.Part.{only_in}
+use Rattle.clos_forms.specs.Binding.{each}
+use Rattle.clos_forms.specs.Distinct.{are_distinct}
+use Rattle.clos_forms.specs.Fault.{◌>>=◌}
+use Rattle.clos_forms.specs.FunctionName.{symbol_in}
+use Rattle.clos_forms.specs.Names.{is_one_of}
+use Rattle.clos_forms.specs.Part.{only_in}
 use Rattle.clos_syntax.specs.Lists.{list_in, or_none}
 use Rattle.clos_syntax.specs.Property.{is_option, option_in, arguments_in}
 use Rattle.clos_syntax.specs.Sections.{is_symbol_called}

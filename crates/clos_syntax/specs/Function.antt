@@ -1,9 +1,9 @@
 -- Functions (HyperSpec 5.3 defun).
 use Rattle.std.specs.Prelude.{Option, Some, None}
 use Rattle.lisp_data.specs.Datum.{Dat, Dats, nil, cons}
-use Rattle.clos_syntax_core.specs.Fault.{◌>>=◌}
-use Rattle.clos_syntax_core.specs.Grammar.{body_forms_of}
-use Rattle.clos_syntax_core.specs.declared.part.Context.TheVariants.{Plain}
+use Rattle.clos_forms.specs.Fault.{◌>>=◌}
+use Rattle.clos_forms.specs.Grammar.{body_forms_of}
+use Rattle.clos_forms.specs.declared.part.Context.TheVariants.{Plain}
 use Rattle.clos_syntax.specs.FunctionName.{new_function_in}
 use Rattle.clos_syntax.specs.LambdaList.{lambda_list_in}
 use Rattle.clos_syntax.specs.declared.function.FunctionDefinition.{FunctionDefinition}

@@ -3,12 +3,12 @@ use Rattle.std.specs.Prelude.{Bool, ◌||◌, Option, Some, None, if◌then◌el
 use Rattle.lisp_data.specs.Name.{Nam}
 use Rattle.lisp_data.specs.Print.{Called, by_symbol, by_setf}
 use Rattle.lisp_data.specs.Datum.{Dat}
-use Rattle.clos_syntax_core.specs.Fault.{◌>>=◌}
-use Rattle.clos_syntax_core.specs.FunctionName.{function_named, symbol_in}
-use Rattle.clos_syntax_core.specs.Names.{is_one_of, functions, system_functions, closed_functions}
-use Rattle.clos_syntax_core.specs.Special.{special_operators}
-use Rattle.clos_syntax_core.specs.declared.operator.FunctionName.{FunctionName}
-use Rattle.clos_syntax_core.specs.declared.operator.FunctionName.TheVariants.{Symbol, Setf}
+use Rattle.clos_forms.specs.Fault.{◌>>=◌}
+use Rattle.clos_forms.specs.FunctionName.{function_named, symbol_in}
+use Rattle.clos_forms.specs.Names.{is_one_of, functions, system_functions, closed_functions}
+use Rattle.clos_forms.specs.Special.{special_operators}
+use Rattle.clos_forms.specs.declared.operator.FunctionName.{FunctionName}
+use Rattle.clos_forms.specs.declared.operator.FunctionName.TheVariants.{Symbol, Setf}
 
 -- names on which a program has no methods
 abbrev pub is_taken : Nam → Bool

@@ -2,12 +2,12 @@
 use Rattle.std.specs.Prelude.{List, Bool, true, ◌||◌, ◌&&◌, codes, Option, Some, None, if◌then◌else◌}
 use Rattle.lisp_data.specs.Name.{Nam}
 use Rattle.lisp_data.specs.Datum.{Dat, Dats, nil, cons}
-use Rattle.clos_syntax_core.specs.Binding.{each}
-use Rattle.clos_syntax_core.specs.Distinct.{are_among, are_distinct}
-use Rattle.clos_syntax_core.specs.Body.{is_declaration}
-use Rattle.clos_syntax_core.specs.Fault.{◌>>=◌}
-use Rattle.clos_syntax_core.specs.FunctionName.{symbol_in}
-use Rattle.clos_syntax_core.specs.declared.operator.FunctionName.{FunctionName}
+use Rattle.clos_forms.specs.Binding.{each}
+use Rattle.clos_forms.specs.Distinct.{are_among, are_distinct}
+use Rattle.clos_forms.specs.Body.{is_declaration}
+use Rattle.clos_forms.specs.Fault.{◌>>=◌}
+use Rattle.clos_forms.specs.FunctionName.{symbol_in}
+use Rattle.clos_forms.specs.declared.operator.FunctionName.{FunctionName}
 use Rattle.clos_syntax.specs.Class.{documentation_option_in}
 use Rattle.clos_syntax.specs.FunctionName.{new_function_in}
 use Rattle.clos_syntax.specs.LambdaList.{generic_lambda_list_in}

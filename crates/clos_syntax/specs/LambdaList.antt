@@ -3,13 +3,13 @@ use Rattle.std.specs.Prelude.{List, [], ◌∷◌, ◌++◌, Bool, true, false, 
 use Rattle.std.specs.List.{list_any}
 use Rattle.lisp_data.specs.Name.{Nam}
 use Rattle.lisp_data.specs.Datum.{Dat, integer, symbol, string, list, dotted, method, Dats, nil, cons}
-use Rattle.clos_syntax_core.specs.Binding.{each}
-use Rattle.clos_syntax_core.specs.Distinct.{are_distinct}
-use Rattle.clos_syntax_core.specs.Fault.{◌>>=◌}
-use Rattle.clos_syntax_core.specs.FunctionName.{symbol_in, variable_in}
-use Rattle.clos_syntax_core.specs.Grammar.{form_of}
-use Rattle.clos_syntax_core.specs.Part.{at_most_one, only_in}
-use Rattle.clos_syntax_core.specs.declared.part.Context.TheVariants.{Plain}
+use Rattle.clos_forms.specs.Binding.{each}
+use Rattle.clos_forms.specs.Distinct.{are_distinct}
+use Rattle.clos_forms.specs.Fault.{◌>>=◌}
+use Rattle.clos_forms.specs.FunctionName.{symbol_in, variable_in}
+use Rattle.clos_forms.specs.Grammar.{form_of}
+use Rattle.clos_forms.specs.Part.{at_most_one, only_in}
+use Rattle.clos_forms.specs.declared.part.Context.TheVariants.{Plain}
 use Rattle.clos_syntax.specs.Lists.{list_in, the_one}
 use Rattle.clos_syntax.specs.Sections.{is_lambda_list_keyword, is_symbol_called, front, back, after, past}
 use Rattle.clos_syntax.specs.declared.lambda_list.Optional.{Optional}

@@ -2,12 +2,12 @@
 use Rattle.std.specs.Prelude.{List, Bool, true, false, not, codes, Option, Some, None, if◌then◌else◌}
 use Rattle.lisp_data.specs.Name.{Nam}
 use Rattle.lisp_data.specs.Datum.{Dat, integer, symbol, string, list, dotted, method, Dats, nil, cons}
-use Rattle.clos_syntax_core.specs.Binding.{each}
-use Rattle.clos_syntax_core.specs.Fault.{◌>>=◌}
-use Rattle.clos_syntax_core.specs.Grammar.{form_of, body_forms_of}
-use Rattle.clos_syntax_core.specs.Names.{is_called}
-use Rattle.clos_syntax_core.specs.Part.{only_in}
-use Rattle.clos_syntax_core.specs.declared.part.Context.TheVariants.{Plain, Method}
+use Rattle.clos_forms.specs.Binding.{each}
+use Rattle.clos_forms.specs.Fault.{◌>>=◌}
+use Rattle.clos_forms.specs.Grammar.{form_of, body_forms_of}
+use Rattle.clos_forms.specs.Names.{is_called}
+use Rattle.clos_forms.specs.Part.{only_in}
+use Rattle.clos_forms.specs.declared.part.Context.TheVariants.{Plain, Method}
 use Rattle.clos_syntax.specs.LambdaList.{parameter_in, with_optionals}
 use Rattle.clos_syntax.specs.Lists.{list_in}
 use Rattle.clos_syntax.specs.Sections.{is_symbol_called, front, back}

@@ -3,8 +3,8 @@ use Rattle.std.specs.Prelude.{ℕ, List, Bool, false, ◌&&◌, Option, Some, No
 use Rattle.std.specs.Str.{bytes_eq}
 use Rattle.lisp_data.specs.Name.{Nam}
 use Rattle.lisp_data.specs.Datum.{Dat, integer, symbol, string, list, dotted, method, Dats, nil, cons}
-use Rattle.clos_syntax_core.specs.Binding.{each}
-use Rattle.clos_syntax_core.specs.Fault.{◌>>=◌}
+use Rattle.clos_forms.specs.Binding.{each}
+use Rattle.clos_forms.specs.Fault.{◌>>=◌}
 use Rattle.clos_syntax.specs.Lists.{single}
 
 -- the keyword of these characters

@@ -2,14 +2,14 @@
 use Rattle.std.specs.Prelude.{List, [], ◌∷◌, ◌++◌, Bool, true, false, ◌&&◌, ◌||◌, codes, Option, Some, None, if◌then◌else◌}
 use Rattle.lisp_data.specs.Name.{Nam}
 use Rattle.lisp_data.specs.Datum.{Dat, integer, symbol, string, list, dotted, method, Dats, nil, cons}
-use Rattle.clos_syntax_core.specs.Binding.{each}
-use Rattle.clos_syntax_core.specs.Body.{is_string}
-use Rattle.clos_syntax_core.specs.Fault.{◌>>=◌}
-use Rattle.clos_syntax_core.specs.Form.{Frm}
-use Rattle.clos_syntax_core.specs.FunctionName.{symbol_in}
-use Rattle.clos_syntax_core.specs.Grammar.{form_of}
-use Rattle.clos_syntax_core.specs.declared.operator.FunctionName.TheVariants.{Setf}
-use Rattle.clos_syntax_core.specs.declared.part.Context.TheVariants.{Plain}
+use Rattle.clos_forms.specs.Binding.{each}
+use Rattle.clos_forms.specs.Body.{is_string}
+use Rattle.clos_forms.specs.Fault.{◌>>=◌}
+use Rattle.clos_forms.specs.Form.{Frm}
+use Rattle.clos_forms.specs.FunctionName.{symbol_in}
+use Rattle.clos_forms.specs.Grammar.{form_of}
+use Rattle.clos_forms.specs.declared.operator.FunctionName.TheVariants.{Setf}
+use Rattle.clos_forms.specs.declared.part.Context.TheVariants.{Plain}
 use Rattle.clos_syntax.specs.FunctionName.{method_function_in, method_symbol_in}
 use Rattle.clos_syntax.specs.Property.{is_key, values_of, value_in}
 use Rattle.clos_syntax.specs.declared.slot.Accessor.{Accessor}

@@ -2,10 +2,10 @@
 use Rattle.std.specs.Prelude.{Bool, true, false, ◌||◌, codes, Option, Some, None, if◌then◌else◌}
 use Rattle.lisp_data.specs.Name.{Nam}
 use Rattle.lisp_data.specs.Datum.{Dat, integer, symbol, string, list, dotted, method, Dats, nil, cons}
-use Rattle.clos_syntax_core.specs.Fault.{◌>>=◌}
-use Rattle.clos_syntax_core.specs.Form.{Frm}
-use Rattle.clos_syntax_core.specs.Names.{is_called}
-use Rattle.clos_syntax_core.specs.Part.{only_in}
+use Rattle.clos_forms.specs.Fault.{◌>>=◌}
+use Rattle.clos_forms.specs.Form.{Frm}
+use Rattle.clos_forms.specs.Names.{is_called}
+use Rattle.clos_forms.specs.Part.{only_in}
 use Rattle.clos_syntax.specs.Class.{class_in}
 use Rattle.clos_syntax.specs.Function.{function_in}
 use Rattle.clos_syntax.specs.FunctionName.{method_function_in}

@@ -1,13 +1,13 @@
 -- Global variables (HyperSpec 5.3 defvar, defparameter).
 use Rattle.std.specs.Prelude.{Bool, true, Option, Some, None, if◌then◌else◌}
 use Rattle.lisp_data.specs.Datum.{Dat, Dats, nil, cons}
-use Rattle.clos_syntax_core.specs.Body.{is_string}
-use Rattle.clos_syntax_core.specs.Fault.{◌>>=◌}
-use Rattle.clos_syntax_core.specs.Form.{Frm}
-use Rattle.clos_syntax_core.specs.FunctionName.{variable_in}
-use Rattle.clos_syntax_core.specs.Grammar.{form_of}
-use Rattle.clos_syntax_core.specs.Part.{at_most_one}
-use Rattle.clos_syntax_core.specs.declared.part.Context.TheVariants.{Plain}
+use Rattle.clos_forms.specs.Body.{is_string}
+use Rattle.clos_forms.specs.Fault.{◌>>=◌}
+use Rattle.clos_forms.specs.Form.{Frm}
+use Rattle.clos_forms.specs.FunctionName.{variable_in}
+use Rattle.clos_forms.specs.Grammar.{form_of}
+use Rattle.clos_forms.specs.Part.{at_most_one}
+use Rattle.clos_forms.specs.declared.part.Context.TheVariants.{Plain}
 use Rattle.clos_syntax.specs.declared.variable.Definer.{Definer}
 use Rattle.clos_syntax.specs.declared.variable.Definer.TheVariants.{DefVar, DefParameter}
 use Rattle.clos_syntax.specs.declared.variable.VariableDefinition.{VariableDefinition}

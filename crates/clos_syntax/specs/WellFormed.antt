@@ -1,9 +1,9 @@
 -- What holds of the forms of each top-level form that is read: they are well formed, and those of a method's body alone
 -- may call its next method.
 use Rattle.std.specs.Prelude.{◌≡◌, true, All, Option, Some, None, IfSome, ⊤}
-use Rattle.clos_syntax_core.specs.Form.{Frm}
-use Rattle.clos_syntax_core.specs.WellFormed.{is_well_formed, are_well_formed}
-use Rattle.clos_syntax_core.specs.declared.part.Context.TheVariants.{Plain, Method}
+use Rattle.clos_forms.specs.Form.{Frm}
+use Rattle.clos_forms.specs.WellFormed.{is_well_formed, are_well_formed}
+use Rattle.clos_forms.specs.declared.part.Context.TheVariants.{Plain, Method}
 use Rattle.clos_syntax.specs.declared.class.ClassDefinition.{ClassDefinition}
 use Rattle.clos_syntax.specs.declared.class.DefaultInitarg.{DefaultInitarg}
 use Rattle.clos_syntax.specs.declared.function.FunctionDefinition.{FunctionDefinition}

@@ -1,12 +1,12 @@
 //! Functions (HyperSpec 5.3 `defun`).
 ghost use Rattle.std.specs.Prelude.{◌≡◌};
 ghost use Rattle.lisp_data.specs.DatumView.{datum_of};
-ghost use Rattle.clos_syntax_core.specs.Fault.{Gives};
+ghost use Rattle.clos_forms.specs.Fault.{Gives};
 ghost use Rattle.clos_syntax.specs.Function.{function_in, function_with};
 
 use crate::function_name::parse_new_function;
 use crate::lambda_list::{LambdaList, parse_lambda_list};
-use clos_syntax_core::{Context, Forms, FunctionName, SyntaxFault, parse_body};
+use clos_forms::{Context, Forms, FunctionName, SyntaxFault, parse_body};
 use lisp_data::{Data, Datum};
 use std::alloc::Global;
 

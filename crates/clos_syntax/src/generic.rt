@@ -2,7 +2,7 @@
 ghost use Rattle.std.specs.Prelude.{◌≡◌, IfOk};
 ghost use Rattle.std.specs.Option.{option_copied};
 ghost use Rattle.lisp_data.specs.DatumView.{datum_of};
-ghost use Rattle.clos_syntax_core.specs.Fault.{Gives};
+ghost use Rattle.clos_forms.specs.Fault.{Gives};
 ghost use Rattle.clos_syntax.specs.Generic.{combination_in, combination_with, fits, generic_in, generic_option_in, generic_options_in, generic_with, method_option_in, orders, symbols_in};
 
 use crate::class::DocumentationOptions;
@@ -12,7 +12,7 @@ use crate::lambda_list::{LambdaList, parse_generic_lambda_list};
 use crate::method::{MethodDefinition, parse_method};
 use crate::property::{arguments, is_option};
 use crate::sequence::Sequence;
-use clos_syntax_core::{FunctionName, SyntaxFault, are_among, are_distinct, is_declaration};
+use clos_forms::{FunctionName, SyntaxFault, are_among, are_distinct, is_declaration};
 use lisp_data::{Data, Datum, Name};
 use std::alloc::{AllocError, Global};
 

@@ -2,9 +2,9 @@
 ghost use Rattle.std.specs.Prelude.{◌≡◌, Option};
 ghost use Rattle.lisp_data.specs.Datum.{Dat};
 ghost use Rattle.lisp_data.specs.DatumView.{datum_of};
-ghost use Rattle.clos_syntax_core.specs.Binding.{each};
-ghost use Rattle.clos_syntax_core.specs.Fault.{Gives};
-ghost use Rattle.clos_syntax_core.specs.FunctionName.{symbol_in};
+ghost use Rattle.clos_forms.specs.Binding.{each};
+ghost use Rattle.clos_forms.specs.Fault.{Gives};
+ghost use Rattle.clos_forms.specs.FunctionName.{symbol_in};
 ghost use Rattle.clos_syntax.specs.Property.{options_of, option_in, values_of, value_in};
 ghost use Rattle.clos_syntax.specs.Sections.{front};
 ghost use Rattle.clos_syntax.specs.Slot.{form_in};
@@ -12,7 +12,7 @@ ghost use Rattle.clos_syntax.specs.Slot.{form_in};
 use crate::property::{is_key, is_option};
 use crate::section::ends_section;
 use crate::sequence::Sequence;
-use clos_syntax_core::{Context, Form, SyntaxFault, parse_form, symbol_name};
+use clos_forms::{Context, Form, SyntaxFault, parse_form, symbol_name};
 use lisp_data::{Data, Datum, Name};
 use std::alloc::Global;
 

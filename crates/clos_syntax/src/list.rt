@@ -1,10 +1,10 @@
 //! Lists, where one is wanted.
 ghost use Rattle.std.specs.Prelude.{◌≡◌};
 ghost use Rattle.lisp_data.specs.DatumView.{datum_of};
-ghost use Rattle.clos_syntax_core.specs.Fault.{Gives};
+ghost use Rattle.clos_forms.specs.Fault.{Gives};
 ghost use Rattle.clos_syntax.specs.Lists.{list_in};
 
-use clos_syntax_core::{SyntaxFault, is_the};
+use clos_forms::{SyntaxFault, is_the};
 use lisp_data::{Data, Datum};
 
 /// The elements of a list, which may be written NIL.

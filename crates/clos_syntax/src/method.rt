@@ -2,7 +2,7 @@
 ghost use Rattle.std.specs.Prelude.{◌≡◌, IfOk, map};
 ghost use Rattle.lisp_data.specs.Datum.{nil};
 ghost use Rattle.lisp_data.specs.DatumView.{datum_of};
-ghost use Rattle.clos_syntax_core.specs.Fault.{Gives};
+ghost use Rattle.clos_forms.specs.Fault.{Gives};
 ghost use Rattle.clos_syntax.specs.Lists.{ahead};
 ghost use Rattle.clos_syntax.specs.Method.{eql_specializer, is_qualifier, listed_specializer, method_in, method_with, past_qualifiers, qualified, qualifiers_in, required_in, specialized, specialized_name, specializer_in, specializer_named, specializers_in, t_name};
 
@@ -11,7 +11,7 @@ use crate::lambda_list::{LambdaList, parse_parameter, parse_with_optionals};
 use crate::list::parse_list;
 use crate::section::{back, is_symbol_called};
 use crate::sequence::Sequence;
-use clos_syntax_core::{Context, Form, Forms, SyntaxFault, is_the, only, parse_body};
+use clos_forms::{Context, Form, Forms, SyntaxFault, is_the, only, parse_body};
 use lisp_data::{Data, Datum, Name};
 use std::alloc::{AllocError, Global};
 

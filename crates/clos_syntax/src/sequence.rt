@@ -1,9 +1,9 @@
 //! Things in order.
 ghost use Rattle.std.specs.Prelude.{◌≡◌, ◌++◌, ◌∷◌, [], OnOk, length};
 ghost use Rattle.clos_syntax.specs.Lists.{single, the_one};
-ghost use Rattle.clos_syntax_core.specs.Fault.{Gives};
+ghost use Rattle.clos_forms.specs.Fault.{Gives};
 
-use clos_syntax_core::SyntaxFault;
+use clos_forms::SyntaxFault;
 use std::alloc::{AllocError, Global};
 use std::marker::Model;
 

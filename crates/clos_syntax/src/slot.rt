@@ -1,14 +1,14 @@
 //! Slot specifiers (HyperSpec 7.7 `defclass`, 7.5.3).
 ghost use Rattle.std.specs.Prelude.{◌≡◌, ◌∷◌, [], Option, IfOk};
 ghost use Rattle.lisp_data.specs.DatumView.{datum_of};
-ghost use Rattle.clos_syntax_core.specs.Fault.{Gives};
+ghost use Rattle.clos_forms.specs.Fault.{Gives};
 ghost use Rattle.clos_syntax.specs.Slot.{accessor_in, accessors_at, accessors_in, allocation_in, anything, are_slot_options, documentation_in, is_slot_key, listed_slot, or_instance, reader_in, slot_from, slot_in, slot_with, writer_in};
 
 use crate::function_name::{parse_method_function, parse_method_symbol};
 use crate::kind::{Kind, PlainForms, Symbols, parse_symbol, parse_value, parse_values};
 use crate::property::is_key;
 use crate::sequence::Sequence;
-use clos_syntax_core::{Form, FunctionName, SyntaxFault, is_string};
+use clos_forms::{Form, FunctionName, SyntaxFault, is_string};
 use lisp_data::{Data, Datum, Name};
 use std::alloc::{AllocError, Global};
 

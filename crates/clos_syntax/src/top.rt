@@ -1,7 +1,7 @@
 //! From data to checked top-level forms (HyperSpec 3.2.3.1).
 ghost use Rattle.std.specs.Prelude.{◌≡◌, IfOk};
 ghost use Rattle.lisp_data.specs.DatumView.{datum_of};
-ghost use Rattle.clos_syntax_core.specs.Fault.{Gives};
+ghost use Rattle.clos_forms.specs.Fault.{Gives};
 ghost use Rattle.clos_syntax.specs.Laws.{AreSpecialized};
 ghost use Rattle.clos_syntax.specs.Top.{any_has_method, any_top, defmethod_in, expression, has_method, headed_top, in_package, named_top, other_top, top_of, two_forms_in};
 ghost use Rattle.clos_syntax.specs.WellFormed.{AreWellFormed};
@@ -13,7 +13,7 @@ use crate::generic::{GenericDefinition, parse_generic};
 use crate::kind::parse_plain_form;
 use crate::method::{MethodDefinition, parse_method};
 use crate::variable::{Definer, VariableDefinition, parse_variable};
-use clos_syntax_core::{Form, FunctionName, SyntaxFault, is_the, only};
+use clos_forms::{Form, FunctionName, SyntaxFault, is_the, only};
 use lisp_data::{Data, Datum, Name};
 use std::alloc::Global;
 

@@ -3,7 +3,7 @@ use Rattle.std.proofs.Common.{◌≡◌, ℕ, zero, suc, ◌==◌, List, Option,
 use Rattle.std.specs.Prelude.{⊤, nat_lt, ◌&&◌, if◌then◌else◌}
 use Rattle.lisp_data.specs.Datum.{Dat}
 use Rattle.lisp_data.specs.Name.{Nam}
-use Rattle.clos_syntax_core.specs.Form.{Frms}
+use Rattle.clos_forms.specs.Form.{Frms}
 use Rattle.clos_syntax.specs.Top.{top_of}
 use Rattle.clos_syntax.specs.declared.top.Top.{Top}
 use Rattle.clos_eval.specs.Class.{named}

@@ -3,7 +3,7 @@ use Rattle.std.proofs.Common.{◌≡◌, ◌≤◌, ◌-◌, arith, subst, ℕ, 
 use Rattle.std.specs.Prelude.{nat_lt, ◌&&◌, if◌then◌else◌}
 use Rattle.lisp_data.specs.Name.{Nam}
 use Rattle.lisp_data.specs.Datum.{Dat}
-use Rattle.clos_syntax_core.specs.Form.{Frms}
+use Rattle.clos_forms.specs.Form.{Frms}
 use Rattle.clos_eval.specs.Class.{named}
 use Rattle.clos_eval.specs.Generic.{function_named}
 use Rattle.clos_eval.specs.World.{State, seen}

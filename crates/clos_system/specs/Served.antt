@@ -4,9 +4,9 @@ use Rattle.std.specs.List.{list_any}
 use Rattle.lisp_data.specs.Name.{Nam}
 use Rattle.lisp_data.specs.Datum.{Dat, integer, symbol, string, list, dotted, method, Dats}
 use Rattle.lisp_data.specs.Datum as datum
-use Rattle.clos_syntax_core.specs.Fault.{◌>>=◌}
-use Rattle.clos_syntax_core.specs.declared.operator.FunctionName.{FunctionName}
-use Rattle.clos_syntax_core.specs.declared.operator.FunctionName.TheVariants.{Symbol, Setf}
+use Rattle.clos_forms.specs.Fault.{◌>>=◌}
+use Rattle.clos_forms.specs.declared.operator.FunctionName.{FunctionName}
+use Rattle.clos_forms.specs.declared.operator.FunctionName.TheVariants.{Symbol, Setf}
 use Rattle.clos_syntax.specs.Method.{t_name}
 use Rattle.clos_syntax.specs.declared.class.ClassDefinition.{ClassDefinition}
 use Rattle.clos_syntax.specs.declared.lambda_list.LambdaList.{LambdaList}
@@ -17,10 +17,10 @@ use Rattle.clos_syntax.specs.declared.top.Top.{Top}
 use Rattle.clos_syntax.specs.declared.top.Top.TheVariants.{DefClass, DefGeneric, DefMethod, Defun, DefVar, RemoveMethod, AddDependent, RemoveDependent, InPackage, Expr}
 use Rattle.clos_system.specs.declared.served.Served.{Served}
 use Rattle.clos_system.specs.declared.served.Served.TheVariants.{DefineClass, DefineMethod, Expression}
-use Rattle.clos_syntax_core.specs.Form.{Frm, form, Frms, nil, cons}
-use Rattle.clos_syntax_core.specs.Names.{is_called, is_one_of, functions, system_functions}
-use Rattle.clos_syntax_core.specs.Operator.{Opr}
-use Rattle.clos_syntax_core.specs.Operator as of
+use Rattle.clos_forms.specs.Form.{Frm, form, Frms, nil, cons}
+use Rattle.clos_forms.specs.Names.{is_called, is_one_of, functions, system_functions}
+use Rattle.clos_forms.specs.Operator.{Opr}
+use Rattle.clos_forms.specs.Operator as of
 use Rattle.clos_eval.specs.Callee.{callee_of}
 use Rattle.clos_eval.specs.declared.callee.Callee.{Callee}
 use Rattle.clos_eval.specs.declared.callee.Callee.TheVariants.{Output, Terpri, Primitive, MakeInstance, Defined}

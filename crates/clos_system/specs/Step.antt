@@ -4,10 +4,10 @@ use Rattle.std.specs.Str.{bytes_eq}
 use Rattle.lisp_data.specs.Name.{Nam}
 use Rattle.lisp_data.specs.Value.{class, method}
 use Rattle.lisp_data.specs.Datum.{Dat}
-use Rattle.clos_syntax_core.specs.Form.{Frms}
+use Rattle.clos_forms.specs.Form.{Frms}
 use Rattle.clos_eval.specs.Class.{named}
 use Rattle.clos_eval.specs.Generic.{function_named, specializers_of}
-use Rattle.clos_syntax_core.specs.Quotation.{name_value}
+use Rattle.clos_forms.specs.Quotation.{name_value}
 use Rattle.clos_syntax.specs.Top.{top_of}
 use Rattle.clos_syntax.specs.declared.top.Top.{Top}
 use Rattle.clos_system.specs.Served.{is_combination, served_of}

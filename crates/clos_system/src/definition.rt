@@ -14,7 +14,7 @@ use clos_eval::class::{Class, ClassIds, Superclasses, class_named};
 use clos_eval::condition::{ConditionKind, Stop, about_name, plain};
 use clos_eval::generic::{Generic, Method, MethodIds, Parameters, generic_named, method_numbered};
 use clos_eval::world::World;
-use clos_syntax_core::Forms;
+use clos_forms::Forms;
 use lisp_data::{ClassId, GenericId, MethodId, Name, Value};
 use std::alloc::{AllocError, Global};
 

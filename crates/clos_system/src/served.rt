@@ -3,17 +3,15 @@ ghost use Rattle.std.specs.Prelude.{◌≡◌, ◌&&◌, IfOk, Bool, List, map, 
 ghost use Rattle.std.specs.List.{list_any};
 ghost use Rattle.lisp_data.specs.Datum.{Dats, nil};
 ghost use Rattle.lisp_data.specs.DatumView.{datum_of};
-ghost use Rattle.clos_syntax_core.specs.Form.{Frm, Frms};
-ghost use Rattle.clos_syntax_core.specs.OperatorView.{operator_of};
+ghost use Rattle.clos_forms.specs.Form.{Frm, Frms};
+ghost use Rattle.clos_forms.specs.OperatorView.{operator_of};
 ghost use Rattle.clos_system.specs.Served.{are_served, at_most_one_name, calls, class_name, classes_named, is_combination, is_empty, is_eql, is_one, is_plain, is_served, requires_only, served_class, served_method, served_name, served_of, serves};
 
 use clos_eval::callee::{Callee, callee_named};
 use clos_eval::generic::Parameters;
+use clos_forms::{Form, Forms, FunctionName, Operator, is_function, is_system_function, is_the};
 use clos_syntax::{
     ClassDefinition, LambdaList, MethodDefinition, ParameterSpecializer, Sequence, Top,
-};
-use clos_syntax_core::{
-    Form, Forms, FunctionName, Operator, is_function, is_system_function, is_the,
 };
 use lisp_data::{Data, Datum, Name};
 use std::alloc::{AllocError, Global};

@@ -18,8 +18,8 @@ use clos_eval::eval::evaluate;
 use clos_eval::limits::Limits;
 use clos_eval::predefined::predefined_classes;
 use clos_eval::world::World;
+use clos_forms::SyntaxFault;
 use clos_syntax::{Top, parse_top};
-use clos_syntax_core::SyntaxFault;
 use lisp_data::{Datum, Value};
 use std::alloc::{AllocError, Global};
 

@@ -1,6 +1,6 @@
 use Rattle.std.proofs.Common.{◌≡◌, ◌∷◌, take, map}
 use Rattle.lisp_data.specs.ValueView.{value_of}
-use Rattle.clos_syntax_core.specs.Quotation.{name_value}
+use Rattle.clos_forms.specs.Quotation.{name_value}
 use Rattle.clos_eval.proofs.condition.about_call.Given as goal
 
 abbrev pub invariant-loop-argument : goal.invariant-loop-argument

@@ -1,6 +1,6 @@
 use Rattle.std.proofs.Common.{subst}
-use Rattle.clos_syntax_core.specs.Form.{parts_in}
-use Rattle.clos_syntax_core.specs.OperatorView.{operator_of}
+use Rattle.clos_forms.specs.Form.{parts_in}
+use Rattle.clos_forms.specs.OperatorView.{operator_of}
 use Rattle.clos_eval.specs.World.{seen}
 use Rattle.clos_eval.specs.Meaning.{meaning, operated}
 use Rattle.clos_eval.specs.Machine.{Leads, inside}

@@ -1,5 +1,5 @@
 use Rattle.std.proofs.Common.{◌≡◌, ℕ, length}
-use Rattle.clos_syntax_core.specs.Form.{Frms}
+use Rattle.clos_forms.specs.Form.{Frms}
 use Rattle.clos_eval.specs.World.{State, bound_as}
 use Rattle.clos_eval.specs.Meaning.{Eval, in_order}
 use Rattle.clos_eval.specs.declared.arguments.Context.{Context}

@@ -1,5 +1,5 @@
 use Rattle.std.proofs.Common.{◌≡◌, ◌≤◌}
-use Rattle.clos_syntax_core.specs.Form.{size_of_forms}
+use Rattle.clos_forms.specs.Form.{size_of_forms}
 use Rattle.clos_system.specs.Served.{are_served}
 use Rattle.clos_system.proofs.served.+served.Given as goal
 

@@ -1,5 +1,5 @@
 use Rattle.std.proofs.Common.{◌≡◌, ◌++◌, length, map}
-use Rattle.clos_syntax_core.specs.BoundView.{bound}
+use Rattle.clos_forms.specs.BoundView.{bound}
 use Rattle.clos_eval.proofs.locals.Plan.new.Given as goal
 
 abbrev pub invariant-loop-last : goal.invariant-loop-last

@@ -1,0 +1,93 @@
+-- How the logic stores a form: its nodes in a row, each after its parts.
+use Rattle.std.specs.Prelude.{◌≡◌, ◌⊎◌, List, [], ◌∷◌, ◌++◌, refl}
+use Rattle.std.specs.Coded.{Coded, code_by, coded⊎, coded_list}
+use Rattle.std.proofs.Common.{inl, inr, ◌∙◌, ap}
+use base.Stored.{coded_unit}
+use Rattle.clos_forms.specs.Form.{Frm, form, Frms, nil, cons}
+use Rattle.clos_forms.specs.Operator.{Opr, no_value}
+use Rattle.clos_forms.specs.OperatorCode.{operator_code}
+
+abbrev pub Token : Type 0
+Token = Opr ⊎ (Unit {0} ⊎ Unit {0})
+
+abbrev pub token_code : Coded Token
+token_code = coded⊎ operator_code (coded⊎ coded_unit coded_unit)
+
+abbrev a_nil : Token
+a_nil = inr (inl tt)
+
+abbrev a_cons : Token
+a_cons = inr (inr tt)
+
+abbrev mutual
+  pub tokens_of_form : Frm → List Token
+  tokens_of_form (form o parts) = tokens_of_forms parts ++ inl o ∷ []
+
+  pub tokens_of_forms : Frms → List Token
+  tokens_of_forms nil = a_nil ∷ []
+  tokens_of_forms (cons f fs) = tokens_of_form f ++ (tokens_of_forms fs ++ a_cons ∷ [])
+
+-- the forms and the lists read so far, the last one first
+abbrev Stacks : Type 0
+Stacks = List Frm × List Frms
+
+abbrev on_list : Opr → List Frm → List Frms → Stacks
+on_list o fs [] = (fs, [])
+on_list o fs (l ∷ ls) = (form o l ∷ fs, ls)
+
+abbrev on_both : List Frm → List Frms → Stacks
+on_both [] ls = ([], ls)
+on_both (f ∷ fs) [] = (f ∷ fs, [])
+on_both (f ∷ fs) (l ∷ ls) = (fs, cons f l ∷ ls)
+
+abbrev turn : Token → Stacks → Stacks
+turn (inl o) s = on_list o s.0 s.1
+turn (inr (inl u)) s = (s.0, nil ∷ s.1)
+turn (inr (inr u)) s = on_both s.0 s.1
+
+abbrev read : List Token → Stacks → Stacks
+read [] s = s
+read (t ∷ ts) s = read ts (turn t s)
+
+read-append : (a b : List Token) (s : Stacks) → read (a ++ b) s ≡ read b (read a s)
+read-append [] b s = refl
+read-append (t ∷ a) b s = read-append a b (turn t s)
+
+mutual
+  read_form : (f : Frm) (fs : List Frm) (ls : List Frms) → read (tokens_of_form f) (fs, ls) ≡ (f ∷ fs, ls)
+  read_form (form o l) fs ls =
+      read-append (tokens_of_forms l) (inl o ∷ []) (fs, ls) ∙ ap (read (inl o ∷ [])) (read_forms l fs ls)
+
+  read_forms : (l : Frms) (fs : List Frm) (ls : List Frms) → read (tokens_of_forms l) (fs, ls) ≡ (fs, l ∷ ls)
+  read_forms nil fs ls = refl
+  read_forms (cons f l) fs ls =
+      read-append (tokens_of_form f) (tokens_of_forms l ++ a_cons ∷ []) (fs, ls)
+      ∙ ap (read (tokens_of_forms l ++ a_cons ∷ [])) (read_form f fs ls)
+      ∙ read-append (tokens_of_forms l) (a_cons ∷ []) (f ∷ fs, ls)
+      ∙ ap (read (a_cons ∷ [])) (read_forms l (f ∷ fs) ls)
+
+abbrev first_form : List Frm → Frm
+first_form [] = form no_value nil
+first_form (f ∷ fs) = f
+
+abbrev first_list : List Frms → Frms
+first_list [] = nil
+first_list (l ∷ ls) = l
+
+abbrev form_from : List Token → Frm
+form_from ts = first_form (read ts ([], [])).0
+
+abbrev forms_from : List Token → Frms
+forms_from ts = first_list (read ts ([], [])).1
+
+pub form_from-tokens : (f : Frm) → form_from (tokens_of_form f) ≡ f
+form_from-tokens f = ap (λ (s : Stacks). first_form s.0) (read_form f [] [])
+
+pub forms_from-tokens : (l : Frms) → forms_from (tokens_of_forms l) ≡ l
+forms_from-tokens l = ap (λ (s : Stacks). first_list s.1) (read_forms l [] [])
+
+abbrev pub form_code : Coded Frm
+form_code = code_by (List Token) (coded_list token_code) tokens_of_form form_from form_from-tokens
+
+abbrev pub forms_code : Coded Frms
+forms_code = code_by (List Token) (coded_list token_code) tokens_of_forms forms_from forms_from-tokens

@@ -1,0 +1,141 @@
+-- How the logic stores an operator: by its kind, those of a kind that carries nothing by their number.
+use Rattle.std.specs.Prelude.{◌≡◌, ◌⊎◌, ℕ, zero, suc, Bool, List, [], ◌∷◌, refl}
+use Rattle.std.specs.Coded.{Coded, code_by, coded×, coded⊎, coded_bool, coded_list, coded_ℕ}
+use Rattle.std.proofs.Common.{inl, inr}
+use base.Stored.{coded_unit}
+use Rattle.lisp_data.specs.Name.{Nam}
+use Rattle.lisp_data.specs.NameCode.{name_code}
+use Rattle.lisp_data.specs.Print.{Called, by_symbol, by_setf}
+use Rattle.lisp_data.specs.Value.{Val}
+use Rattle.lisp_data.specs.ValueCode.{value_code}
+use Rattle.clos_forms.specs.Operator.{Bound, BoundSlot, Plc, variable_place, slot_value_place, call_place, Opr, constant, no_value, variable, function, if_form, cond, clause, when, unless, and_form, or_form, progn, prog1, let_form, let_in_order, setq, setf, incf, decf, place, dotimes, with_slots, call_next_method, next_method_p, call}
+
+abbrev pub bounds_code : Coded (List Bound)
+bounds_code =
+    coded_list (code_by (Nam × Bool) (coded× name_code coded_bool) (λ b. (b.name, b.has_init)) (λ p. record { name = p.0; has_init = p.1 }) (λ _. refl))
+
+abbrev pub bound_slots_code : Coded (List BoundSlot)
+bound_slots_code =
+    coded_list (code_by (Nam × Nam) (coded× name_code name_code) (λ b. (b.variable, b.slot)) (λ p. record { variable = p.0; slot = p.1 }) (λ _. refl))
+
+abbrev called_to : Called → Nam ⊎ Nam
+called_to (by_symbol n) = inl n
+called_to (by_setf n) = inr n
+
+abbrev called_from : Nam ⊎ Nam → Called
+called_from (inl n) = by_symbol n
+called_from (inr n) = by_setf n
+
+pub called_back : (c : Called) → called_from (called_to c) ≡ c
+called_back (by_symbol n) = refl
+called_back (by_setf n) = refl
+
+abbrev called_code : Coded Called
+called_code = code_by (Nam ⊎ Nam) (coded⊎ name_code name_code) called_to called_from called_back
+
+abbrev place_to : Plc → Nam ⊎ (Nam ⊎ Unit {0})
+place_to (variable_place n) = inl n
+place_to slot_value_place = inr (inr tt)
+place_to (call_place n) = inr (inl n)
+
+abbrev place_from : Nam ⊎ (Nam ⊎ Unit {0}) → Plc
+place_from (inl n) = variable_place n
+place_from (inr (inl n)) = call_place n
+place_from (inr (inr u)) = slot_value_place
+
+pub place_back : (p : Plc) → place_from (place_to p) ≡ p
+place_back (variable_place n) = refl
+place_back slot_value_place = refl
+place_back (call_place n) = refl
+
+abbrev place_code : Coded Plc
+place_code = code_by (Nam ⊎ (Nam ⊎ Unit {0})) (coded⊎ name_code (coded⊎ name_code coded_unit)) place_to place_from place_back
+
+abbrev Kind : Type 0
+Kind =
+    ℕ ⊎ (Val ⊎ (Nam ⊎ (Called ⊎ (List Bound ⊎ (List Bound ⊎ (List Nam ⊎ (Plc ⊎ ((Nam × Bool) ⊎ (List BoundSlot ⊎ Nam)))))))))
+
+abbrev kind_code : Coded Kind
+kind_code =
+    coded⊎ coded_ℕ (coded⊎ value_code (coded⊎ name_code (coded⊎ called_code (coded⊎ bounds_code (coded⊎ bounds_code (coded⊎ (coded_list name_code)
+    (coded⊎ place_code (coded⊎ (coded× name_code coded_bool) (coded⊎ bound_slots_code name_code)))))))))
+
+abbrev kind_of : Opr → Kind
+kind_of no_value = inl 0
+kind_of if_form = inl 1
+kind_of cond = inl 2
+kind_of clause = inl 3
+kind_of when = inl 4
+kind_of unless = inl 5
+kind_of and_form = inl 6
+kind_of or_form = inl 7
+kind_of progn = inl 8
+kind_of prog1 = inl 9
+kind_of setf = inl 10
+kind_of incf = inl 11
+kind_of decf = inl 12
+kind_of call_next_method = inl 13
+kind_of next_method_p = inl 14
+kind_of (constant v) = inr (inl v)
+kind_of (variable n) = inr (inr (inl n))
+kind_of (function c) = inr (inr (inr (inl c)))
+kind_of (let_form bs) = inr (inr (inr (inr (inl bs))))
+kind_of (let_in_order bs) = inr (inr (inr (inr (inr (inl bs)))))
+kind_of (setq ns) = inr (inr (inr (inr (inr (inr (inl ns))))))
+kind_of (place p) = inr (inr (inr (inr (inr (inr (inr (inl p)))))))
+kind_of (dotimes n b) = inr (inr (inr (inr (inr (inr (inr (inr (inl (n, b)))))))))
+kind_of (with_slots bs) = inr (inr (inr (inr (inr (inr (inr (inr (inr (inl bs)))))))))
+kind_of (call n) = inr (inr (inr (inr (inr (inr (inr (inr (inr (inr n)))))))))
+
+-- the operators that carry nothing, in the order of their numbers
+abbrev bare : List Opr
+bare =
+    no_value ∷ if_form ∷ cond ∷ clause ∷ when ∷ unless ∷ and_form ∷ or_form ∷ progn ∷ prog1 ∷ setf ∷ incf ∷ decf ∷ call_next_method ∷ next_method_p ∷ []
+
+abbrev numbered : List Opr → ℕ → Opr
+numbered [] n = no_value
+numbered (o ∷ os) zero = o
+numbered (o ∷ os) (suc n) = numbered os n
+
+abbrev of_kind : Kind → Opr
+of_kind (inl n) = numbered bare n
+of_kind (inr (inl v)) = constant v
+of_kind (inr (inr (inl n))) = variable n
+of_kind (inr (inr (inr (inl c)))) = function c
+of_kind (inr (inr (inr (inr (inl bs))))) = let_form bs
+of_kind (inr (inr (inr (inr (inr (inl bs)))))) = let_in_order bs
+of_kind (inr (inr (inr (inr (inr (inr (inl ns))))))) = setq ns
+of_kind (inr (inr (inr (inr (inr (inr (inr (inl p)))))))) = place p
+of_kind (inr (inr (inr (inr (inr (inr (inr (inr (inl p))))))))) = dotimes p.0 p.1
+of_kind (inr (inr (inr (inr (inr (inr (inr (inr (inr (inl bs)))))))))) = with_slots bs
+of_kind (inr (inr (inr (inr (inr (inr (inr (inr (inr (inr n)))))))))) = call n
+
+pub of_kind_back : (o : Opr) → of_kind (kind_of o) ≡ o
+of_kind_back no_value = refl
+of_kind_back if_form = refl
+of_kind_back cond = refl
+of_kind_back clause = refl
+of_kind_back when = refl
+of_kind_back unless = refl
+of_kind_back and_form = refl
+of_kind_back or_form = refl
+of_kind_back progn = refl
+of_kind_back prog1 = refl
+of_kind_back setf = refl
+of_kind_back incf = refl
+of_kind_back decf = refl
+of_kind_back call_next_method = refl
+of_kind_back next_method_p = refl
+of_kind_back (constant v) = refl
+of_kind_back (variable n) = refl
+of_kind_back (function c) = refl
+of_kind_back (let_form bs) = refl
+of_kind_back (let_in_order bs) = refl
+of_kind_back (setq ns) = refl
+of_kind_back (place p) = refl
+of_kind_back (dotimes n b) = refl
+of_kind_back (with_slots bs) = refl
+of_kind_back (call n) = refl
+
+abbrev pub operator_code : Coded Opr
+operator_code = code_by Kind kind_code kind_of of_kind of_kind_back
