@@ -11,6 +11,3 @@ pub use clos_eval::condition::ConditionKind;
 pub use clos_eval::limits::Limits;
 pub use session::{Reply, Session};
 pub use transcript::{RunFault, Summary, run};
-
-#[cfg(test)]
-mod tests;

@@ -9,8 +9,6 @@ pub mod laws;
 pub mod lists;
 pub mod predicates;
 pub mod primitive;
-#[cfg(test)]
-mod tests;
 pub mod width;
 
 pub use fault::PrimFault;

@@ -17,6 +17,3 @@ mod token;
 
 pub use fault::ReadFault;
 pub use read::{MAX_NESTING, read_form};
-
-#[cfg(test)]
-mod tests;

@@ -1,0 +1,11 @@
+//! Tests of the syntax and of sessions, over what their crates make public.
+#![tactic(auto)]
+
+#[cfg(test)]
+mod data;
+#[cfg(test)]
+mod forms;
+#[cfg(test)]
+mod session;
+#[cfg(test)]
+mod top;

@@ -1,0 +1,523 @@
+//! Sessions: what texts write, and readers and writers that fail.
+use crate::data::{datum, deepest, list_of};
+use clos_system::{Limits, Reply, RunFault, Session, Summary, run};
+use lisp_data::{Data, Datum, MAX_NESTING, MethodId, Value};
+use lisp_reader::ReadFault;
+use std::alloc::Global;
+use std::io::{self, Read, Write};
+use std::process::Abort;
+use std::str;
+use std::test::Fail;
+
+const VALUES: &str = r#"
+ ; nothing~
+(princ "a\"b\\c") (princ '("a" b)) => a"b\c(a B)
+(princ ''x) (princ ()) (princ :k) (princ -5) => (QUOTE X)NIL:K-5
+(defclass dog () () (:documentation "barks")) (princ (make-instance 'dog)) => #<DOG 1>
+(princ (make-instance 'standard-object)) => #<STANDARD-OBJECT 1>
+(defmethod f (x y) x) (princ (f (princ 1) (princ 2))) => 121
+(defmethod f (x) (princ x) (princ 2) 3) (princ (f 1)) => 123
+(defmethod g (x) x) (defmethod f (x) (g 2) x) (princ (f 1)) => 1
+(defmethod f ()) (princ (f)) => NIL
+(defmethod f (x) "only") (princ (f 1)) => only
+(defmethod f (x) (declare (ignore x)) "a" 1) (princ (f 2)) => 1
+(defmethod f (x) (declare (ignore x))) (princ (f 2)) => NIL
+(defmethod f (x) 1) (defmethod f (x) 2) (princ (f 0)) => 2
+echo: (princ "a") "a" => a~"a"~"a"~
+echo: (princ "~") '("a" :b) => ~"~"~("a" :B)~
+echo: x 1 => ; 2 (UNBOUND-VARIABLE X)~1~"#;
+
+const ANIMALS: &str = "(defclass animal () ()) (defclass dog (animal) ())
+(defmethod speak ((x animal)) 'noise) (defmethod speak ((x dog)) 'woof)
+";
+
+const SPEAKING: &str = "(princ (speak (make-instance 'dog))) => WOOF
+steps 12: (princ (speak (make-instance 'dog))) => WOOF
+steps 11: (princ (speak (make-instance 'dog))) => ; 29 (STEP-LIMIT)~
+echo: (princ (speak (make-instance 'dog))) => #<CLASS ANIMAL>~#<CLASS DOG>~#<METHOD SPEAK (ANIMAL)>~#<METHOD SPEAK (DOG)>~WOOF~WOOF~";
+
+const CLASSES: &str = "(defclass a () ()) (defclass b (a) ())";
+
+const ORDERS: &str =
+    "(defmethod f ((x a)) 1) (defmethod f ((x a)) 2) (princ (f (make-instance 'b))) => 2
+(defmethod f ((x b) (y a)) 1) (defmethod f ((x a) (y b)) 2)~(princ (f (make-instance 'b) (make-instance 'b))) => 1
+(defmethod f ((x a) (y b)) 2) (defmethod f ((x b) (y a)) 1)~(princ (f (make-instance 'b) (make-instance 'b))) => 1
+(defmethod f ((x b) y) 1) (defmethod f (x (y b)) 2) (princ (f (make-instance 'a) (make-instance 'b))) => 2
+(defmethod f (x) 0) (defmethod f ((x standard-object)) 1)~(princ (f 'a)) (princ (f (make-instance 'b))) (defmethod f ((x a)) 2) (princ (f (make-instance 'b))) => 012";
+
+const UNSUPPORTED: &str = "; 28 (UNSUPPORTED)~";
+
+const NOT_SERVED: &str = "(defvar x 1)
+(let ((x (princ 1))) x)
+(f (princ 1) (typep 1 'integer))
+(progn (princ 1) (cond (nil (setq x 1))))
+(defmethod f (x) (call-next-method))
+(initialize-instance (princ 1))
+(defgeneric f (x))
+(defclass a (b c) ())
+(defclass a (b) ())
+(defclass a (standard-object) ())
+(defclass a () (s))
+(defclass a () () (:default-initargs :s 1))
+(define-method-combination c)
+(defmethod f :before (x) x)
+(defmethod f ((x integer)) x)
+(defmethod f ((x (eql 1))) x)
+(defmethod f (x &rest y) x)
+(defmethod f (x) (setq x 1))
+(defmethod initialize-instance (x) x)
+(defclass a () ()) (defclass a () ()) (princ (make-instance 'a)) => ; 28 (UNSUPPORTED)~#<A 1>";
+
+const PROGRAM_ERROR: &str = "; 1 (PROGRAM-ERROR)~";
+
+const MALFORMED: &str = "(quote)
+(quote a b)
+(1 2)
+((f) (princ 1))
+(princ (defclass a () ()))
+(if (princ 1))
+(if 1 2 3 4)
+(progn (princ 1) (cond (nil (if))))
+(cond (princ 1) 5)
+(let ((x 1) (x 2)) x)
+(setq t (princ 1))
+(incf 5)
+(call-next-method)
+(defclass a)
+(defclass 5 () ())
+(defclass integer () ())
+(defclass t () ())
+(defmethod f)
+(defmethod car ((x a)) 1)
+(defmethod print-object (x) 1)
+(defmethod f (x x) 1)
+(defmethod f (t) 1)
+(defmethod f (:k) 1)";
+
+const SEQUENCES: &str = "(princ (progn)) => NIL
+(princ (progn (princ 1) 2)) => 12
+(princ (prog1 (princ 1) (princ 2) (princ 3))) => 1231
+(princ (multiple-value-prog1 1 2)) => 1
+(princ (if nil (princ 1) 2)) => 2
+(princ (if 0 1 (princ 2))) => 1
+(princ (if () 1)) => NIL
+(princ (when (princ 1) (princ 2) 3)) => 123
+(princ (when nil (princ 1))) => NIL
+(princ (when 1)) => NIL
+(princ (unless nil (princ 1) 2)) => 12
+(princ (unless 1 (princ 2))) => NIL
+(princ (and)) (princ (or)) => TNIL
+(princ (and (princ 1) nil (princ 2))) => 1NIL
+(princ (and 1 2)) => 2
+(princ (or nil (princ 1) (princ 2))) => 11
+(princ (or nil nil)) => NIL
+(princ (cond (nil (princ 1)) (2) (3))) => 2
+(princ (cond ((null 1) 1) (t (princ 2) 3))) => 23
+(princ (cond (nil 1))) => NIL
+(princ (cond)) => NIL
+echo: (progn (princ 1) (princ 2)) => 12~2~
+steps 7: (progn (princ 1) (princ 2)) => 12
+steps 6: (progn (princ 1) (princ 2)) => 1~; 29 (STEP-LIMIT)~
+steps 5: (princ (if nil 1 2)) => 2
+steps 4: (princ (if nil 1 2)) => ; 29 (STEP-LIMIT)~
+depth 3: (princ (if nil 1 2)) => 2
+depth 2: (princ (if nil 1 2)) => ; 30 (DEPTH-LIMIT)~";
+
+const VARIABLES: &str = "(princ (let* ((a 1) (b (+ a 1)) c (d)) (list a b c d))) => (1 2 NIL NIL)
+(princ (let* ((a 1) (a (+ a 1))) a)) => 2
+(princ (let* () 1 2)) (princ (let* ((a 1)))) => 2NIL
+(defmethod f (x) (let* ((x (+ x 1)) (y x)) (princ (list x y))) (princ x)) (f 1) => (2 2)1
+(defmethod g (y) (+ y 1)) (defmethod f (x) (let* ((y (g x))) (g y) (princ (list x y)))) (f 1) => (1 2)
+(princ (let* ((a 1)) (let* ((b 2)) (princ b)) a)) => 21
+(progn (let* ((x 1)) x) x)
+(let* ((y x) (x 1)) y)
+(defmethod g () x) (defmethod f (x) (g)) (f 1)
+(defmethod g () x) (let* ((x 1)) (g))
+steps 5: (let* ((a 1) b) (princ a)) => 1
+steps 4: (let* ((a 1) b) (princ a)) => ; 29 (STEP-LIMIT)~";
+
+const FUNCTIONS: &str =
+    r#"(princ (list (floor -7 2) (truncate -7 2) (mod -7 2) (rem -7 2))) => (-4 -3 1 -1)
+(princ (append '(1 2) (list* 3 '(4)))) => (1 2 3 4)
+(princ (+ (length "ab") (* 2 3))) => 8
+(princ (list (eq 'a 'a) (equal '(1) '(1)))) => (T T)
+(prin1 "a") (print 'b) (terpri) => "a"~B ~
+(princ (terpri)) (princ (prin1 1)) => ~NIL11
+(defmethod twice (x) (* 2 x)) (princ (twice (twice 3))) => 12
+(floor 1 0) => ; 6 (DIVISION-BY-ZERO)~
+(+ 9223372036854775807 1) => ; 5 (INTEGER-RANGE)~
+(car (princ 5)) => 5~; 4 (TYPE-ERROR 5)~
+(progn (princ 1) (car)) => 1~; 1 (PROGRAM-ERROR)~
+(princ) => ; 1 (PROGRAM-ERROR)~
+(princ 1 2) => ; 1 (PROGRAM-ERROR)~
+(terpri 1) => ; 1 (PROGRAM-ERROR)~
+(eql '(1) '(1)) => ; 28 (UNSUPPORTED)~
+(cons 1 2) => ; 28 (UNSUPPORTED)~
+steps 2: (print 1) => ; 29 (STEP-LIMIT)~
+steps 3: (print 1) => ~1 "#;
+
+const CONDITIONS: &str = r#"x => ; 2 (UNBOUND-VARIABLE X)~
+(defmethod g (y) x) (defmethod f (x) (g x)) (f 1) => ; 2 (UNBOUND-VARIABLE X)~
+(nope (princ 1)) => 1~; 3 (UNDEFINED-FUNCTION NOPE)~
+(princ "~") (nope 1) => ~; 3 (UNDEFINED-FUNCTION NOPE)~
+(make-instance 5) => ; 4 (TYPE-ERROR 5)~
+(make-instance "a") => ; 4 (TYPE-ERROR "a")~
+(make-instance 'nope) => ; 7 (UNDEFINED-CLASS NOPE)~
+(make-instance ()) => ; 7 (UNDEFINED-CLASS NIL)~
+(defmethod f ((x nope)) 1) => ; 7 (UNDEFINED-CLASS NOPE)~
+(defmethod f (x) 1) (defmethod f (x y) 1) => ; 12 (LAMBDA-LIST-CONGRUENCE F)~
+(defclass a () ()) (defmethod f ((x a) y) 1) (f 1 "b") => ; 14 (NO-APPLICABLE-METHOD F 1 "b")~
+(defmethod f (x) 1) (f) => ; 1 (PROGRAM-ERROR)~
+(defmethod f () 1) (f (princ 1)) => 1~; 1 (PROGRAM-ERROR)~"#;
+
+const TABLE_LIMIT: &str = "; 31 (TABLE-LIMIT)~";
+
+const FULL: &str = "tables 1: (defclass a () ()) (make-instance 'a) (make-instance 'a)
+tables 1: (defclass a () ()) (defclass b () ())
+tables 1: (defmethod f (x) x) (defmethod f (x) 2) (defmethod g (x) x)
+methods 1: (defmethod f (x) x) (defmethod f (x) 2)
+methods 1: (defmethod f (x) x) (defmethod g (x) 2)";
+
+const LIMITED: &str = r#"steps 3: (princ 1) => 1
+steps 2: (princ 1) => ; 29 (STEP-LIMIT)~
+steps 0: (defclass a () ()) => ; 29 (STEP-LIMIT)~
+steps 1: (defclass a () ())
+steps 0: (defmethod f () 1) => ; 29 (STEP-LIMIT)~
+steps 4: (defmethod f (x) "a" 1) (f 2)
+steps 3: (defmethod f (x) "a" 1) (f 2) => ; 29 (STEP-LIMIT)~
+depth 2: (princ 1) => 1
+depth 1: (princ 1) => ; 30 (DEPTH-LIMIT)~"#;
+
+/// A method that calls itself without end.
+const ENDLESS: &str = "(defclass a () ()) (defmethod f ((x a)) (f x)) (f (make-instance 'a)) ";
+
+const AFTER_IT: &str = "(princ (make-instance 'a))
+depth 4000: (princ (make-instance 'a))
+depth 1000000: (princ (make-instance 'a))";
+
+/// The limits of a session but for those that a word and a number set.
+fn limits(setting: &str) -> Limits {
+    let mut limits = Limits::default();
+    let (name, number) = setting.split_once(' ').unwrap_or((setting, "0"));
+    let number = number.parse().unwrap_or(0);
+    match name {
+        "steps" => limits.steps = number,
+        "depth" => limits.depth = number,
+        "methods" => limits.methods = number,
+        "tables" => {
+            limits.classes = number;
+            limits.generics = number;
+            limits.instances = number;
+        }
+        _ => {}
+    }
+    limits
+}
+
+/// What a run of this text in a session with these limits writes, and how its forms ended.
+fn transcript(
+    alloc: Global,
+    limits: Limits,
+    text: &str,
+    echo: bool,
+) -> Result<(Vec<u8>, Summary), Fail> {
+    let mut session = Session::new(alloc, limits)?;
+    let mut source = text.as_bytes();
+    let mut output = Vec::new(alloc);
+    let summary = run(alloc, &mut session, &mut source, &mut output, echo)?;
+    Ok((output, summary))
+}
+
+/// Asserts what a text writes in a session of this setting, and that it has a condition where that is told.
+fn writes(
+    rt: &impl Abort,
+    alloc: Global,
+    setting: &str,
+    text: &str,
+    output: &str,
+) -> Result<(), Fail> {
+    let (written, summary) = transcript(alloc, limits(setting), text, setting == "echo")?;
+    assert_eq!(rt;
+        str::from_utf8(written.as_slice())?,
+        output,
+        "written by {text}"
+    );
+    assert_eq!(rt;
+        summary.conditions,
+        u64::from(output.contains("; ")),
+        "conditions of {text}"
+    );
+    assert_eq!(rt; summary.storages, 0, "refused memory in {text}");
+    Ok(())
+}
+
+/// Asserts what each text of a table writes after those before it, or else `otherwise`.
+/// A row is `SETTING: TEXT => OUTPUT`, in which `~` is a new line.
+fn all_write(
+    rt: &impl Abort,
+    alloc: Global,
+    before: &str,
+    table: &str,
+    otherwise: &str,
+) -> Result<(), Fail> {
+    for row in table.split('\n') {
+        let (setting, case) = row.split_once(": ").unwrap_or(("", row));
+        let (text, output) = case.split_once(" => ").unwrap_or((case, otherwise));
+        let text = format!(in alloc; "{before}{text}")?.replace(alloc, '~', "\n")?;
+        let output = output.replace(alloc, '~', "\n")?;
+        writes(rt, alloc, setting, text.as_str(), output.as_str())?;
+    }
+    Ok(())
+}
+
+#[test]
+fn a_call_of_the_most_specific_method(rt: HostRuntime) -> Result<(), Fail> {
+    all_write(&rt, rt.alloc(), ANIMALS, SPEAKING, "")
+}
+
+#[test]
+fn what_forms_write(rt: HostRuntime) -> Result<(), Fail> {
+    all_write(&rt, rt.alloc(), "", VALUES, "")
+}
+
+#[test]
+fn the_order_of_methods(rt: HostRuntime) -> Result<(), Fail> {
+    all_write(&rt, rt.alloc(), CLASSES, ORDERS, "")
+}
+
+#[test]
+fn forms_that_are_not_served(rt: HostRuntime) -> Result<(), Fail> {
+    all_write(&rt, rt.alloc(), "", NOT_SERVED, UNSUPPORTED)
+}
+
+#[test]
+fn malformed_forms(rt: HostRuntime) -> Result<(), Fail> {
+    all_write(&rt, rt.alloc(), "", MALFORMED, PROGRAM_ERROR)
+}
+
+#[test]
+fn forms_one_after_another(rt: HostRuntime) -> Result<(), Fail> {
+    all_write(&rt, rt.alloc(), "", SEQUENCES, "")
+}
+
+#[test]
+fn variables(rt: HostRuntime) -> Result<(), Fail> {
+    all_write(&rt, rt.alloc(), "", VARIABLES, "; 2 (UNBOUND-VARIABLE X)~")
+}
+
+#[test]
+fn functions_of_the_language(rt: HostRuntime) -> Result<(), Fail> {
+    all_write(&rt, rt.alloc(), "", FUNCTIONS, "")
+}
+
+#[test]
+fn conditions(rt: HostRuntime) -> Result<(), Fail> {
+    all_write(&rt, rt.alloc(), "", CONDITIONS, "")
+}
+
+#[test]
+fn full_tables(rt: HostRuntime) -> Result<(), Fail> {
+    all_write(&rt, rt.alloc(), "", FULL, TABLE_LIMIT)
+}
+
+#[test]
+fn steps_and_depth(rt: HostRuntime) -> Result<(), Fail> {
+    all_write(&rt, rt.alloc(), "", LIMITED, "")?;
+    all_write(
+        &rt,
+        rt.alloc(),
+        ENDLESS,
+        AFTER_IT,
+        "; 30 (DEPTH-LIMIT)~#<A 2>",
+    )
+}
+
+#[test]
+fn the_count_of_forms(rt: HostRuntime) -> Result<(), Fail> {
+    let text = format!(in rt.alloc(); "{ANIMALS}(princ (speak (make-instance 'dog)))")?;
+    let (_, summary) = transcript(rt.alloc(), Limits::default(), text.as_str(), false)?;
+    let all = Summary {
+        forms: 5,
+        conditions: 0,
+        storages: 0,
+    };
+    assert_eq!(rt; summary, all);
+    Ok(())
+}
+
+/// The fault with which a run of a text ends, and what it wrote before.
+fn fault(alloc: Global, text: &[u8], output: &mut Vec<u8>) -> Result<Option<RunFault>, Fail> {
+    let mut session = Session::new(alloc, Limits::default())?;
+    let mut source = text;
+    match run(alloc, &mut session, &mut source, output, false) {
+        Ok(_) => Ok(None),
+        Err(fault) => Ok(Some(fault)),
+    }
+}
+
+#[test]
+fn texts_that_can_not_be_read(rt: HostRuntime) -> Result<(), Fail> {
+    let alloc = rt.alloc();
+    let mut output = Vec::new(alloc);
+    let ended = fault(alloc, b"(princ 1) (defclass a", &mut output)?;
+    assert!(rt; matches!(ended, Some(RunFault::Reader(ReadFault::EndInside(10)))));
+    assert_eq!(rt; output.as_slice(), b"1".as_slice());
+    let ended = fault(alloc, &[b'('; 201], &mut output)?;
+    assert!(rt; matches!(ended, Some(RunFault::Reader(ReadFault::TooDeep(200)))));
+    Ok(())
+}
+
+#[test]
+fn the_longest_source(rt: HostRuntime) -> Result<(), Fail> {
+    let alloc = rt.alloc();
+    let mut output = Vec::new(alloc);
+    let mut blanks = vec![in alloc; b' '; 16_777_216]?;
+    let ended = fault(alloc, blanks.as_slice(), &mut output)?;
+    assert!(rt; matches!(ended, None));
+    blanks.push(b' ')?;
+    let ended = fault(alloc, blanks.as_slice(), &mut output)?;
+    assert!(rt; matches!(ended, Some(RunFault::TooLong)));
+    assert_eq!(rt; output.len(), 0);
+    Ok(())
+}
+
+/// So many reads and writes succeed. A read gives a form.
+#[derive(Drop)]
+struct Failing {
+    left: u64,
+}
+
+impl Read for Failing {
+    fn read(&mut self, buf: &mut [u8]) -> io::Result<usize> {
+        if self.left == 0 || buf.len() < 9 {
+            return Err(io::Error::from(io::ErrorKind::Other));
+        }
+        self.left -= 1;
+        buf[..9].copy_from_slice(b"(princ 1)");
+        Ok(9)
+    }
+}
+
+impl Write for Failing {
+    fn write(&mut self, buf: &[u8]) -> io::Result<usize> {
+        if self.left == 0 {
+            return Err(io::Error::from(io::ErrorKind::Other));
+        }
+        self.left -= 1;
+        Ok(buf.len())
+    }
+
+    fn flush(&mut self) -> io::Result<()> {
+        Ok(())
+    }
+}
+
+/// So many blanks, one at a read.
+#[derive(Drop)]
+struct OneByOne {
+    left: u64,
+}
+
+impl Read for OneByOne {
+    fn read(&mut self, buf: &mut [u8]) -> io::Result<usize> {
+        if self.left == 0 || buf.is_empty() {
+            return Ok(0);
+        }
+        self.left -= 1;
+        buf[0] = b' ';
+        Ok(1)
+    }
+}
+
+#[test]
+fn the_longest_source_byte_by_byte(rt: HostRuntime) -> Result<(), Fail> {
+    let alloc = rt.alloc();
+    let mut session = Session::new(alloc, Limits::default())?;
+    let mut output = Vec::new(alloc);
+    let mut longest = OneByOne { left: 16_777_216 };
+    let summary = run(alloc, &mut session, &mut longest, &mut output, false)?;
+    assert_eq!(rt; summary.forms, 0);
+    Ok(())
+}
+
+#[test]
+fn readers_that_fail(rt: HostRuntime) -> Result<(), Fail> {
+    let alloc = rt.alloc();
+    for left in [0, 1, 2] {
+        let mut session = Session::new(alloc, Limits::default())?;
+        let mut output = Vec::new(alloc);
+        let ended = run(
+            alloc,
+            &mut session,
+            &mut Failing { left },
+            &mut output,
+            false,
+        );
+        assert!(rt; matches!(ended, Err(RunFault::Read)), "after {left} reads");
+        assert_eq!(rt; output.len(), 0);
+        assert_eq!(rt; session.written().len(), 0);
+    }
+    Ok(())
+}
+
+#[test]
+fn writers_that_fail(rt: HostRuntime) -> Result<(), Fail> {
+    let alloc = rt.alloc();
+    for (left, written) in [(0, "1"), (1, "12"), (2, "123")] {
+        let mut session = Session::new(alloc, Limits::default())?;
+        let mut source = b"(princ 1) (defclass a () ()) (princ 2) (princ 3)".as_slice();
+        let ended = run(
+            alloc,
+            &mut session,
+            &mut source,
+            &mut Failing { left },
+            false,
+        );
+        assert!(rt;
+            matches!(ended, Err(RunFault::Write)),
+            "after {left} writes"
+        );
+        assert_eq!(rt; str::from_utf8(session.written())?, written);
+    }
+    Ok(())
+}
+
+/// The number of the condition that ends a form, or 0.
+fn condition(session: &mut Session, datum: &Datum) -> u64 {
+    match session.submit(datum) {
+        Reply::Condition { number, items: _ } => number,
+        _ => 0,
+    }
+}
+
+#[test]
+fn submitted_data(rt: HostRuntime) -> Result<(), Fail> {
+    let alloc = rt.alloc();
+    let mut session = Session::new(alloc, Limits::default())?;
+    let value = session.submit(&datum(alloc, "(princ 1)")?);
+    assert!(rt; matches!(value, Reply::Value(Value::Int(1))));
+    assert_eq!(rt; session.written(), b"1".as_slice());
+    assert_eq!(rt; condition(&mut session, &datum(alloc, "(1 . 2)")?), 1);
+    assert_eq!(rt; condition(&mut session, &datum(alloc, "'(1 . 2)")?), 28);
+    let method = list_of(alloc, "QUOTE", Datum::Method(MethodId(0)), Data::new())?;
+    assert_eq!(rt; condition(&mut session, &method), 1);
+    let nested = list_of(alloc, "QUOTE", method, Data::new())?;
+    assert_eq!(rt; condition(&mut session, &nested), 1);
+    Ok(())
+}
+
+#[test]
+fn the_deepest_datum(rt: HostRuntime) -> Result<(), Fail> {
+    let alloc = rt.alloc();
+    let mut session = Session::new(alloc, Limits::default())?;
+    let quoted = deepest(alloc, "QUOTE")?;
+    let call = deepest(alloc, "F")?;
+    assert_eq!(rt;
+        (quoted.nesting(), call.nesting()),
+        (MAX_NESTING, MAX_NESTING)
+    );
+    let value = session.submit(&quoted);
+    assert!(rt; matches!(value, Reply::Value(Value::List(_))));
+    assert_eq!(rt; condition(&mut session, &call), 30);
+    Ok(())
+}
