@@ -1,7 +1,7 @@
 -- What the program does where no file is named: it runs its input.
 use Rattle.std.specs.Prelude.{◌≡◌, ◌⊎◌, ℕ, nat_lt, ◌||◌, List, Bool, Option, if◌then◌else◌}
 use Rattle.std.specs.Io.KnownBytes.{Keeps}
-use Rattle.clos_eval.specs.World.{State}
+use Rattle.clos_world.specs.World.{State}
 use Rattle.clos_system.specs.Transcript.{Finishes, OverText, RunFaults}
 use Rattle.clos_system.specs.declared.transcript.RunFault.{RunFault}
 use Rattle.clos_system.specs.declared.transcript.Summary.{Summary}

@@ -1,7 +1,7 @@
 //! Running files, one after the other, and what the program says of a fault.
 ghost use Rattle.std.specs.Prelude.{◌≡◌, ◌⊎◌, [], IfOk, IfErr, MatchResult};
 ghost use Rattle.std.specs.Io.KnownBytes.{Keeps};
-ghost use Rattle.clos_eval.specs.Limits.{standard};
+ghost use Rattle.clos_world.specs.Limits.{standard};
 ghost use Rattle.clos_system.specs.Session.{state_of};
 ghost use Rattle.clos.specs.Program.{Failed, Ran, RunsInput, fault_status, status_of};
 

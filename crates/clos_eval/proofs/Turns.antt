@@ -1,40 +1,34 @@
 -- Outcomes through the levels of the machine.
-use Rattle.std.proofs.Common.{◌≡◌, ℕ, arith, Result, Ok, Err, List, [], ◌∷◌, Option, Some, None, refl, ap, sym, ◌∙◌}
-use Rattle.clos_eval.specs.World.{State, unbound}
+use Rattle.std.proofs.Common.{◌≡◌, ℕ, arith, Result, Ok, Err, List, [], ◌∷◌, Option, Some, None, refl, ap, sym, subst, ◌∙◌}
+use Rattle.lisp_data.specs.Value.{Val}
 use Rattle.clos_forms.specs.Form.{Frms, nil, cons}
-use Rattle.clos_eval.specs.Meaning.{Run, Eval, Stopped, meaning, closed, method_run, sequence, while_true, until_true, going}
-use Rattle.clos_eval.specs.declared.machine.Control.TheVariants.{Progn, And, Or}
-use Rattle.clos_eval.specs.Machine.{at, below, passed, resume, inside, Grows, Leads}
-use Rattle.clos_eval.specs.declared.condition.Stop.{Stop}
-use Rattle.clos_eval.specs.declared.condition.Stop.TheVariants.{Refused, Storage}
-use Rattle.clos_eval.specs.declared.machine.Doing.{Doing}
+use Rattle.clos_world.specs.World.{State, Local, bound_as, unbound}
+use Rattle.clos_world.specs.declared.condition.Condition.{Condition}
+use Rattle.clos_world.specs.declared.condition.ConditionKind.TheVariants.{ProgramError}
+use Rattle.clos_world.specs.declared.condition.Stop.{Stop}
+use Rattle.clos_world.specs.declared.condition.Stop.TheVariants.{Refused, Storage}
+use Rattle.clos_world.specs.declared.generic.Method.{Method}
+use Rattle.clos_eval.specs.Calls.{method_run}
+use Rattle.clos_eval.specs.Control.{sequence, while_true, until_true, going}
+use Rattle.clos_eval.specs.Machine.{at, below, after, resume, inside, Grows, Leads}
+use Rattle.clos_eval.specs.Meaning.{meaning, closed}
+use Rattle.clos_eval.specs.Outcome.{Out, Run, Eval, Gave, Stopped, then_do, gave}
 use Rattle.clos_eval.specs.declared.arguments.Context.{Context}
-use Rattle.clos_eval.specs.declared.condition.Condition.{Condition}
+use Rattle.clos_eval.specs.declared.machine.Control.TheVariants.{Progn, And, Or}
+use Rattle.clos_eval.specs.declared.machine.Doing.{Doing}
 use Rattle.clos_eval.specs.declared.machine.Frame.{Frame}
-use Rattle.clos_eval.specs.declared.machine.Frame.TheVariants.{Rest, Keep, Clause, Collect, Body, Scope, InOrder, Known, Passing}
 use Rattle.clos_eval.specs.declared.machine.Level.{Level}
 use Rattle.clos_eval.specs.declared.machine.Machine.{Machine}
-use Rattle.clos_eval.specs.declared.generic.Method.{Method}
-use Rattle.clos_eval.specs.declared.condition.ConditionKind.TheVariants.{ProgramError}
-use Rattle.lisp_data.specs.Value.{Val}
-
--- a condition passes through each frame
-passed_stopped : (ev : Eval) (env : Context) (f : Frame) (c : Condition) (w : State) (s : ℕ) → passed ev env f (Stopped c w s) ≡ Stopped c w s
-passed_stopped ev env (Rest d fs) c w s = refl
-passed_stopped ev env (Keep fs v) c w s = refl
-passed_stopped ev env (Clause fs cs) c w s = refl
-passed_stopped ev env (Collect n fs vs) c w s = refl
-passed_stopped ev env (Body fs saved locals) c w s = refl
-passed_stopped ev env (Scope outer rest) c w s = refl
-passed_stopped ev env (InOrder outer name plan forms) c w s = refl
-passed_stopped ev env (Known saved) c w s = refl
-passed_stopped ev env Passing c w s = refl
 
 -- a condition passes through all levels
 pub stopped_through : (ls : List Level) (env : Context) (c : Condition) (w : State) (s : ℕ) → closed (resume ls env (Stopped c w s)) ≡ Stopped c (unbound w) s
 stopped_through [] env c w s = refl
-stopped_through (l ∷ ls) env c w s =
-    ap (λ o. closed (resume ls (below env l.frame) o)) (passed_stopped (meaning l.room) env l.frame c w s) ∙ stopped_through ls (below env l.frame) c w s
+stopped_through (l ∷ ls) env c w s = stopped_through ls (below env l.frame) c w s
+
+-- what does nothing more with a value
+pub then_gave : (o : Out) → then_do o gave ≡ o
+then_gave (Gave v w s) = refl
+then_gave (Stopped c w s) = refl
 
 -- there is no such method
 pub no_method : (m : Machine) (ev : Eval) (vs : List Val) (o : Option Method) (c : Condition) (w : State) (t : ℕ) → None ≡ o → c ≡ record { kind = ProgramError; items = [] }
@@ -42,10 +36,26 @@ pub no_method : (m : Machine) (ev : Eval) (vs : List Val) (o : Option Method) (c
 no_method m ev vs None c w t e k = stopped_through m.levels m.context (record { kind = ProgramError; items = [] }) (at m w) t ∙ ap (λ x. Stopped x (unbound w) t) (sym k)
 no_method m ev vs (Some x) c w t e k = cc
 
--- what adds at most 2 adds at most 3
-pub grows : (old : List Level) (r : Result Doing Stop) (m : Machine) → Grows 2 old r m → Grows 3 old r m
-grows old (Ok d) m h = omega (arith, h)
-grows old (Err e) m h = tt
+-- what adds little adds no more than something larger
+pub grows_6_8 : (old : List Level) (r : Result Doing Stop) (m : Machine) → Grows 6 old r m → Grows 8 old r m
+grows_6_8 old (Ok d) m h = omega (arith, h)
+grows_6_8 old (Err e) m h = tt
+
+pub grows_5_7 : (old : List Level) (r : Result Doing Stop) (m : Machine) → Grows 5 old r m → Grows 7 old r m
+grows_5_7 old (Ok d) m h = omega (arith, h)
+grows_5_7 old (Err e) m h = tt
+
+pub grows_6_7 : (old : List Level) (r : Result Doing Stop) (m : Machine) → Grows 6 old r m → Grows 7 old r m
+grows_6_7 old (Ok d) m h = omega (arith, h)
+grows_6_7 old (Err e) m h = tt
+
+pub grows_4_7 : (old : List Level) (r : Result Doing Stop) (m : Machine) → Grows 4 old r m → Grows 7 old r m
+grows_4_7 old (Ok d) m h = omega (arith, h)
+grows_4_7 old (Err e) m h = tt
+
+pub grows_5_6 : (old : List Level) (r : Result Doing Stop) (m : Machine) → Grows 5 old r m → Grows 6 old r m
+grows_5_6 old (Ok d) m h = omega (arith, h)
+grows_5_6 old (Err e) m h = tt
 
 -- how forms go on, in the words of the machine
 pub going_progn : (ev : Eval) (env : Context) (fs : Frms) (v : Val) (w : State) (t : ℕ) → going ev env Progn fs v w t ≡ sequence ev env fs v w t
@@ -65,3 +75,10 @@ pub leads_same : (run run' : Run) (w : State) (r : Result Doing Stop) (m : Machi
 leads_same run run' w (Ok d) m e h = λ t. h t ∙ e t
 leads_same run run' w (Err (Refused c)) m e h = λ t. sym (e t) ∙ h t
 leads_same run run' w (Err Storage) m e h = tt
+
+-- with other variables
+pub leads_bound : (m n p : Machine) (ls : List Local) (first run : Run) (w : State) (r : Result Doing Stop) → n ≡ record m { locals = ls }
+    → ((t : ℕ) → first (bound_as ls w) t ≡ run (at m w) t) → Leads (inside n first) w r p → Leads (inside m run) w r p
+leads_bound m n p ls first run w r e h =
+    subst (λ x. Leads (inside x first) w r p → Leads (inside m run) w r p) (sym e)
+    (leads_same (inside (record m { locals = ls }) first) (inside m run) w r p (λ t. ap (λ o. closed (resume m.levels m.context o)) (h t)))

@@ -1,7 +1,6 @@
 -- What the functions of the language are, by their names (HyperSpec 3.1.2.1.2.3).
-use Rattle.std.specs.Prelude.{List, [], ◌∷◌, Option, Some, None, codes, if◌then◌else◌}
+use Rattle.std.specs.Prelude.{Option, Some, None, codes, if◌then◌else◌}
 use Rattle.lisp_data.specs.Name.{Nam}
-use Rattle.lisp_data.specs.Value.{Val}
 use Rattle.lisp_prims.specs.Primitive.{primitive_of}
 use Rattle.lisp_prims.specs.declared.primitive.Primitive as of_values
 use Rattle.clos_forms.specs.Names.{is_called}
@@ -22,9 +21,3 @@ callee_of name =
     else if is_called (codes "TERPRI") name then Terpri
     else if is_called (codes "MAKE-INSTANCE") name then MakeInstance
     else value_function (primitive_of name)
-
--- the one argument
-abbrev pub only_value : List Val → Option Val
-only_value [] = None
-only_value (v ∷ []) = Some v
-only_value (v ∷ (u ∷ vs)) = None

@@ -1,77 +1,12 @@
 //! The arguments of calls, and what a running body knows of its own.
-ghost use Rattle.std.specs.Prelude.{◌≡◌, ◌++◌, ◌∷◌, [], IfOk, map, if◌then◌else◌, is_ok, option_map, length, slice_get, position};
+ghost use Rattle.std.specs.Prelude.{◌≡◌, IfOk, map};
 ghost use Rattle.lisp_data.specs.ValueView.{value_of};
-ghost use Rattle.clos_eval.specs.Callee.{only_value};
 
+use clos_world::Values;
 use lisp_data::Value;
 use std::alloc::{AllocError, Global};
 use std::marker::Model;
 use std::rc::Rc;
-
-/// The values worked out so far, in order. Contracts see the list.
-#[derive(Drop)]
-pub struct Values {
-    values: Vec<Value>,
-}
-
-impl Model for Values {
-    ghost use Rattle.std.specs.Prelude.{List, map};
-    ghost use Rattle.std.specs.Coded.{coded_list};
-    ghost use Rattle.lisp_data.specs.Value.{Val};
-    ghost use Rattle.lisp_data.specs.ValueCode.{value_code};
-
-    ghost Value = { List Val };
-
-    ghost coded = { coded_list value_code };
-
-    ghost use Rattle.lisp_data.specs.ValueView.{value_of};
-
-    ghost view = { λ a. map value_of a.values.items };
-}
-
-impl Values {
-    /// No values.
-    pub fn new(alloc: Global) -> Values
-        ensures { result ≡ [] }
-    {
-        Values {
-            values: Vec::new(alloc),
-        }
-    }
-
-    /// One more value, at the end.
-    pub fn push(&mut self, value: Value) -> Result<(), AllocError>
-        ensures { self.new ≡ (if is_ok result then self.old ++ value_of value ∷ [] else self.old) }
-    {
-        self.values.push(value)?;
-        Ok(())
-    }
-
-    /// How many they are.
-    #[tactic(auto, using(std::proofs::lemmas::Grind::common_steps))]
-    pub fn len(&self) -> usize
-        ensures { result ≡ length self.now }
-    {
-        self.values.len()
-    }
-
-    /// The values.
-    pub fn as_slice(&self) -> &[Value]
-        ensures { map value_of result.now ≡ self.now }
-    {
-        self.values.as_slice()
-    }
-
-    /// The one value, where they are not fewer or more.
-    pub fn only(&self) -> Option<&Value>
-        ensures { option_map (λ v. value_of v.now) result ≡ only_value self.now }
-    {
-        match self.values.as_slice() {
-            [value] => Some(value),
-            _ => None,
-        }
-    }
-}
 
 /// The arguments of a call, which are copied by sharing them. Contracts see the list.
 #[derive(Drop)]

@@ -3,7 +3,7 @@ ghost use Rattle.std.specs.Prelude.{◌≡◌, ◌∷◌, [], IfOk};
 ghost use Rattle.clos_eval.specs.Effective.{effective_form};
 ghost use Rattle.clos_eval.specs.EffectiveView.{effective_of};
 
-use crate::generic::MethodIds;
+use clos_world::MethodIds;
 use lisp_data::MethodId;
 use std::alloc::{AllocError, Global};
 use std::marker::Model;

@@ -1,234 +1,114 @@
 //! Evaluation: the turns of the machine, and the whole of a form.
-ghost use Rattle.std.specs.Prelude.{◌≡◌, ◌∷◌, [], ℕ, List, ◌+◌, ◌-◌, ◌*◌, ◌<◌, ◌≤◌, ◌++◌, length, map, option_map, IfOk, OnErr, OnOk, Ok, Some};
-ghost use Rattle.lisp_data.specs.Value.{Val, list, nil};
+ghost use Rattle.std.specs.Prelude.{◌≡◌, ℕ, ◌+◌, ◌<◌, ◌≤◌, OnOk, length};
 ghost use Rattle.lisp_data.specs.ValueView.{value_of};
-ghost use Rattle.clos_eval.specs.Callee.{only_value};
-ghost use Rattle.clos_eval.specs.World.{State, Local, seen, bound_as, names_of};
-ghost use Rattle.clos_eval.specs.Meaning.{Run, Gave, Stopped, meaning, evaluation, designated, class_found, instantiable, written, text_by, output_of, line_ended, applied, instance_made, step_then, made, known};
-ghost use Rattle.clos_eval.specs.Class.{named};
-ghost use Rattle.clos_eval.specs.Machine.{at, Turns, Leads, Answers, Grows, Designates, denote, inside, given_to, weight, given, Changes, Reached};
-ghost use Rattle.clos_eval.specs.declared.callee.Callee.TheVariants.{Output as Printing, Terpri, MakeInstance};
-ghost use Rattle.clos_eval.specs.declared.machine.Task.TheVariants.{Plain};
-ghost use Rattle.clos_eval.specs.declared.machine.Doing.TheVariants.{Start, Apply};
+ghost use Rattle.clos_forms.specs.Form.{operator_in};
+ghost use Rattle.clos_forms.specs.OperatorView.{operator_of};
+ghost use Rattle.clos_world.specs.World.{seen};
+ghost use Rattle.clos_eval.specs.Calls.{called};
+ghost use Rattle.clos_eval.specs.Machine.{Answers, Grows, Leads, Takes, Turns, denote, given_to, inside, weight_of};
+ghost use Rattle.clos_eval.specs.Meaning.{acted, begun, body, evaluation, meaning, operated};
+ghost use Rattle.clos_eval.specs.declared.machine.Doing.TheVariants.{Start};
 
-use crate::arguments::{Arguments, Context, Values};
-use crate::callee::{Callee, Output, callee_named};
-use crate::class::class_named;
-use crate::condition::{ConditionKind, Stop, about, about_name, plain};
-use crate::control::{
-    begin, call, clause_tested, compute, continue_within, follow, keep, next_argument,
-    next_of_body, next_variable, start,
+use crate::arguments::{Arguments, Context};
+use crate::assignment::{change, change_only, set_next, set_next_place, store_only};
+use crate::binding::{
+    bind_in_order, continue_turn, continue_within, next_aside, next_variable, repeat, set_aside,
+    start_loop, turn, variable,
 };
-use crate::locals::Locals;
-use crate::machine::{Doing, Frame, Level, Levels, Machine, SystemCall, Task};
-use crate::truth::nil;
-use crate::world::World;
-use clos_forms::Form;
-use lisp_data::{ClassId, InstanceId, Items, Name, Value, prin1, princ};
-use std::alloc::{AllocError, Global};
+use crate::callee::{Callee, callee_named};
+use crate::calls::{
+    call, call_setter, compute, function_named, new_value, next_of_body, next_value, start_call,
+    start_effective, start_system,
+};
+use crate::control::{clause_tested, follow, go_on, keep, next_clause};
+use crate::locals::{Locals, Plan};
+use crate::machine::{Action, Control, Doing, Frame, Level, Levels, Machine, Task};
+use crate::objects::make_instance;
+use crate::output::{end_line, print};
+use crate::truth::{nil, t};
+use clos_forms::{Form, Forms, Operator};
+use clos_world::{ConditionKind, Stop, Values, World, plain};
+use lisp_data::{Name, Value};
+use lisp_prims::Primitive;
+use lisp_prims::arithmetic::Arithmetic;
+use std::alloc::Global;
 
-/// The text that an output function writes of a value.
-fn text(alloc: Global, world: &World, output: Output, value: &Value) -> Result<Vec<u8>, AllocError>
-    ensures { IfOk result (λ r. r.items ≡ text_by output (names_of (seen world.now)) (value_of value.now)) }
+/// A form begins.
+fn start_form(
+    alloc: Global,
+    machine: &mut Machine,
+    world: &World,
+    form: &Form,
+) -> Result<Doing, Stop>
+    ensures leads { Leads (inside machine.old (body (meaning machine.old.room) machine.old.context form.now)) (seen world.now) result machine.new }
+    ensures small { Grows 8 machine.old.levels result machine.new }
 {
-    match output {
-        Output::Princ => princ(alloc, value, world),
-        Output::Prin1 => prin1(alloc, value, world),
-        Output::Print => {
-            let text = prin1(alloc, value, world)?;
-            let mut line = Vec::new(alloc);
-            line.push(b'\n')?;
-            line.extend_from_slice(text.as_slice())?;
-            line.push(b' ')?;
-            Ok(line)
+    operate(alloc, machine, world, form, form.operator(), form.parts())
+}
+
+/// An operator begins with its parts.
+#[tactic(auto, using(crate::proofs::Turns::stopped_through, crate::proofs::Turns::grows_6_8))]
+fn operate(
+    alloc: Global,
+    machine: &mut Machine,
+    world: &World,
+    form: &Form,
+    operator: &Operator,
+    parts: &Forms,
+) -> Result<Doing, Stop>
+    requires { operator_of operator.now ≡ operator_in form.now }
+    ensures leads { Leads (inside machine.old (operated (meaning machine.old.room) machine.old.context (operator_of operator.now) parts.now)) (seen world.now) result machine.new }
+    ensures small { Grows 8 machine.old.levels result machine.new }
+{
+    match operator {
+        Operator::Constant(value) => Ok(Doing::Give(value.copy()?)),
+        Operator::Variable(name) => variable(alloc, machine, world, name),
+        Operator::Function(name) => function_named(alloc, machine, world, name),
+        Operator::If => go_on(machine, Control::If, parts, nil()),
+        Operator::Cond => next_clause(machine, parts),
+        Operator::When => go_on(machine, Control::When, parts, nil()),
+        Operator::Unless => go_on(machine, Control::Unless, parts, nil()),
+        Operator::And => go_on(machine, Control::And, parts, t()),
+        Operator::Or => go_on(machine, Control::Or, parts, nil()),
+        Operator::Progn => go_on(machine, Control::Progn, parts, nil()),
+        Operator::Prog1 => go_on(machine, Control::Prog1, parts, nil()),
+        Operator::Let(bindings) => {
+            let plan = Plan::new(alloc, bindings.as_slice())?;
+            let outer = machine.locals.len();
+            set_aside(
+                alloc,
+                machine,
+                world,
+                outer,
+                Locals::new(alloc),
+                plan,
+                parts,
+            )
         }
-    }
-}
-
-/// Writes bytes, which takes a step.
-fn write(alloc: Global, world: &mut World, bytes: &[u8], steps: &mut u64) -> Result<(), Stop>
-    ensures changes { (v : Val) (l : List Local) → Changes (written bytes.now v) v (bound_as l (seen world.old)) steps.old result (bound_as l (seen world.new)) steps.new }
-    ensures fewer { steps.new ≤ steps.old }
-{
-    if *steps == 0 {
-        return Err(Stop::Refused(plain(alloc, ConditionKind::StepLimit)));
-    }
-    world.written.extend_from_slice(bytes)?;
-    *steps -= 1;
-    Ok(())
-}
-
-/// Writes bytes, and gives a value.
-fn write_giving(
-    alloc: Global,
-    machine: &Machine,
-    world: &mut World,
-    bytes: &[u8],
-    value: Value,
-    steps: &mut u64,
-) -> Result<Doing, Stop>
-    ensures turns { Turns (inside machine.now (step_then (written bytes.now (value_of value)))) (seen world.old) steps.old result machine.now (seen world.new) steps.new }
-    ensures small { Grows 2 machine.now.levels result machine.now }
-    ensures fewer { steps.new ≤ steps.old }
-{
-    let _ = machine;
-    match write(alloc, world, bytes, steps) {
-        Ok(()) => Ok(Doing::Give(value)),
-        Err(stop) => Err(stop),
-    }
-}
-
-/// A call of an output function.
-fn print(
-    alloc: Global,
-    machine: &mut Machine,
-    world: &mut World,
-    output: Output,
-    values: &Values,
-    steps: &mut u64,
-) -> Result<Doing, Stop>
-    ensures turns { Turns (inside machine.old (output_of output (only_value values.now))) (seen world.old) steps.old result machine.new (seen world.new) steps.new }
-    ensures small { Grows 2 machine.old.levels result machine.new }
-    ensures fewer { steps.new ≤ steps.old }
-{
-    let Some(value) = values.only() else {
-        return Err(Stop::Refused(plain(alloc, ConditionKind::ProgramError)));
-    };
-    let text = text(alloc, world, output, value)?;
-    let value = value.copy()?;
-    write_giving(alloc, machine, world, text.as_slice(), value, steps)
-}
-
-/// A call of `terpri`.
-fn end_line(
-    alloc: Global,
-    machine: &mut Machine,
-    world: &mut World,
-    values: &Values,
-    steps: &mut u64,
-) -> Result<Doing, Stop>
-    ensures turns { Turns (inside machine.old (line_ended values.now)) (seen world.old) steps.old result machine.new (seen world.new) steps.new }
-    ensures small { Grows 2 machine.old.levels result machine.new }
-    ensures fewer { steps.new ≤ steps.old }
-{
-    match values.as_slice() {
-        [] => write_giving(alloc, machine, world, b"\n", nil(), steps),
-        _ => Err(Stop::Refused(plain(alloc, ConditionKind::ProgramError))),
-    }
-}
-
-/// The class that a value designates, if there can be instances of it.
-fn designate(alloc: Global, world: &World, value: Value) -> Result<ClassId, Stop>
-    ensures { Designates (designated (seen world.now).classes (value_of value)) result }
-{
-    match value {
-        Value::Sym(name) => found(alloc, world, &name),
-        Value::List(items) => designate_list(alloc, world, items),
-        Value::Class(id) => instantiate(alloc, id),
-        other => Err(Stop::Refused(about(alloc, ConditionKind::TypeError, other)?)),
-    }
-}
-
-/// Of the lists only NIL, a symbol, may name a class.
-fn designate_list(alloc: Global, world: &World, items: Items) -> Result<ClassId, Stop>
-    ensures { Designates (designated (seen world.now).classes (list items)) result }
-{
-    match items.split_first() {
-        None => found(alloc, world, &Name::fixed("NIL")),
-        Some(_) => {
-            let condition = about(alloc, ConditionKind::TypeError, Value::List(items))?;
-            Err(Stop::Refused(condition))
+        Operator::LetInOrder(bindings) => {
+            let plan = Plan::new(alloc, bindings.as_slice())?;
+            let outer = machine.locals.len();
+            bind_in_order(alloc, machine, world, outer, plan, parts)
         }
-    }
-}
-
-fn found(alloc: Global, world: &World, name: &Name) -> Result<ClassId, Stop>
-    ensures { Designates (class_found name.now (named (seen world.now).classes name.now)) result }
-{
-    match class_named(&world.classes, name) {
-        None => Err(Stop::Refused(about_name(alloc, ConditionKind::UndefinedClass, name)?)),
-        Some(id) => instantiate(alloc, id),
-    }
-}
-
-fn instantiate(alloc: Global, id: ClassId) -> Result<ClassId, Stop>
-    ensures { Designates (instantiable id.0) result }
-{
-    if id.0 == 1 || id.0 >= 22 {
-        return Ok(id);
-    }
-    Err(Stop::Refused(plain(alloc, ConditionKind::Unsupported)))
-}
-
-/// Makes an instance of the class that the value designates, and initialises it (HyperSpec 7.1).
-fn make(
-    alloc: Global,
-    machine: &mut Machine,
-    world: &mut World,
-    value: Value,
-    steps: &mut u64,
-) -> Result<Doing, Stop>
-    ensures turns { Turns (inside machine.old (λ w s. made (meaning machine.old.room) machine.old.context (designated w.classes (value_of value)) w s))
-        (seen world.old) steps.old result machine.new (seen world.new) steps.new }
-    ensures small { Grows 2 machine.old.levels result machine.new }
-    ensures fewer { steps.new ≤ steps.old }
-{
-    match designate(alloc, world, value) {
-        Ok(class) => make_of(alloc, machine, world, class, steps),
-        Err(stop) => Err(stop),
-    }
-}
-
-fn make_of(
-    alloc: Global,
-    machine: &mut Machine,
-    world: &mut World,
-    class: ClassId,
-    steps: &mut u64,
-) -> Result<Doing, Stop>
-    ensures turns { (run : Run)
-        → ((t : ℕ) → made (meaning machine.old.room) machine.old.context (Ok class.0) (at machine.old (seen world.old)) t ≡ run (at machine.old (seen world.old)) t)
-        → Turns (inside machine.old run) (seen world.old) steps.old result machine.new (seen world.new) steps.new }
-    ensures small { Grows 2 machine.old.levels result machine.new }
-    ensures fewer { steps.new ≤ steps.old }
-{
-    let count = world.instance_count();
-    if count >= world.limits.instances {
-        return Err(Stop::Refused(plain(alloc, ConditionKind::TableLimit)));
-    }
-    if *steps == 0 {
-        return Err(Stop::Refused(plain(alloc, ConditionKind::StepLimit)));
-    }
-    let id = InstanceId(count + 1);
-    let next = Task::System(SystemCall::Initialize(id));
-    let Ok(doing) = begin(machine, next, Frame::Passing) else {
-        return Err(Stop::Storage);
-    };
-    let Ok(()) = world.add_instance(class) else {
-        return Err(Stop::Storage);
-    };
-    *steps -= 1;
-    Ok(doing)
-}
-
-/// A call of `make-instance`.
-fn make_instance(
-    alloc: Global,
-    machine: &mut Machine,
-    world: &mut World,
-    values: &Values,
-    steps: &mut u64,
-) -> Result<Doing, Stop>
-    ensures turns { Turns (inside machine.old (instance_made (meaning machine.old.room) machine.old.context (only_value values.now))) (seen world.old) steps.old result machine.new (seen world.new) steps.new }
-    ensures small { Grows 2 machine.old.levels result machine.new }
-    ensures fewer { steps.new ≤ steps.old }
-{
-    match values.only() {
-        None => Err(Stop::Refused(plain(alloc, ConditionKind::Unsupported))),
-        Some(value) => {
-            let value = value.copy()?;
-            make(alloc, machine, world, value, steps)
+        Operator::Setq(_) => set_next(alloc, machine, form, 0, parts, nil()),
+        Operator::Setf => set_next_place(alloc, machine, parts, nil()),
+        Operator::Incf => change(alloc, machine, Primitive::Number(Arithmetic::Sum), parts),
+        Operator::Decf => change(
+            alloc,
+            machine,
+            Primitive::Number(Arithmetic::Difference),
+            parts,
+        ),
+        Operator::Dotimes(name, has_result) => {
+            start_loop(alloc, machine, name, *has_result, parts)
         }
+        Operator::Call(name) => start_call(alloc, machine, name, parts),
+        Operator::NoValue => Err(Stop::Refused(plain(alloc, ConditionKind::Unsupported))),
+        Operator::Clause => Err(Stop::Refused(plain(alloc, ConditionKind::Unsupported))),
+        Operator::Place(_) => Err(Stop::Refused(plain(alloc, ConditionKind::Unsupported))),
+        Operator::WithSlots(_) => Err(Stop::Refused(plain(alloc, ConditionKind::Unsupported))),
+        Operator::CallNextMethod => Err(Stop::Refused(plain(alloc, ConditionKind::Unsupported))),
+        Operator::NextMethodP => Err(Stop::Refused(plain(alloc, ConditionKind::Unsupported))),
     }
 }
 
@@ -241,8 +121,8 @@ fn apply(
     values: Values,
     steps: &mut u64,
 ) -> Result<Doing, Stop>
-    ensures turns { Turns (denote machine.old (Apply name.now values)) (seen world.old) steps.old result machine.new (seen world.new) steps.new }
-    ensures small { Grows 2 machine.old.levels result machine.new }
+    ensures turns { Turns (inside machine.old (called (meaning machine.old.room) machine.old.context name.now values)) (seen world.old) steps.old result machine.new (seen world.new) steps.new }
+    ensures small { Grows 6 machine.old.levels result machine.new }
     ensures fewer { steps.new ≤ steps.old }
 {
     match callee_named(name) {
@@ -254,7 +134,33 @@ fn apply(
     }
 }
 
+/// An action is done with its values.
+#[tactic(auto, using(crate::proofs::Running::turns_of_leads, crate::proofs::Turns::grows_5_7, crate::proofs::Turns::grows_6_7))]
+fn act(
+    alloc: Global,
+    machine: &mut Machine,
+    world: &mut World,
+    action: Action,
+    values: Values,
+    steps: &mut u64,
+) -> Result<Doing, Stop>
+    ensures turns { Turns (inside machine.old (acted (meaning machine.old.room) machine.old.context action values)) (seen world.old) steps.old result machine.new (seen world.new) steps.new }
+    ensures small { Grows 7 machine.old.levels result machine.new }
+    ensures fewer { steps.new ≤ steps.old }
+{
+    match action {
+        Action::Call(name) => apply(alloc, machine, world, &name, values, steps),
+        Action::CallSetter(name) => call_setter(alloc, machine, world, &name, values),
+        Action::Store(name) => store_only(alloc, machine, world, &name, &values, steps),
+        Action::Change(primitive, name) => {
+            change_only(alloc, machine, world, primitive, &name, &values, steps)
+        }
+        Action::NewValue(name, form) => new_value(machine, name, &form, values),
+    }
+}
+
 /// A frame goes on with the value that it waited for.
+#[tactic(auto, using(crate::proofs::Turns::grows_6_8))]
 fn give(
     alloc: Global,
     machine: &mut Machine,
@@ -263,25 +169,49 @@ fn give(
     value: Value,
 ) -> Result<Doing, Stop>
     ensures leads { Leads (given_to machine.old frame (value_of value)) (seen world.now) result machine.new }
-    ensures small { Grows 3 machine.old.levels result machine.new }
+    ensures small { Grows (4 + weight_of frame) machine.old.levels result machine.new }
 {
     match frame {
         Frame::Rest(control, rest) => follow(machine, control, &rest, value),
         Frame::Keep(rest, kept) => keep(machine, &rest, kept),
         Frame::Clause(forms, others) => clause_tested(machine, &forms, &others, value),
-        Frame::Collect(name, rest, values) => next_argument(machine, name, &rest, values, value),
+        Frame::Collect(action, rest, values) => next_value(machine, action, &rest, values, value),
         Frame::Body(rest, saved, outer) => {
             next_of_body(machine, world, &rest, saved, outer, value)
-        },
+        }
         Frame::Scope(outer, rest) => continue_within(machine, outer, &rest, value),
         Frame::InOrder(outer, name, plan, rest) => {
-            next_variable(alloc, machine, outer, name, plan, &rest, value)
+            next_variable(alloc, machine, world, outer, name, plan, &rest, value)
         }
+        Frame::Aside(outer, locals, name, plan, rest) => {
+            next_aside(
+                alloc, machine, world, outer, locals, name, plan, &rest, value,
+            )
+        }
+        Frame::Count(repetition) => repeat(alloc, machine, world, repetition, value),
+        Frame::Turn(repetition, counter, rest) => {
+            continue_turn(machine, repetition, counter, &rest, value)
+        }
+        Frame::Setq(form, place, rest) => { set_next(alloc, machine, &form, place, &rest, value) }
+        Frame::Setf(rest) => set_next_place(alloc, machine, &rest, value),
         Frame::Known(saved) => {
             machine.context = saved;
             Ok(Doing::Give(value))
         }
         Frame::Passing => Ok(Doing::Give(value)),
+    }
+}
+
+/// A task begins, with less room.
+#[tactic(auto, using(crate::proofs::Turns::grows_6_8))]
+fn start(alloc: Global, machine: &mut Machine, world: &World, task: Task) -> Result<Doing, Stop>
+    ensures leads { Leads (inside machine.old (begun (meaning machine.old.room) machine.old.context task)) (seen world.now) result machine.new }
+    ensures small { Grows 8 machine.old.levels result machine.new }
+{
+    match task {
+        Task::Plain(form) => start_form(alloc, machine, world, &form),
+        Task::Effect(form) => start_effective(alloc, machine, world, &form),
+        Task::System(call) => start_system(alloc, machine, world, call),
     }
 }
 
@@ -294,7 +224,7 @@ fn begin_task(
     steps: &mut u64,
 ) -> Result<Doing, Stop>
     ensures turns { Turns (denote machine.old (Start task)) (seen world.now) steps.old result machine.new (seen world.now) steps.new }
-    ensures small { Grows 3 machine.old.levels result machine.new }
+    ensures small { Grows 8 machine.old.levels result machine.new }
     ensures fewer { OnOk result (steps.new < steps.old) }
 {
     if *steps == 0 {
@@ -327,7 +257,8 @@ pub fn evaluate(
     room: u64,
     steps: &mut u64,
 ) -> Result<Value, Stop>
-    ensures { Answers (evaluation room form) (seen world.old) steps.old result (seen world.new) steps.new }
+    ensures answer { Answers (evaluation room form) (seen world.old) steps.old result (seen world.new) steps.new }
+    ensures taken { Takes (evaluation room form) (seen world.old) steps.old result (seen world.new) steps.new }
 {
     let Ok(arguments) = Arguments::new(alloc, Values::new(alloc)) else {
         return Err(Stop::Storage);
@@ -347,17 +278,18 @@ pub fn evaluate(
                 Ok(next) => doing = next,
                 Err(stop) => return Err(stop),
             },
-            Doing::Apply(name, values) => match apply(
-                alloc,
-                &mut machine,
-                world,
-                &name,
-                values,
-                steps,
-            ) {
-                Ok(next) => doing = next,
-                Err(stop) => return Err(stop),
-            },
+            Doing::Act(action, values) => {
+                match act(alloc, &mut machine, world, action, values, steps) {
+                    Ok(next) => doing = next,
+                    Err(stop) => return Err(stop),
+                }
+            }
+            Doing::Turn(repetition, counter) => {
+                match turn(alloc, &mut machine, world, repetition, counter, steps) {
+                    Ok(next) => doing = next,
+                    Err(stop) => return Err(stop),
+                }
+            }
             Doing::Give(value) => match machine.levels.pop() {
                 None => return Ok(value),
                 Some(level) => {

@@ -1,17 +1,21 @@
-//! The meaning of forms: the state of a session, and the machine that evaluates forms in it.
+//! The meaning of forms, and the machine that evaluates them.
 #![tactic(auto)]
 
 pub mod arguments;
+mod assignment;
+mod binding;
 pub mod callee;
-pub mod class;
-pub mod condition;
+mod calls;
 mod control;
+mod counter;
 mod effective;
 pub mod eval;
-pub mod generic;
-pub mod limits;
+mod fault;
 mod locals;
 mod machine;
-pub mod predefined;
+mod objects;
+mod output;
 mod truth;
-pub mod world;
+
+pub use calls::setter_value;
+pub use eval::evaluate;

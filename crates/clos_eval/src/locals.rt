@@ -1,15 +1,16 @@
 //! The lexical variables of the body that runs (HyperSpec 3.1.2.1.1).
-ghost use Rattle.std.specs.Prelude.{◌≡◌, ◌∷◌, [], ℕ, IfOk, OnOk, MatchOption, map, option_map, length};
+ghost use Rattle.std.specs.Prelude.{◌≡◌, ◌∷◌, ◌++◌, [], IfOk, OnOk, MatchOption, map, option_map, length, is_some, true, false};
 ghost use Rattle.lisp_data.specs.ValueView.{value_of};
-ghost use Rattle.clos_eval.specs.World.{State, local_named, outermost, bound_as, bound_to};
 ghost use Rattle.clos_forms.specs.BoundView.{bound};
-ghost use Rattle.clos_forms.specs.Form.{Frms};
-ghost use Rattle.clos_eval.specs.Meaning.{Eval, in_order};
-ghost use Rattle.clos_eval.specs.Machine.{with_next};
-ghost use Rattle.clos_eval.specs.declared.arguments.Context.{Context};
+ghost use Rattle.clos_world.specs.Globals.{any_global};
+ghost use Rattle.clos_world.specs.World.{seen, local_named, outermost, bound_to};
+ghost use Rattle.clos_eval.specs.Assignment.{with_local};
+ghost use Rattle.clos_eval.specs.Machine.{with_next, unset, unset_aside, Skips};
+ghost use Rattle.clos_eval.specs.Variables.{name_in};
 
 use crate::truth::nil;
 use clos_forms::Binding;
+use clos_world::{ConditionKind, Stop, World, plain};
 use lisp_data::{Name, Value};
 use std::alloc::{AllocError, Global};
 use std::marker::Model;
@@ -92,6 +93,46 @@ impl Locals {
         }
         None
     }
+
+    /// Gives the innermost variable of this name this value; where there is none, the value comes back.
+    pub fn set(&mut self, name: &Name, value: Value) -> Option<Value>
+        ensures { MatchOption result
+            ((is_some (local_named self.old name.now) ≡ true) × (self.new ≡ with_local name.now (value_of value) self.old))
+            (λ v. (v ≡ value) × (is_some (local_named self.old name.now) ≡ false) × (self.new ≡ self.old)) }
+    {
+        let mut place = self.locals.len();
+        while place > 0 {
+            place -= 1;
+            if self.locals[place].name.is(name) {
+                self.locals[place].value = value;
+                return None;
+            }
+        }
+        Some(value)
+    }
+
+    /// Whether one of the variables has the name of a global one.
+    pub fn any_global(&self, world: &World) -> bool
+        ensures { result ≡ any_global (seen world.now).globals (map name_in self.now) }
+    {
+        let locals = self.locals.as_slice();
+        let mut place = locals.len();
+        while place > 0 {
+            place -= 1;
+            if world.globals.has(&locals[place].name) {
+                return true;
+            }
+        }
+        false
+    }
+
+    /// Binds these too, within the others.
+    pub fn append(&mut self, mut more: Locals) -> Result<(), AllocError>
+        ensures { OnOk result (self.new ≡ more ++ self.old) }
+    {
+        self.locals.append(&mut more.locals)?;
+        Ok(())
+    }
 }
 
 /// These names bound to the values in turn.
@@ -168,9 +209,30 @@ impl Plan {
 }
 
 /// Binds the next variables that have no init form to NIL. The name of the first that has one is taken off.
-pub fn skip(locals: &mut Locals, plan: &mut Plan) -> Result<Option<Name>, AllocError>
-    ensures { IfOk result (λ r. (ev : Eval) (env : Context) (n : ℕ) (fs : Frms) (w : State) (t : ℕ)
-        → in_order ev env n (with_next r plan.new) fs (bound_as locals.new w) t ≡ in_order ev env n plan.old fs (bound_as locals.old w) t) }
+pub fn bind_unset(
+    alloc: Global,
+    world: &World,
+    locals: &mut Locals,
+    plan: &mut Plan,
+) -> Result<Option<Name>, Stop>
+    ensures { Skips (unset (seen world.now).globals plan.old locals.old) result locals.new plan.new }
+{
+    while let Some(binding) = plan.pop() {
+        let Binding { name, has_init } = binding;
+        if has_init {
+            return Ok(Some(name));
+        }
+        if world.globals.has(&name) {
+            return Err(Stop::Refused(plain(alloc, ConditionKind::Unsupported)));
+        }
+        locals.push(name, nil())?;
+    }
+    Ok(None)
+}
+
+/// The same, where they are only put aside.
+pub fn put_unset_aside(locals: &mut Locals, plan: &mut Plan) -> Result<Option<Name>, AllocError>
+    ensures { IfOk result (λ next. unset_aside plan.old locals.old ≡ (locals.new, with_next next plan.new)) }
 {
     while let Some(binding) = plan.pop() {
         let Binding { name, has_init } = binding;

@@ -1,11 +1,14 @@
 //! The machine that evaluates forms without recursion: what comes next, and the levels that wait for values.
 ghost use Rattle.std.specs.Prelude.{◌≡◌, ◌∷◌, [], ℕ, ◌<◌, ◌≤◌, length, OnOk, OnErr, IfOk, MatchOption};
 
-use crate::arguments::{Arguments, Context, Values};
+use crate::arguments::{Arguments, Context};
+use crate::counter::Counter;
 use crate::effective::EffectiveForm;
 use crate::locals::{Locals, Plan};
 use clos_forms::{Form, Forms};
+use clos_world::Values;
 use lisp_data::{InstanceId, Name, Value};
+use lisp_prims::Primitive;
 use std::alloc::{AllocError, Global};
 use std::marker::Model;
 
@@ -28,12 +31,38 @@ pub enum SystemCall {
     InitializeShared(InstanceId),
 }
 
+/// What is done with values when they are there.
+#[derive(Drop)]
+pub enum Action {
+    /// The function of this name is called with them.
+    Call(Name),
+    /// The function `(setf name)` is called, with the last of them first.
+    CallSetter(Name),
+    /// The variable of this name gets the one value.
+    Store(Name),
+    /// The variable of this name gets what the function makes of its value and this one.
+    Change(Primitive, Name),
+    /// They are the arguments of a place: the value of this form comes last, and then `(setf name)` is called.
+    NewValue(Name, Form),
+}
+
+/// A loop of `dotimes`: how many variables are outside it, its own, whether it has a result form, and that form, where
+/// there is one, with the body after it.
+#[derive(Drop)]
+pub struct Repetition {
+    pub outer: usize,
+    pub name: Name,
+    pub has_result: bool,
+    pub forms: Forms,
+}
+
 /// What comes next.
 #[derive(Drop)]
 pub enum Doing {
     Start(Task),
-    /// The function of this name is called with these values.
-    Apply(Name, Values),
+    Act(Action, Values),
+    /// The next turn of a loop, or its end.
+    Turn(Repetition, Counter),
     /// The value goes to the top level.
     Give(Value),
 }
@@ -66,14 +95,25 @@ pub enum Frame {
     Keep(Forms, Value),
     /// It is the test of a clause with these forms, before these clauses.
     Clause(Forms, Forms),
-    /// It is the next argument of the function of this name.
-    Collect(Name, Forms, Values),
+    /// It is the next of the values that the action is done with; these forms give the others.
+    Collect(Action, Forms, Values),
     /// The rest of a method's body follows; the context and the variables go back to the caller's.
     Body(Forms, Context, Locals),
     /// The rest of a body follows; of the variables only so many of the outermost stay.
     Scope(usize, Forms),
     /// It is the value of the variable of this name, before these variables, with the forms left for them and the body.
     InOrder(usize, Name, Plan, Forms),
+    /// It is the value of the variable of this name, beside the variables whose values are there, before these, with the
+    /// forms left for them and the body.
+    Aside(usize, Locals, Name, Plan, Forms),
+    /// It is the number of turns.
+    Count(Repetition),
+    /// These forms follow in the turn, and then the next turn.
+    Turn(Repetition, Counter, Forms),
+    /// The rest of the variables of a `setq` form, from this one on, and their forms.
+    Setq(Form, usize, Forms),
+    /// These places and forms follow.
+    Setf(Forms),
     /// The context goes back to the caller's.
     Known(Context),
     /// Nothing.

@@ -1,25 +1,36 @@
 -- A definition that is refused defines nothing, and neither does any other form.
-use Rattle.std.proofs.Common.{◌≡◌, ℕ, zero, suc, ◌==◌, List, Option, Some, None, Result, Ok, Err, Bool, true, false, length, slice_get, subst}
-use Rattle.std.specs.Prelude.{⊤, nat_lt, ◌&&◌, if◌then◌else◌}
+use Rattle.std.proofs.Common.{◌≡◌, ℕ, zero, suc, ◌==◌, List, [], Option, Some, None, Result, Ok, Err, Bool, true, false, length, slice_get, subst}
+use Rattle.std.specs.Prelude.{⊤, nat_lt, ◌&&◌, ◌||◌, is_some, if◌then◌else◌}
 use Rattle.lisp_data.specs.Datum.{Dat}
 use Rattle.lisp_data.specs.Name.{Nam}
-use Rattle.clos_forms.specs.Form.{Frms}
+use Rattle.clos_forms.specs.Form.{Frm, Frms}
 use Rattle.clos_syntax.specs.Top.{top_of}
 use Rattle.clos_syntax.specs.declared.top.Top.{Top}
-use Rattle.clos_eval.specs.Class.{named}
-use Rattle.clos_eval.specs.Definitions.{Same}
-use Rattle.clos_eval.specs.Generic.{function_named}
-use Rattle.clos_eval.specs.World.{State}
-use Rattle.clos_eval.specs.Meaning.{Out, Gave, Stopped, Run, step_then, evaluation}
-use Rattle.clos_eval.specs.declared.condition.Condition.{Condition}
-use Rattle.clos_eval.specs.declared.generic.Generic.{Generic}
-use Rattle.clos_eval.proofs.Kept.{same, Kept, evaluation_kept}
+use Rattle.clos_world.specs.Class.{named}
+use Rattle.clos_world.specs.Definitions.{Same}
+use Rattle.clos_world.specs.Generic.{function_named}
+use Rattle.clos_world.specs.World.{State}
+use Rattle.clos_eval.specs.Meaning.{evaluation}
+use Rattle.clos_eval.specs.Outcome.{Out, Gave, Stopped, Run, then_do, step_then, stopped}
+use Rattle.clos_world.specs.declared.condition.ConditionKind.TheVariants.{TableLimit}
+use Rattle.clos_world.specs.Functions.{function_in}
+use Rattle.clos_world.specs.Globals.{is_global}
+use Rattle.clos_world.specs.declared.functions.Function.{Function}
+use Rattle.clos_forms.specs.OperatorView.{called_of}
+use Rattle.lisp_data.specs.Print.{Called, by_symbol, by_setf}
+use Rattle.lisp_data.specs.Value.{Val}
+use Rattle.clos_syntax.specs.declared.variable.VariableDefinition.{VariableDefinition}
+use Rattle.clos_system.specs.Function.{has_room, function_defined, setter_defined, define_function}
+use Rattle.clos_system.specs.Variable.{room_below, keeps_value, named as defined_name, declared, value_given, new_value, variable_defined}
+use Rattle.clos_world.specs.declared.condition.Condition.{Condition}
+use Rattle.clos_world.specs.declared.generic.Generic.{Generic}
+use Rattle.clos_eval.proofs.Kept.{same, same_then, Kept, evaluation_kept}
 use Rattle.clos_system.specs.Definitions.{DefinesNothing}
 use Rattle.clos_system.specs.Served.{is_combination, served_of}
 use Rattle.clos_system.specs.Session.{Replies}
 use Rattle.clos_system.specs.Step.{checked, class_added, define_class, define_method, function_added, method_added, new_class, new_method, on_function, performed, room_of, served_run, specializer_numbers, step, superclass_number, first_defined}
 use Rattle.clos_system.specs.declared.served.Served.{Served}
-use Rattle.clos_system.specs.declared.served.Served.TheVariants.{DefineClass, DefineMethod, Expression}
+use Rattle.clos_system.specs.declared.served.Served.TheVariants.{DefineClass, DefineMethod, DefineFunction, DefineVariable, Nothing, Expression}
 use Rattle.clos_system.specs.declared.session.Reply.{Reply}
 use Rattle.clos_system.specs.declared.session.Reply.TheVariants.{Value, Condition as a_condition, Storage}
 
@@ -32,6 +43,10 @@ Refuses w (Stopped c u k) = Same w u
 kept_refuses : (w : State) (o : Out) → Kept w o → Refuses w o
 kept_refuses w (Gave v u k) h = tt
 kept_refuses w (Stopped c u k) h = h
+
+shifted_refuses : (w u : State) (o : Out) → Same w u → Refuses u o → Refuses w o
+shifted_refuses w u (Gave v t k) h g = tt
+shifted_refuses w u (Stopped c t k) h g = same_then w u t h g
 
 choice_refuses : (b : Bool) (w : State) (x y : Out) → Refuses w x → Refuses w y → Refuses w (if b then x else y)
 choice_refuses true w x y h g = h
@@ -69,9 +84,39 @@ method_refuses : (name : Nam) (parameters : List Nam) (body : Frms) (r : Result 
 method_refuses name parameters body (Err c) w k = same w
 method_refuses name parameters body (Ok specializers) w k = function_refuses name (function_named w.generics name) parameters specializers body w k
 
+defun_refuses : (c : Called) (f : Function) (w : State) (k : ℕ) → Refuses w (define_function c f w k)
+defun_refuses (by_symbol name) f w k =
+    choice_refuses (is_some (function_named w.generics name)) w _ _ (same w)
+    (choice_refuses (is_some (function_in w.functions name) || has_room w) w (step_then (function_defined name f) w k) _
+    (step_refuses (function_defined name f) w k (λ j. tt)) (same w))
+defun_refuses (by_setf name) f w k =
+    choice_refuses (is_some (function_in w.setters name) || has_room w) w (step_then (setter_defined name f) w k) _
+    (step_refuses (setter_defined name f) w k (λ j. tt)) (same w)
+
+-- an evaluation, and then a step
+then_step_refuses : (w : State) (o : Out) (go : Val → Run) → Kept w o → ((v : Val) (u : State) (j : ℕ) → Refuses u (go v u j)) → Refuses w (then_do o (λ v. step_then (go v)))
+then_step_refuses w (Stopped c u k) go h g = h
+then_step_refuses w (Gave v u zero) go h g = h
+then_step_refuses w (Gave v u (suc k)) go h g = shifted_refuses w u (go v u k) h (g v u k)
+
+value_refuses : (name : Nam) (o : Option Frm) (w : State) (k : ℕ) → Refuses w (new_value name o w k)
+value_refuses name None w k = step_refuses (declared name) w k (λ j. choice_refuses (is_global w.globals name) w _ _ tt tt)
+value_refuses name (Some f) w k =
+    then_step_refuses w (evaluation (room_below w) f w k) (λ v. value_given name v) (evaluation_kept (room_below w) f w k) (λ v u j. tt)
+
+variable_refuses : (d : VariableDefinition) (w : State) (k : ℕ) → Refuses w (variable_defined d w k)
+variable_refuses d w k =
+    choice_refuses (is_global w.globals d.name || nat_lt (length w.globals) w.limits.globals) w _ (stopped TableLimit [] w k)
+    (choice_refuses (keeps_value w d.definer d.name) w (step_then (defined_name d.name) w k) (new_value d.name d.form w k)
+    (step_refuses (defined_name d.name) w k (λ j. tt)) (value_refuses d.name d.form w k)) (same w)
+
 performed_refuses : (served : Served) (w : State) (k : ℕ) → Refuses w (performed served w k)
 performed_refuses (DefineClass name super) w k = class_refuses name super (named w.classes name) w k
-performed_refuses (DefineMethod name parameters classes body) w k = method_refuses name parameters body (specializer_numbers w classes) w k
+performed_refuses (DefineMethod name parameters classes body) w k =
+    choice_refuses (is_some (function_in w.functions name)) w _ _ (same w) (method_refuses name parameters body (specializer_numbers w classes) w k)
+performed_refuses (DefineFunction name parameters body) w k = defun_refuses (called_of name) (record { parameters = parameters; body = body }) w k
+performed_refuses (DefineVariable d) w k = variable_refuses d w k
+performed_refuses Nothing w k = tt
 performed_refuses (Expression f) w k = kept_refuses w (evaluation (room_of w) f w k) (evaluation_kept (room_of w) f w k)
 
 served_refuses : (o : Option Served) (w : State) (k : ℕ) → Refuses w (served_run o w k)

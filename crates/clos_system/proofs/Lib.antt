@@ -2,3 +2,5 @@ pub mod Definitions
 pub mod Steps
 pub mod StepQuiet
 pub mod Runs
+pub mod Evaluations
+pub mod Serving

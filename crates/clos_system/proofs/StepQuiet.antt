@@ -1,26 +1,37 @@
 -- With no step left a top-level form changes nothing.
-use Rattle.std.proofs.Common.{◌≡◌, ◌≤◌, ◌-◌, arith, subst, ℕ, ◌+◌, ◌==◌, List, [], Option, Some, None, Result, Ok, Err, Bool, true, false, length, refl, slice_get}
-use Rattle.std.specs.Prelude.{nat_lt, ◌&&◌, if◌then◌else◌}
+use Rattle.std.proofs.Common.{◌≡◌, ◌≤◌, ◌-◌, arith, subst, ℕ, zero, suc, ◌+◌, ◌==◌, List, [], Option, Some, None, Result, Ok, Err, Bool, true, false, length, refl, slice_get}
+use Rattle.std.specs.Prelude.{nat_lt, ◌&&◌, ◌||◌, is_some, if◌then◌else◌}
 use Rattle.lisp_data.specs.Name.{Nam}
 use Rattle.lisp_data.specs.Datum.{Dat}
-use Rattle.clos_forms.specs.Form.{Frms}
-use Rattle.clos_eval.specs.Class.{named}
-use Rattle.clos_eval.specs.Generic.{function_named}
-use Rattle.clos_eval.specs.World.{State, seen}
-use Rattle.clos_eval.specs.declared.world.World.{World}
-use Rattle.clos_eval.specs.Meaning.{Out, Run, known}
+use Rattle.clos_forms.specs.Form.{Frm, Frms}
+use Rattle.clos_world.specs.Class.{named}
+use Rattle.clos_world.specs.Generic.{function_named}
+use Rattle.clos_world.specs.World.{State, seen}
+use Rattle.clos_world.specs.declared.world.World.{World}
+use Rattle.clos_eval.specs.Calls.{known}
+use Rattle.clos_eval.specs.Meaning.{evaluation}
+use Rattle.clos_eval.specs.Outcome.{Out, Gave, Stopped, Run, then_do, step_then}
+use Rattle.clos_world.specs.Functions.{function_in}
+use Rattle.clos_world.specs.Globals.{is_global}
+use Rattle.clos_world.specs.declared.functions.Function.{Function}
+use Rattle.clos_forms.specs.OperatorView.{called_of}
+use Rattle.lisp_data.specs.Print.{Called, by_symbol, by_setf}
+use Rattle.lisp_data.specs.Value.{Val}
+use Rattle.clos_syntax.specs.declared.variable.VariableDefinition.{VariableDefinition}
+use Rattle.clos_system.specs.Function.{has_room, function_defined, setter_defined, new_function_defined, new_setter_defined, define_function}
+use Rattle.clos_system.specs.Variable.{room_below, keeps_value, named as defined_name, declared, value_given, given_value, new_value, variable_defined}
 use Rattle.clos_eval.specs.Machine.{Answers, leaves}
-use Rattle.clos_eval.specs.declared.condition.Stop.{Stop}
-use Rattle.clos_eval.specs.declared.condition.Stop.TheVariants.{Refused, Storage}
+use Rattle.clos_world.specs.declared.condition.Stop.{Stop}
+use Rattle.clos_world.specs.declared.condition.Stop.TheVariants.{Refused, Storage}
 use Rattle.clos_system.specs.Step.{define_class, new_class, superclass_number, define_method, on_function, new_method, specializer_numbers, performed, served_run, checked, step, room_of}
 use Rattle.clos_syntax.specs.Top.{top_of}
 use Rattle.clos_syntax.specs.declared.top.Top.{Top}
 use Rattle.clos_system.specs.Served.{is_combination, served_of}
-use Rattle.clos_eval.specs.declared.condition.Condition.{Condition}
-use Rattle.clos_eval.specs.declared.generic.Generic.{Generic}
+use Rattle.clos_world.specs.declared.condition.Condition.{Condition}
+use Rattle.clos_world.specs.declared.generic.Generic.{Generic}
 use Rattle.clos_eval.specs.declared.machine.Task.TheVariants.{Plain}
 use Rattle.clos_system.specs.declared.served.Served.{Served}
-use Rattle.clos_system.specs.declared.served.Served.TheVariants.{DefineClass, DefineMethod, Expression}
+use Rattle.clos_system.specs.declared.served.Served.TheVariants.{DefineClass, DefineMethod, DefineFunction, DefineVariable, Nothing, Expression}
 use Rattle.clos_eval.proofs.Quiet.{evaluation_quiet}
 
 either : (b : Bool) (x y : Out) (w : State) → leaves x w 0 → leaves y w 0 → leaves (if b then x else y) w 0
@@ -49,9 +60,36 @@ define_method_quiet : (name : Nam) (ps : List Nam) (body : Frms) (r : Result (Li
 define_method_quiet name ps body (Err c) w = (refl, refl)
 define_method_quiet name ps body (Ok ss) w = function_quiet name (function_named w.generics name) ps ss body w
 
+function_defined_quiet : (c : Called) (f : Function) (w : State) → leaves (define_function c f w 0) w 0
+function_defined_quiet (by_symbol name) f w =
+    either (is_some (function_named w.generics name)) _ _ w (refl, refl)
+    (either (is_some (function_in w.functions name) || has_room w) _ _ w (refl, refl) (refl, refl))
+function_defined_quiet (by_setf name) f w = either (is_some (function_in w.setters name) || has_room w) _ _ w (refl, refl) (refl, refl)
+
+-- an evaluation with no step left, and then a step
+then_step_quiet : (o : Out) (go : Val → Run) (w : State) → leaves o w 0 → leaves (then_do o (λ v. step_then (go v))) w 0
+then_step_quiet (Stopped c u k) go w h = h
+then_step_quiet (Gave v u zero) go w h = h
+then_step_quiet (Gave v u (suc k)) go w h = absurd (cc h.1)
+
+value_quiet : (name : Nam) (o : Option Frm) (w : World) → leaves (new_value name o (seen w) 0) (seen w) 0
+value_quiet name None w = (refl, refl)
+value_quiet name (Some f) w =
+    then_step_quiet (evaluation (room_below (seen w)) f (seen w) 0) (λ v. value_given name v) (seen w)
+    (evaluation_quiet (room_below (seen w)) (known []) (Plain f) (seen w))
+
+variable_quiet : (d : VariableDefinition) (w : World) → leaves (variable_defined d (seen w) 0) (seen w) 0
+variable_quiet d w =
+    either (is_global (seen w).globals d.name || nat_lt (length (seen w).globals) (seen w).limits.globals) _ _ (seen w)
+    (either (keeps_value (seen w) d.definer d.name) _ _ (seen w) (refl, refl) (value_quiet d.name d.form w)) (refl, refl)
+
 performed_quiet : (served : Served) (w : World) → leaves (performed served (seen w) 0) (seen w) 0
 performed_quiet (DefineClass name super) w = define_class_quiet name super (named (seen w).classes name) (seen w)
-performed_quiet (DefineMethod name ps cs body) w = define_method_quiet name ps body (specializer_numbers (seen w) cs) (seen w)
+performed_quiet (DefineMethod name ps cs body) w =
+    either (is_some (function_in (seen w).functions name)) _ _ (seen w) (refl, refl) (define_method_quiet name ps body (specializer_numbers (seen w) cs) (seen w))
+performed_quiet (DefineFunction name ps body) w = function_defined_quiet (called_of name) (record { parameters = ps; body = body }) (seen w)
+performed_quiet (DefineVariable d) w = variable_quiet d w
+performed_quiet Nothing w = (refl, refl)
 performed_quiet (Expression f) w = evaluation_quiet (room_of (seen w)) (known []) (Plain f) (seen w)
 
 served_quiet : (o : Option Served) (w : World) → leaves (served_run o (seen w) 0) (seen w) 0

@@ -4,15 +4,15 @@ use Rattle.std.specs.Prelude.{nat_lt, if◌then◌else◌}
 use Rattle.std.proofs.lemmas.Bool.{lt-ltb, eq-eqb}
 use Rattle.lisp_data.specs.Name.{Nam}
 use Rattle.clos_forms.specs.Form.{Frms}
-use Rattle.clos_eval.specs.Class.{named}
-use Rattle.clos_eval.specs.World.{State}
-use Rattle.clos_eval.specs.Meaning.{step_then, stopped}
+use Rattle.clos_world.specs.Class.{named}
+use Rattle.clos_world.specs.World.{State}
+use Rattle.clos_eval.specs.Outcome.{step_then, stopped}
 use Rattle.clos_eval.specs.Machine.{Designates}
 use Rattle.clos_system.specs.Step.{specializer_number, specializer_numbers, found_after, if_found, FindsSpecializers, new_method, method_added, Ready}
 use Rattle.clos_forms.specs.Quotation.{name_value}
-use Rattle.clos_eval.specs.declared.condition.ConditionKind.TheVariants.{LambdaListCongruence, TableLimit}
-use Rattle.clos_eval.specs.declared.condition.Stop.{Stop}
-use Rattle.clos_eval.specs.declared.condition.Stop.TheVariants.{Refused, Storage}
+use Rattle.clos_world.specs.declared.condition.ConditionKind.TheVariants.{LambdaListCongruence, TableLimit}
+use Rattle.clos_world.specs.declared.condition.Stop.{Stop}
+use Rattle.clos_world.specs.declared.condition.Stop.TheVariants.{Refused, Storage}
 
 -- the first specializer at fault decides
 pub found_fault : (w : State) (ids : List ℕ) (c : Nam) (cs names : List Nam) (stop : Stop) → found_after w ids (c ∷ cs) ≡ specializer_numbers w names

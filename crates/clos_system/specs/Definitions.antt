@@ -1,7 +1,7 @@
 -- A refused form defines nothing (HyperSpec 9.1).
 use Rattle.std.specs.Prelude.{⊤}
-use Rattle.clos_eval.specs.Definitions.{Same}
-use Rattle.clos_eval.specs.World.{State}
+use Rattle.clos_world.specs.Definitions.{Same}
+use Rattle.clos_world.specs.World.{State}
 use Rattle.clos_system.specs.declared.session.Reply.{Reply}
 use Rattle.clos_system.specs.declared.session.Reply.TheVariants.{Value, Condition, Storage}
 

@@ -1,4 +1,6 @@
 pub mod Served
+pub mod Function
+pub mod Variable
 pub mod Step
 pub mod Session
 pub mod Definitions

@@ -9,6 +9,8 @@ use Rattle.clos_forms.specs.declared.operator.FunctionName.{FunctionName}
 use Rattle.clos_forms.specs.declared.operator.FunctionName.TheVariants.{Symbol, Setf}
 use Rattle.clos_syntax.specs.Method.{t_name}
 use Rattle.clos_syntax.specs.declared.class.ClassDefinition.{ClassDefinition}
+use Rattle.clos_syntax.specs.declared.function.FunctionDefinition.{FunctionDefinition}
+use Rattle.clos_syntax.specs.declared.variable.VariableDefinition.{VariableDefinition}
 use Rattle.clos_syntax.specs.declared.lambda_list.LambdaList.{LambdaList}
 use Rattle.clos_syntax.specs.declared.method.MethodDefinition.{MethodDefinition}
 use Rattle.clos_syntax.specs.declared.method.ParameterSpecializer.{ParameterSpecializer}
@@ -16,10 +18,11 @@ use Rattle.clos_syntax.specs.declared.method.ParameterSpecializer.TheVariants.{C
 use Rattle.clos_syntax.specs.declared.top.Top.{Top}
 use Rattle.clos_syntax.specs.declared.top.Top.TheVariants.{DefClass, DefGeneric, DefMethod, Defun, DefVar, RemoveMethod, AddDependent, RemoveDependent, InPackage, Expr}
 use Rattle.clos_system.specs.declared.served.Served.{Served}
-use Rattle.clos_system.specs.declared.served.Served.TheVariants.{DefineClass, DefineMethod, Expression}
-use Rattle.clos_forms.specs.Form.{Frm, form, Frms, nil, cons}
+use Rattle.clos_system.specs.declared.served.Served.TheVariants.{DefineClass, DefineMethod, DefineFunction, DefineVariable, Nothing, Expression}
+use Rattle.clos_forms.specs.Form.{Frm, form, Frms, nil, cons, operator_in}
 use Rattle.clos_forms.specs.Names.{is_called, is_one_of, functions, system_functions}
-use Rattle.clos_forms.specs.Operator.{Opr}
+use Rattle.clos_forms.specs.Operator.{Opr, Plc, variable_place, slot_value_place, call_place}
+use Rattle.lisp_data.specs.Print.{Called, by_symbol, by_setf}
 use Rattle.clos_forms.specs.Operator as of
 use Rattle.clos_eval.specs.Callee.{callee_of}
 use Rattle.clos_eval.specs.declared.callee.Callee.{Callee}
@@ -30,13 +33,39 @@ is_one nil = false
 is_one (cons f nil) = true
 is_one (cons f (cons g fs)) = false
 
--- a call of a function by its kind: those of the language that aren't served yet have no other meaning
+-- whether a function is served: of those of the language some are not yet, and have no other meaning
+abbrev pub is_served_as : Callee → Nam → Bool
+is_served_as (Output o) name = true
+is_served_as Terpri name = true
+is_served_as (Primitive p) name = true
+is_served_as MakeInstance name = true
+is_served_as Defined name = not (is_one_of functions name) && not (is_one_of system_functions name)
+
+abbrev pub names_served : Called → Bool
+names_served (by_symbol name) = is_served_as (callee_of name) name
+names_served (by_setf name) = true
+
+-- a place that may be set, and one that may be changed by an amount
+abbrev pub is_set : Plc → Bool
+is_set (variable_place n) = true
+is_set slot_value_place = false
+is_set (call_place n) = true
+
+abbrev pub is_changed : Opr → Bool
+is_changed (of.place (variable_place n)) = true
+is_changed o = false
+
+abbrev pub changes_variable : Frms → Bool
+changes_variable nil = true
+changes_variable (cons f fs) = is_changed (operator_in f)
+
+-- a call of a function by its kind
 abbrev pub calls_as : Callee → Nam → Frms → Bool
 calls_as (Output o) name arguments = true
 calls_as Terpri name arguments = true
 calls_as (Primitive p) name arguments = true
 calls_as MakeInstance name arguments = is_one arguments
-calls_as Defined name arguments = not (is_one_of functions name) && not (is_one_of system_functions name)
+calls_as Defined name arguments = is_served_as Defined name
 
 abbrev pub calls : Nam → Frms → Bool
 calls name arguments = calls_as (callee_of name) name arguments
@@ -55,15 +84,15 @@ serves of.or_form ps = true
 serves of.progn ps = true
 serves of.prog1 ps = true
 serves (of.call name) ps = calls name ps
-serves (of.function c) ps = false
-serves (of.let_form bs) ps = false
+serves (of.function c) ps = names_served c
+serves (of.let_form bs) ps = true
 serves (of.let_in_order bs) ps = true
-serves (of.setq ns) ps = false
-serves of.setf ps = false
-serves of.incf ps = false
-serves of.decf ps = false
-serves (of.place p) ps = false
-serves (of.dotimes n b) ps = false
+serves (of.setq ns) ps = true
+serves of.setf ps = true
+serves of.incf ps = changes_variable ps
+serves of.decf ps = changes_variable ps
+serves (of.place p) ps = is_set p
+serves (of.dotimes n b) ps = true
 serves (of.with_slots bs) ps = false
 serves of.call_next_method ps = false
 serves of.next_method_p ps = false
@@ -129,17 +158,29 @@ served_method f m =
     then (served_name f >>= λ n. classes_named m.specializers >>= λ cs. Some (DefineMethod n m.lambda_list.required cs m.body))
     else None
 
+-- a function of required parameters alone, with a body that is served
+abbrev pub served_function : FunctionDefinition → Option Served
+served_function f =
+    if requires_only f.lambda_list && are_served f.body then Some (DefineFunction f.name f.lambda_list.required f.body) else None
+
+abbrev pub is_served_if_any : Option Frm → Bool
+is_served_if_any None = true
+is_served_if_any (Some f) = is_served f
+
+abbrev pub served_variable : VariableDefinition → Option Served
+served_variable v = if is_served_if_any v.form then Some (DefineVariable v) else None
+
 abbrev pub served_of : Top → Option Served
 served_of (DefClass c) = served_class c
 served_of (DefMethod f m) = served_method f m
 served_of (Expr f) = if is_served f then Some (Expression f) else None
 served_of (DefGeneric g) = None
-served_of (Defun f) = None
-served_of (DefVar v) = None
+served_of (Defun f) = served_function f
+served_of (DefVar v) = served_variable v
 served_of (RemoveMethod f g) = None
 served_of (AddDependent f g) = None
 served_of (RemoveDependent f g) = None
-served_of InPackage = None
+served_of InPackage = Some Nothing
 
 -- a define-method-combination, which is not served, nor checked
 abbrev pub names_combination : Dat → Bool

@@ -1,29 +1,34 @@
 -- What a top-level form does (HyperSpec 3.1.2.1, and the entries defclass and defmethod).
-use Rattle.std.specs.Prelude.{◌≡◌, ℕ, ◌+◌, ◌<◌, ◌==◌, ◌||◌, ◌&&◌, nat_lt, nat_le, min, List, [], ◌∷◌, ◌++◌, Option, Some, None, Result, Ok, Err, if◌then◌else◌, length, slice_get, slice_set}
+use Rattle.std.specs.Prelude.{◌≡◌, ℕ, ◌+◌, ◌<◌, ◌==◌, ◌||◌, ◌&&◌, nat_lt, nat_le, min, List, [], ◌∷◌, ◌++◌, Option, Some, None, Result, Ok, Err, if◌then◌else◌, length, slice_get, slice_set, is_some}
 use Rattle.std.specs.Str.{bytes_eq}
 use Rattle.lisp_data.specs.Name.{Nam}
-use Rattle.lisp_data.specs.Value.{class, method}
+use Rattle.lisp_data.specs.Value.{class, method, list, nil}
 use Rattle.lisp_data.specs.Datum.{Dat}
 use Rattle.clos_forms.specs.Form.{Frms}
-use Rattle.clos_eval.specs.Class.{named}
-use Rattle.clos_eval.specs.Generic.{function_named, specializers_of}
+use Rattle.clos_world.specs.Class.{named}
+use Rattle.clos_world.specs.Generic.{function_named, specializers_of}
 use Rattle.clos_forms.specs.Quotation.{name_value}
 use Rattle.clos_syntax.specs.Top.{top_of}
 use Rattle.clos_syntax.specs.declared.top.Top.{Top}
 use Rattle.clos_system.specs.Served.{is_combination, served_of}
-use Rattle.clos_eval.specs.World.{State}
-use Rattle.clos_eval.specs.Meaning.{Gave, Stopped, Run, stopped, step_then, evaluation}
-use Rattle.clos_eval.specs.declared.class.Superclasses.TheVariants.{Direct}
-use Rattle.clos_eval.specs.declared.class.ClassIds.{ClassIds}
-use Rattle.clos_eval.specs.declared.condition.Condition.{Condition}
-use Rattle.clos_eval.specs.declared.condition.Stop.{Stop}
-use Rattle.clos_eval.specs.declared.condition.Stop.TheVariants.{Refused, Storage}
-use Rattle.clos_eval.specs.declared.condition.ConditionKind.TheVariants.{ProgramError, UndefinedClass, LambdaListCongruence, Unsupported, TableLimit}
-use Rattle.clos_eval.specs.declared.generic.Generic.{Generic}
-use Rattle.clos_eval.specs.declared.generic.Method.{Method}
-use Rattle.clos_eval.specs.declared.generic.MethodIds.{MethodIds}
+use Rattle.clos_world.specs.World.{State}
+use Rattle.clos_eval.specs.Meaning.{evaluation}
+use Rattle.clos_eval.specs.Outcome.{Gave, Stopped, Run, stopped, step_then}
+use Rattle.clos_forms.specs.OperatorView.{called_of}
+use Rattle.clos_world.specs.Functions.{function_in}
+use Rattle.clos_system.specs.Function.{define_function}
+use Rattle.clos_system.specs.Variable.{variable_defined}
+use Rattle.clos_world.specs.declared.class.Superclasses.TheVariants.{Direct}
+use Rattle.clos_world.specs.declared.class.ClassIds.{ClassIds}
+use Rattle.clos_world.specs.declared.condition.Condition.{Condition}
+use Rattle.clos_world.specs.declared.condition.Stop.{Stop}
+use Rattle.clos_world.specs.declared.condition.Stop.TheVariants.{Refused, Storage}
+use Rattle.clos_world.specs.declared.condition.ConditionKind.TheVariants.{ProgramError, UndefinedClass, LambdaListCongruence, Unsupported, TableLimit}
+use Rattle.clos_world.specs.declared.generic.Generic.{Generic}
+use Rattle.clos_world.specs.declared.generic.Method.{Method}
+use Rattle.clos_world.specs.declared.generic.MethodIds.{MethodIds}
 use Rattle.clos_system.specs.declared.served.Served.{Served}
-use Rattle.clos_system.specs.declared.served.Served.TheVariants.{DefineClass, DefineMethod, Expression}
+use Rattle.clos_system.specs.declared.served.Served.TheVariants.{DefineClass, DefineMethod, DefineFunction, DefineVariable, Nothing, Expression}
 
 -- The classes with a number below this are predefined.
 abbrev pub first_defined : ℕ
@@ -118,6 +123,10 @@ abbrev pub define_method : Nam → List Nam → Frms → Result (List ℕ) Condi
 define_method name parameters body (Err c) w k = Stopped c w k
 define_method name parameters body (Ok specializers) w k = on_function name (function_named w.generics name) parameters specializers body w k
 
+-- the name of a function that is no generic function takes no method
+abbrev pub unless_function : Nam → Run → Run
+unless_function name define w k = if is_some (function_in w.functions name) then stopped ProgramError [] w k else define w k
+
 -- ---- any top-level form
 
 -- how deep its forms may nest
@@ -126,7 +135,10 @@ room_of w = min w.limits.depth 4_000
 
 abbrev pub performed : Served → Run
 performed (DefineClass name super) w k = define_class name super (named w.classes name) w k
-performed (DefineMethod name parameters classes body) w k = define_method name parameters body (specializer_numbers w classes) w k
+performed (DefineMethod name parameters classes body) w k = unless_function name (define_method name parameters body (specializer_numbers w classes)) w k
+performed (DefineFunction name parameters body) w k = define_function (called_of name) (record { parameters = parameters; body = body }) w k
+performed (DefineVariable d) w k = variable_defined d w k
+performed Nothing w k = Gave (list nil) w k
 performed (Expression f) w k = evaluation (room_of w) f w k
 
 abbrev pub served_run : Option Served → Run

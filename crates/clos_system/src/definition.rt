@@ -3,18 +3,18 @@
 ghost use Rattle.std.specs.Prelude.{◌≡◌, ◌++◌, ◌∷◌, [], ℕ, ◌+◌, ◌<◌, IfOk, OnOk, OnErr, option_map, option_copied, map, length, slice_get, slice_set, Some, None, vec_len, vec_capacity};
 ghost use Rattle.std.specs.Str.{bytes_eq};
 ghost use Rattle.lisp_data.specs.ValueView.{value_of};
-ghost use Rattle.clos_eval.specs.Class.{named};
-ghost use Rattle.clos_eval.specs.Generic.{specializers_of, function_named};
-ghost use Rattle.clos_eval.specs.World.{State, seen};
-ghost use Rattle.clos_eval.specs.Meaning.{Run, Gave, Stopped, step_then};
+ghost use Rattle.clos_world.specs.Class.{named};
+ghost use Rattle.clos_world.specs.Generic.{specializers_of, function_named};
+ghost use Rattle.clos_world.specs.World.{State, seen};
+ghost use Rattle.clos_eval.specs.Outcome.{Run, Gave, Stopped, step_then};
 ghost use Rattle.clos_eval.specs.Machine.{Answers, Designates};
-ghost use Rattle.clos_system.specs.Step.{superclass_number, class_added, new_class, define_class, specializer_number, specializer_numbers, found_after, without_same, function_added, new_function, method_added, new_method, on_function, define_method, FindsSpecializers, Prepares};
+ghost use Rattle.clos_system.specs.Step.{superclass_number, class_added, new_class, define_class, specializer_number, specializer_numbers, found_after, without_same, function_added, new_function, method_added, new_method, on_function, define_method, unless_function, FindsSpecializers, Prepares};
 
-use clos_eval::class::{Class, ClassIds, Superclasses, class_named};
-use clos_eval::condition::{ConditionKind, Stop, about_name, plain};
-use clos_eval::generic::{Generic, Method, MethodIds, Parameters, generic_named, method_numbered};
-use clos_eval::world::World;
 use clos_forms::Forms;
+use clos_world::{
+    Class, ClassIds, ConditionKind, Generic, Method, MethodIds, Parameters, Stop, Superclasses,
+    World, about_name, class_named, generic_named, method_numbered, plain,
+};
 use lisp_data::{ClassId, GenericId, MethodId, Name, Value};
 use std::alloc::{AllocError, Global};
 
@@ -154,8 +154,11 @@ pub fn defmethod(
     body: Forms,
     steps: &mut u64,
 ) -> Result<Value, Stop>
-    ensures { Answers (λ w k. define_method name parameters body (specializer_numbers w classes.now) w k) (seen world.old) steps.old result (seen world.new) steps.new }
+    ensures { Answers (λ w k. unless_function name (define_method name parameters body (specializer_numbers w classes.now)) w k) (seen world.old) steps.old result (seen world.new) steps.new }
 {
+    if world.functions.get(&name).is_some() {
+        return Err(Stop::Refused(plain(alloc, ConditionKind::ProgramError)));
+    }
     match specializers(alloc, world, classes) {
         Err(stop) => Err(stop),
         Ok(specializers) => match generic_named(&world.generics, &name) {

@@ -2,12 +2,12 @@
 #![tactic(auto)]
 
 mod definition;
+mod function;
 mod served;
 mod session;
 mod transcript;
+mod variable;
 
-pub use clos_eval::arguments::Values;
-pub use clos_eval::condition::ConditionKind;
-pub use clos_eval::limits::Limits;
+pub use clos_world::{ConditionKind, Limits, Values};
 pub use session::{Reply, Session};
 pub use transcript::{RunFault, Summary, run};

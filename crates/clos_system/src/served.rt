@@ -4,15 +4,18 @@ ghost use Rattle.std.specs.List.{list_any};
 ghost use Rattle.lisp_data.specs.Datum.{Dats, nil};
 ghost use Rattle.lisp_data.specs.DatumView.{datum_of};
 ghost use Rattle.clos_forms.specs.Form.{Frm, Frms};
-ghost use Rattle.clos_forms.specs.OperatorView.{operator_of};
-ghost use Rattle.clos_system.specs.Served.{are_served, at_most_one_name, calls, class_name, classes_named, is_combination, is_empty, is_eql, is_one, is_plain, is_served, requires_only, served_class, served_method, served_name, served_of, serves};
+ghost use Rattle.clos_forms.specs.OperatorView.{called_of, operator_of, place_of};
+ghost use Rattle.clos_system.specs.Served.{are_served, at_most_one_name, calls, class_name, classes_named, is_combination, is_empty, is_eql, is_one, is_plain, is_served, requires_only, served_class, served_function, served_method, served_name, served_of, served_variable, serves, names_served, is_served_as, is_served_if_any, is_set, is_changed, changes_variable};
 
 use clos_eval::callee::{Callee, callee_named};
-use clos_eval::generic::Parameters;
-use clos_forms::{Form, Forms, FunctionName, Operator, is_function, is_system_function, is_the};
-use clos_syntax::{
-    ClassDefinition, LambdaList, MethodDefinition, ParameterSpecializer, Sequence, Top,
+use clos_forms::{
+    Form, Forms, FunctionName, Operator, Place, is_function, is_system_function, is_the,
 };
+use clos_syntax::{
+    ClassDefinition, FunctionDefinition, LambdaList, MethodDefinition, ParameterSpecializer,
+    Sequence, Top, VariableDefinition,
+};
+use clos_world::Parameters;
 use lisp_data::{Data, Datum, Name};
 use std::alloc::{AllocError, Global};
 
@@ -23,6 +26,12 @@ pub enum Served {
     DefineClass(Name, Option<Name>),
     /// A method of the function of this name: its parameters, the names of their classes, and its body.
     DefineMethod(Name, Parameters, Parameters, Forms),
+    /// A function of this name: its parameters, and its body.
+    DefineFunction(FunctionName, Parameters, Forms),
+    /// A global variable.
+    DefineVariable(VariableDefinition),
+    /// A form without an effect.
+    Nothing,
     Expression(Form),
 }
 
@@ -40,12 +49,12 @@ pub fn serve(alloc: Global, top: Top) -> Result<Option<Served>, AllocError>
             Ok(None)
         }
         Top::DefGeneric(_) => Ok(None),
-        Top::Defun(_) => Ok(None),
-        Top::DefVar(_) => Ok(None),
+        Top::Defun(function) => serve_function(alloc, function),
+        Top::DefVar(variable) => Ok(serve_variable(variable)),
         Top::RemoveMethod(_, _) => Ok(None),
         Top::AddDependent(_, _) => Ok(None),
         Top::RemoveDependent(_, _) => Ok(None),
-        Top::InPackage => Ok(None),
+        Top::InPackage => Ok(Some(Served::Nothing)),
     }
 }
 
@@ -127,6 +136,41 @@ fn is_plain(qualifiers: &Data, lambda_list: &LambdaList, body: &Forms) -> bool
     ensures { result ≡ is_plain qualifiers.now lambda_list.now body.now }
 {
     qualifiers.split_first().is_none() && requires_only(lambda_list) && are_served(body)
+}
+
+/// A function of required parameters alone, with a body that is served.
+fn serve_function(alloc: Global, function: FunctionDefinition) -> Result<Option<Served>, AllocError>
+    ensures { IfOk result (λ r. r ≡ served_function function) }
+{
+    let FunctionDefinition {
+        name,
+        lambda_list,
+        body,
+    } = function;
+    if !(requires_only(&lambda_list) && are_served(&body)) {
+        return Ok(None);
+    }
+    let parameters = Parameters::new(alloc, lambda_list.required.into_items())?;
+    Ok(Some(Served::DefineFunction(name, parameters, body)))
+}
+
+/// A global variable whose form, where there is one, is served.
+fn serve_variable(variable: VariableDefinition) -> Option<Served>
+    ensures { result ≡ served_variable variable }
+{
+    if !is_served_if_any(&variable.form) {
+        return None;
+    }
+    Some(Served::DefineVariable(variable))
+}
+
+fn is_served_if_any(form: &Option<Form>) -> bool
+    ensures { result ≡ is_served_if_any form.now }
+{
+    match form {
+        None => true,
+        Some(form) => is_served(form),
+    }
 }
 
 /// Whether all parameters are required ones.
@@ -242,18 +286,70 @@ fn serves(operator: &Operator, parts: &Forms) -> bool
         Operator::Progn => true,
         Operator::Prog1 => true,
         Operator::Call(name) => calls(name, parts),
-        Operator::Function(_) => false,
-        Operator::Let(_) => false,
+        Operator::Function(name) => names_served(name),
+        Operator::Let(_) => true,
         Operator::LetInOrder(_) => true,
-        Operator::Setq(_) => false,
-        Operator::Setf => false,
-        Operator::Incf => false,
-        Operator::Decf => false,
-        Operator::Place(_) => false,
-        Operator::Dotimes(_, _) => false,
+        Operator::Setq(_) => true,
+        Operator::Setf => true,
+        Operator::Incf => changes_variable(parts),
+        Operator::Decf => changes_variable(parts),
+        Operator::Place(place) => is_set(place),
+        Operator::Dotimes(_, _) => true,
         Operator::WithSlots(_) => false,
         Operator::CallNextMethod => false,
         Operator::NextMethodP => false,
+    }
+}
+
+/// Whether the function of this name is served.
+fn names_served(name: &FunctionName) -> bool
+    ensures { result ≡ names_served (called_of name.now) }
+{
+    match name {
+        FunctionName::Symbol(name) => is_served_as(callee_named(name), name),
+        FunctionName::Setf(_) => true,
+    }
+}
+
+fn is_served_as(callee: Callee, name: &Name) -> bool
+    ensures { result ≡ is_served_as callee name.now }
+{
+    match callee {
+        Callee::Defined => !is_function(name) && !is_system_function(name),
+        Callee::Output(_) => true,
+        Callee::Terpri => true,
+        Callee::Primitive(_) => true,
+        Callee::MakeInstance => true,
+    }
+}
+
+/// Whether a place may be set.
+fn is_set(place: &Place) -> bool
+    ensures { result ≡ is_set (place_of place.now) }
+{
+    match place {
+        Place::Variable(_) => true,
+        Place::SlotValue => false,
+        Place::Call(_) => true,
+    }
+}
+
+/// Whether what is changed by an amount is a variable.
+fn changes_variable(parts: &Forms) -> bool
+    ensures { result ≡ changes_variable parts.now }
+{
+    match parts.split_first() {
+        None => true,
+        Some((place, _)) => is_changed(place.operator()),
+    }
+}
+
+fn is_changed(operator: &Operator) -> bool
+    ensures { result ≡ is_changed (operator_of operator.now) }
+{
+    match operator {
+        Operator::Place(Place::Variable(_)) => true,
+        _ => false,
     }
 }
 
@@ -266,7 +362,7 @@ fn calls(name: &Name, arguments: &Forms) -> bool
         Callee::Terpri => true,
         Callee::Primitive(_) => true,
         Callee::MakeInstance => is_one(arguments),
-        Callee::Defined => !is_function(name) && !is_system_function(name),
+        Callee::Defined => is_served_as(Callee::Defined, name),
     }
 }
 

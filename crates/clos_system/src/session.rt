@@ -2,25 +2,26 @@
 ghost use Rattle.std.specs.Prelude.{◌≡◌, ℕ, IfOk, Some};
 ghost use Rattle.lisp_data.specs.ValueView.{value_of};
 ghost use Rattle.lisp_data.specs.DatumView.{datum_of};
-ghost use Rattle.clos_eval.specs.World.{State, seen};
-ghost use Rattle.clos_eval.specs.Meaning.{Run};
+ghost use Rattle.clos_world.specs.World.{State, seen};
+ghost use Rattle.clos_eval.specs.Outcome.{Run};
 ghost use Rattle.clos_eval.specs.Machine.{Answers};
 ghost use Rattle.clos_system.specs.Step.{checked, performed, step};
-ghost use Rattle.clos_eval.specs.Initial.{initial};
+ghost use Rattle.clos_world.specs.Initial.{initial};
 ghost use Rattle.clos_system.specs.Definitions.{DefinesNothing};
 ghost use Rattle.clos_system.specs.Session.{state_of, Replies};
 
 use crate::definition::{defclass, defmethod};
+use crate::function::defun;
 use crate::served::{Served, is_combination, serve};
-use clos_eval::arguments::Values;
-use clos_eval::condition::{ConditionKind, Stop, plain};
-use clos_eval::eval::evaluate;
-use clos_eval::limits::Limits;
-use clos_eval::predefined::predefined_classes;
-use clos_eval::world::World;
+use crate::variable::define_variable;
+use clos_eval::evaluate;
 use clos_forms::SyntaxFault;
 use clos_syntax::{Top, parse_top};
-use lisp_data::{Datum, Value};
+use clos_world::{
+    ConditionKind, Function, Functions, Globals, Limits, Stop, Values, World, plain,
+    predefined_classes,
+};
+use lisp_data::{Datum, Items, Value};
 use std::alloc::{AllocError, Global};
 
 /// The answer to a top-level form.
@@ -50,6 +51,9 @@ impl Session {
             classes,
             generics: Vec::new(alloc),
             methods: Vec::new(alloc),
+            functions: Functions::new(alloc),
+            setters: Functions::new(alloc),
+            globals: Globals::new(alloc),
             instances: Vec::new(alloc),
             written: Vec::new(alloc),
             limits,
@@ -126,6 +130,11 @@ fn perform_served(
         Served::DefineMethod(name, parameters, classes, body) => {
             defmethod(alloc, world, name, parameters, &classes, body, steps)
         }
+        Served::DefineFunction(name, parameters, body) => {
+            defun(alloc, world, name, Function { parameters, body }, steps)
+        }
+        Served::DefineVariable(variable) => define_variable(alloc, world, variable, steps),
+        Served::Nothing => Ok(Value::List(Items::new())),
         Served::Expression(form) => {
             let room = world.limits.depth.min(4_000);
             evaluate(alloc, world, form, room, steps)

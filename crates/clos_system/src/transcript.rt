@@ -3,13 +3,12 @@ ghost use Rattle.std.specs.Prelude.{◌≡◌, ◌++◌, ◌∷◌, ◌+◌, ◌
 ghost use Rattle.lisp_data.specs.Print.{text_of};
 ghost use Rattle.lisp_data.specs.ValueView.{value_of};
 ghost use Rattle.lisp_data.specs.DatumView.{datum_of};
-ghost use Rattle.clos_eval.specs.World.{State, seen, names_of};
+ghost use Rattle.clos_world.specs.World.{State, seen, names_of};
 ghost use Rattle.clos_system.specs.Session.{state_of};
 ghost use Rattle.clos_system.specs.Transcript.{ends_line, fresh_line, condition_text, storage_text, told_for, counted_for, Finishes, Faults, Performs, FailsAfter, OverText, RunFaults, SourceFails};
 
 use crate::session::{Session, perform};
-use clos_eval::condition::{Condition, Stop};
-use clos_eval::world::World;
+use clos_world::{Condition, Stop, World};
 use itoa::Buffer;
 use lisp_data::{Datum, Value, prin1};
 use lisp_reader::{ReadFault, read_form};

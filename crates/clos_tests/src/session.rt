@@ -47,10 +47,13 @@ const ORDERS: &str =
 
 const UNSUPPORTED: &str = "; 28 (UNSUPPORTED)~";
 
-const NOT_SERVED: &str = "(defvar x 1)
-(let ((x (princ 1))) x)
+const NOT_SERVED: &str = "(defvar x (princ (typep 1 'integer)))
+(with-slots (a) (princ 1) a)
 (f (princ 1) (typep 1 'integer))
-(progn (princ 1) (cond (nil (setq x 1))))
+(progn (princ 1) (cond (nil (incf (f 1)))))
+(progn (princ 1) (setf (slot-value 1 'a) 2))
+(progn (princ 1) #'initialize-instance)
+(defun f (&optional x) x)
 (defmethod f (x) (call-next-method))
 (initialize-instance (princ 1))
 (defgeneric f (x))
@@ -64,7 +67,7 @@ const NOT_SERVED: &str = "(defvar x 1)
 (defmethod f ((x integer)) x)
 (defmethod f ((x (eql 1))) x)
 (defmethod f (x &rest y) x)
-(defmethod f (x) (setq x 1))
+(defmethod f (x) (typep x 'integer))
 (defmethod initialize-instance (x) x)
 (defclass a () ()) (defclass a () ()) (princ (make-instance 'a)) => ; 28 (UNSUPPORTED)~#<A 1>";
 
@@ -136,6 +139,71 @@ const VARIABLES: &str = "(princ (let* ((a 1) (b (+ a 1)) c (d)) (list a b c d)))
 steps 5: (let* ((a 1) b) (princ a)) => 1
 steps 4: (let* ((a 1) b) (princ a)) => ; 29 (STEP-LIMIT)~";
 
+const ASSIGNMENTS: &str = r#"(let ((a 1) (b 2)) (setq a 3 b 4) (princ (list a b))) => (3 4)
+(princ (let ((a 1)) (let ((a 2) (b a)) (list a b)))) => (2 1)
+(princ (let ((a 1)) (let ((a 2)) (setq a 3)) a)) => 1
+(princ (let () 1 2)) (princ (let ((a)) a)) (princ (setq)) (princ (setf)) => 2NILNILNIL
+(princ (let ((a 1) (b)) (setf a 5 b a) (list a b))) => (5 5)
+(princ (let ((a 1)) (list (incf a) (incf a 5) (decf a) (decf a 2) a))) => (2 7 6 4 4)
+(let ((a "s")) (incf a)) => ; 4 (TYPE-ERROR "s")~
+(let ((a 1)) (incf a (princ 'b))) => B~; 4 (TYPE-ERROR B)~
+(setq q (princ 1)) => 1~; 2 (UNBOUND-VARIABLE Q)~
+(incf q (princ 1)) => 1~; 2 (UNBOUND-VARIABLE Q)~
+(defun (setf g) (v a b) (princ (list v a b)) 7) (princ (setf (g 1 2) (princ 3))) => 3(3 1 2)7
+(defun (setf g) (v) (princ v) v) (princ (setf (g) 1 (g) 2)) => 122
+(setf (g (princ 1)) (princ 2)) => 12~; 3 (UNDEFINED-FUNCTION (SETF G))~
+steps 4: (let ((x 1)) (setq x 2))
+steps 3: (let ((x 1)) (setq x 2)) => ; 29 (STEP-LIMIT)~"#;
+
+const GLOBALS: &str =
+    r#"(defvar x 1) (defvar x (princ 2)) (princ x) (defparameter x 3) (princ x) (setq x 4) (princ x) => 134
+(defvar x) x => ; 2 (UNBOUND-VARIABLE X)~
+(defvar x) (setq x 1) (defvar x 2) (princ x) => 1
+(defvar x) (defvar x 2) (princ x) => 2
+echo: (defvar x 5) (defparameter y 6) (in-package z) (defun f () 1) (defun (setf f) (v) v) => X~Y~NIL~F~(SETF F)~
+(defvar x 1) (let ((y (princ 1)) (x 2)) (princ 3)) => 1~; 28 (UNSUPPORTED)~
+(defvar x 1) (let* ((x (princ 1)) (y (princ 2))) 3) => 1~; 28 (UNSUPPORTED)~
+(defvar x 1) (let* (x (y (princ 2))) 3) => ; 28 (UNSUPPORTED)~
+(defvar x 1) (defun f (x) x) (f (princ 1)) => 1~; 28 (UNSUPPORTED)~
+(defvar x 1) (defmethod f (x) x) (f 1) => ; 28 (UNSUPPORTED)~
+(defvar x 1) (dotimes (x (princ 2)) 1) => 2~; 28 (UNSUPPORTED)~
+(defvar x 1) (defun f () x) (princ (f)) (setq x 2) (princ (f)) (incf x 5) (princ x) => 127
+steps 2: (defvar x 1)
+steps 1: (defvar x 1) => ; 29 (STEP-LIMIT)~
+steps 3: (defvar x 1) (setq x 2)
+steps 2: (defvar x 1) (setq x 2) => ; 29 (STEP-LIMIT)~
+depth 2: (defvar x 1)
+depth 1: (defvar x 1) => ; 30 (DEPTH-LIMIT)~"#;
+
+const LOOPS: &str = "(dotimes (i 3) (princ i)) => 012
+(princ (dotimes (i 3 i) (setq i 10))) (princ (dotimes (i 2))) (princ (dotimes (i -1 i) (princ 1))) => 3NIL0
+(dotimes (i (princ 'a)) 1) => A~; 4 (TYPE-ERROR A)~
+(let ((n 0)) (dotimes (i 3) (dotimes (j i) (incf n))) (princ n)) => 3
+(let ((n 3)) (dotimes (i n n) (setq n 0) (princ i))) => 012
+(princ (let ((i 5)) (dotimes (i 2)) i)) => 5
+steps 5: (dotimes (i 3))
+steps 4: (dotimes (i 3)) => ; 29 (STEP-LIMIT)~";
+
+const DEFINED: &str = "(defun f (x y) (setq x (+ x y)) x) (princ (f 1 2)) (princ (f 3 4)) => 37
+(defun f () 1) (defun f () 2) (princ (f)) => 2
+(defun f ()) (princ (f)) => NIL
+(defun f (x) x) (f (princ 1) 2) => 1~; 1 (PROGRAM-ERROR)~
+(defun f (x) (if (= x 0) 1 (* x (f (- x 1))))) (princ (f 10)) => 3628800
+(defun f (x) y) (let ((y 1)) (f 1)) => ; 2 (UNBOUND-VARIABLE Y)~
+(defun f () 1) (defmethod f () 2) (princ (f)) => ; 1 (PROGRAM-ERROR)~1
+(defmethod f () 1) (defun f () 2) (princ (f)) => ; 1 (PROGRAM-ERROR)~1
+#'g => ; 3 (UNDEFINED-FUNCTION G)~
+#'(setf g) => ; 3 (UNDEFINED-FUNCTION (SETF G))~
+#'if => ; 3 (UNDEFINED-FUNCTION IF)~
+(defun g () 1) #'g => ; 28 (UNSUPPORTED)~
+(defun (setf g) (v) v) #'(setf g) => ; 28 (UNSUPPORTED)~
+#'car => ; 28 (UNSUPPORTED)~
+(defmethod g () 1) (princ #'g) => #<GENERIC-FUNCTION G>
+steps 1: (defun f () 1)
+steps 0: (defun f () 1) => ; 29 (STEP-LIMIT)~
+(defun f (n) (f n)) (f 1) => ; 30 (DEPTH-LIMIT)~
+depth 4000: (defun f (n) (f n)) (f 1) => ; 30 (DEPTH-LIMIT)~";
+
 const FUNCTIONS: &str =
     r#"(princ (list (floor -7 2) (truncate -7 2) (mod -7 2) (rem -7 2))) => (-4 -3 1 -1)
 (princ (append '(1 2) (list* 3 '(4)))) => (1 2 3 4)
@@ -176,7 +244,10 @@ const FULL: &str = "tables 1: (defclass a () ()) (make-instance 'a) (make-instan
 tables 1: (defclass a () ()) (defclass b () ())
 tables 1: (defmethod f (x) x) (defmethod f (x) 2) (defmethod g (x) x)
 methods 1: (defmethod f (x) x) (defmethod f (x) 2)
-methods 1: (defmethod f (x) x) (defmethod g (x) 2)";
+methods 1: (defmethod f (x) x) (defmethod g (x) 2)
+globals 1: (defvar x 1) (defvar x 2) (defparameter x 3) (defvar y (princ 1))
+functions 1: (defun f () 1) (defun f () 2) (defun g () 1)
+functions 1: (defun (setf f) () 1) (defun f () 1)";
 
 const LIMITED: &str = r#"steps 3: (princ 1) => 1
 steps 2: (princ 1) => ; 29 (STEP-LIMIT)~
@@ -204,6 +275,8 @@ fn limits(setting: &str) -> Limits {
         "steps" => limits.steps = number,
         "depth" => limits.depth = number,
         "methods" => limits.methods = number,
+        "functions" => limits.functions = number,
+        "globals" => limits.globals = number,
         "tables" => {
             limits.classes = number;
             limits.generics = number;
@@ -303,6 +376,26 @@ fn forms_one_after_another(rt: HostRuntime) -> Result<(), Fail> {
 #[test]
 fn variables(rt: HostRuntime) -> Result<(), Fail> {
     all_write(&rt, rt.alloc(), "", VARIABLES, "; 2 (UNBOUND-VARIABLE X)~")
+}
+
+#[test]
+fn assignments(rt: HostRuntime) -> Result<(), Fail> {
+    all_write(&rt, rt.alloc(), "", ASSIGNMENTS, "")
+}
+
+#[test]
+fn global_variables(rt: HostRuntime) -> Result<(), Fail> {
+    all_write(&rt, rt.alloc(), "", GLOBALS, "")
+}
+
+#[test]
+fn loops(rt: HostRuntime) -> Result<(), Fail> {
+    all_write(&rt, rt.alloc(), "", LOOPS, "")
+}
+
+#[test]
+fn functions_of_the_program(rt: HostRuntime) -> Result<(), Fail> {
+    all_write(&rt, rt.alloc(), "", DEFINED, "")
 }
 
 #[test]

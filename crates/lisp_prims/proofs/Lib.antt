@@ -3,3 +3,5 @@ pub mod OnQuotients
 pub mod OnEquality
 pub mod OnMaking
 pub mod OnRounding
+pub mod OnSizes
+pub mod OnFaults

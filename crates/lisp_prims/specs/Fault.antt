@@ -1,6 +1,7 @@
 -- The conditions that functions of values signal (HyperSpec 9.1), and the faults that stand for them.
-use Rattle.std.specs.Prelude.{◌≡◌, ℕ, Option, Some, None, Bool, true, false, Result, Ok, Err, MatchResult, ⊤}
-use Rattle.lisp_data.specs.Value.{Val}
+use Rattle.std.specs.Prelude.{◌≡◌, ℕ, Option, Some, None, Bool, true, false, not, codes, Result, Ok, Err, MatchResult, ⊤}
+use Rattle.lisp_data.specs.Name.{Nam, same_name}
+use Rattle.lisp_data.specs.Value.{Val, symbol, string, list, cons}
 use Rattle.lisp_data.specs.ValueView.{value_of}
 use Rattle.lisp_data.specs.declared.limits.ListFault.{ListFault}
 use Rattle.lisp_data.specs.declared.limits.ListFault.TheVariants.{Limit, Memory as NoMemory}
@@ -47,11 +48,28 @@ AnswersAs view (Err fault) x = MatchResult x (λ _. ⊥) (StandsFor fault)
 abbrev pub Answers : {A : Type 0} → Result A PrimFault → Result A Condition → Type 0
 Answers r x = AnswersAs (λ a. a) r x
 
--- the same, but that memory may run out for any answer
-abbrev pub AnswersUnlessMemory : {A B : Type 0} → (A → B) → Result A PrimFault → Result B Condition → Type 0
+-- the name of the value true
+abbrev pub truth_name : Nam
+truth_name = record { text = codes "T"; keyword = false }
+
+-- whether a value takes memory to be made or copied. A number, an object, T and NIL take none
+abbrev pub takes_memory : Val → Bool
+takes_memory (symbol s) = not (same_name s truth_name)
+takes_memory (string s) = true
+takes_memory (list (cons v l)) = true
+takes_memory _ = false
+
+-- the same, but that memory may run out for a value that takes it
+abbrev pub AnswersUnlessMemory : {A : Type 0} → (A → Val) → Result A PrimFault → Result Val Condition → Type 0
 AnswersUnlessMemory view (Ok a) x = x ≡ Ok (view a)
-AnswersUnlessMemory view (Err Memory) x = ⊤
+AnswersUnlessMemory view (Err Memory) x = MatchResult x (λ v. takes_memory v ≡ true) (StandsFor Memory)
 AnswersUnlessMemory view (Err fault) x = MatchResult x (λ _. ⊥) (StandsFor fault)
+
+-- the same of a step whose caller knows that the answer takes memory: it may run out for any
+abbrev pub AnswersOrMemory : {A B : Type 0} → (A → B) → Result A PrimFault → Result B Condition → Type 0
+AnswersOrMemory view (Ok a) x = x ≡ Ok (view a)
+AnswersOrMemory view (Err Memory) x = ⊤
+AnswersOrMemory view (Err fault) x = MatchResult x (λ _. ⊥) (StandsFor fault)
 
 -- go on with what was given, or stop at a condition
 abbrev pub given : {A B : Type 0} → Result A Condition → (A → Result B Condition) → Result B Condition

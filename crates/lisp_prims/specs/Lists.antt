@@ -1,7 +1,8 @@
 -- Lists (HyperSpec 14.2, 17.3).
-use Rattle.std.specs.Prelude.{ℕ, zero, suc, ℤ, pos, if◌then◌else◌, List, [], ◌∷◌, length, reverse, Result, Ok, Err}
+use Rattle.std.specs.Prelude.{◌≤◌, ℕ, zero, suc, ℤ, pos, nat_le, ◌&&◌, if◌then◌else◌, List, [], ◌∷◌, length, reverse, Result, Ok, Err}
 use Rattle.std.specs.Str.{chars}
-use Rattle.lisp_data.specs.Value.{Val, integer, string, list, Vals, nil, cons, is_within_limits, length_of, elements}
+use Rattle.lisp_data.specs.Value.{Val, integer, string, list, Vals, nil, cons, is_within_limits, length_of, nesting_in, elements}
+use Rattle.lisp_data.specs.Limits.{most_elements, most_nesting}
 use Rattle.lisp_prims.specs.Arguments.{any, one_of, two_of}
 use Rattle.lisp_prims.specs.Fault.{Condition, program_error, type_error, unsupported, given}
 use Rattle.lisp_prims.specs.Width.{in_range}
@@ -66,6 +67,17 @@ appended_onto_last v (w ∷ ws) =
 abbrev pub appended : List Val → Result Vals Condition
 appended [] = Ok nil
 appended (v ∷ vs) = appended_onto_last v vs
+
+-- the length and the nesting of a list, where both are within the limits
+abbrev pub sized : ℕ → ℕ → Result (ℕ × ℕ) Condition
+sized length nesting =
+    if nat_le length most_elements && nat_le nesting most_nesting then Ok (length, nesting) else Err unsupported
+
+abbrev pub AreWithinLimits : ℕ × ℕ → Type 0
+AreWithinLimits size = (size.0 ≤ most_elements) × (size.1 ≤ most_nesting)
+
+abbrev pub size_in : Vals → Result (ℕ × ℕ) Condition
+size_in l = Ok (length_of l, nesting_in l)
 
 abbrev pub as_value : Vals → Result Val Condition
 as_value l = Ok (list l)

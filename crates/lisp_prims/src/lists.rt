@@ -1,16 +1,17 @@
 //! Lists (HyperSpec 14.2, 17.3).
-ghost use Rattle.std.specs.Prelude.{◌≡◌, map, IfOk, IfErr, Result, length, reverse};
+ghost use Rattle.std.specs.Prelude.{◌≡◌, map, IfOk, Result, Ok, length, reverse};
+ghost use Rattle.std.specs.Result.{ForOk};
 ghost use Rattle.std.specs.Str.{chars};
-ghost use Rattle.lisp_data.specs.Value.{Vals, list, nil, elements};
+ghost use Rattle.lisp_data.specs.Value.{Vals, symbol, list, nil, elements};
 ghost use Rattle.lisp_data.specs.ValueView.{value_of};
 ghost use Rattle.lisp_prims.specs.Arguments.{one_of, two_of};
-ghost use Rattle.lisp_prims.specs.Fault.{Answers, AnswersAs, AnswersUnlessMemory, Condition, given};
-ghost use Rattle.lisp_prims.specs.Lists.{appended, consed, element_at, end_of, length_from, list_of, list_star, list_value, listed_onto_last, position_of, put_before, rest_of, size_of};
+ghost use Rattle.lisp_prims.specs.Fault.{Answers, AnswersAs, AnswersOrMemory, AnswersUnlessMemory, Condition, given};
+ghost use Rattle.lisp_prims.specs.Lists.{AreWithinLimits, appended, as_value, consed, element_at, end_of, length_from, list_of, list_star, list_value, listed_onto_last, position_of, put_before, rest_of, size_in, size_of, sized};
 
 use crate::arguments::two;
 use crate::fault::PrimFault;
 use crate::width::{Integer, Natural};
-use lisp_data::{Items, Value};
+use lisp_data::{Items, MAX_ELEMENTS, MAX_NESTING, Name, Value};
 use std::alloc::{AllocError, Global};
 
 /// The functions that give a list or an element.
@@ -43,10 +44,10 @@ impl ListFunction {
                 element_at(position, items)
             }
             ListFunction::Cons => cons(alloc, args),
-            ListFunction::List => Ok(Value::List(put_before(alloc, args, Items::new())?)),
+            ListFunction::List => list_before(alloc, args, &Items::new()),
             ListFunction::ListStar => list_star(alloc, args),
-            ListFunction::Append => Ok(Value::List(append(alloc, args)?)),
-            ListFunction::Reverse => Ok(Value::List(reverse(alloc, one_list(args)?)?)),
+            ListFunction::Append => append(alloc, args),
+            ListFunction::Reverse => reverse(alloc, one_list(args)?),
         }
     }
 }
@@ -107,8 +108,7 @@ fn position_and_list(args: &[Value]) -> Result<(Natural, &Items), PrimFault>
 
 /// The element at a position, from 0; NIL beyond the end.
 fn element_at(position: Natural, items: &Items) -> Result<Value, PrimFault>
-    ensures value { IfOk result (λ v. value_of v ≡ element_at position items.now) }
-    ensures fault { IfErr result (λ e. e ≡ PrimFault.Memory) }
+    ensures { AnswersUnlessMemory value_of result (Ok (element_at position items.now)) }
 {
     let mut left = position;
     let mut rest = items;
@@ -117,7 +117,7 @@ fn element_at(position: Natural, items: &Items) -> Result<Value, PrimFault>
             None => return Ok(Value::List(Items::new())),
             Some((first, more)) => {
                 if left == 0 {
-                    return Ok(first.copy()?);
+                    return copied(first);
                 }
                 left -= 1;
                 rest = more;
@@ -128,12 +128,52 @@ fn element_at(position: Natural, items: &Items) -> Result<Value, PrimFault>
 
 /// The list without its first element.
 fn rest(items: &Items) -> Result<Value, PrimFault>
-    ensures value { IfOk result (λ v. value_of v ≡ list (rest_of items.now)) }
-    ensures fault { IfErr result (λ e. e ≡ PrimFault.Memory) }
+    ensures { AnswersUnlessMemory value_of result (Ok (list (rest_of items.now))) }
 {
     match items.split_first() {
         None => Ok(Value::List(Items::new())),
-        Some((_, rest)) => Ok(Value::List(rest.copy()?)),
+        Some((_, rest)) => copied_list(rest),
+    }
+}
+
+/// The same value.
+fn copied(value: &Value) -> Result<Value, PrimFault>
+    ensures { AnswersUnlessMemory value_of result (Ok (value_of value.now)) }
+{
+    match value {
+        Value::Int(number) => Ok(Value::Int(*number)),
+        Value::Sym(name) => copied_symbol(name),
+        Value::Str(text) => Ok(Value::Str(text.copy()?)),
+        Value::List(items) => copied_list(items),
+        Value::Class(id) => Ok(Value::Class(*id)),
+        Value::Generic(id) => Ok(Value::Generic(*id)),
+        Value::Method(id) => Ok(Value::Method(*id)),
+        Value::Instance(id) => Ok(Value::Instance(*id)),
+    }
+}
+
+/// The same symbol. T takes no memory.
+fn copied_symbol(name: &Name) -> Result<Value, PrimFault>
+    ensures { AnswersUnlessMemory value_of result (Ok (symbol name.now)) }
+{
+    if let Ok(copy) = name.copy() {
+        return Ok(Value::Sym(copy));
+    }
+    let truth = Name::fixed("T");
+    if name.is(&truth) {
+        Ok(Value::Sym(truth))
+    } else {
+        Err(PrimFault::Memory)
+    }
+}
+
+/// The same list. NIL takes no memory.
+fn copied_list(items: &Items) -> Result<Value, PrimFault>
+    ensures { AnswersUnlessMemory value_of result (Ok (list items.now)) }
+{
+    match items.split_first() {
+        None => Ok(Value::List(Items::new())),
+        Some(_) => Ok(Value::List(items.copy()?)),
     }
 }
 
@@ -167,11 +207,82 @@ fn character_count(text: &str) -> usize
     text.chars().count()
 }
 
-// ---- lists that are made
+// ---- how large a list would be
+
+/// This length and nesting, where both are within the limits.
+fn sized(length: u64, nesting: u64) -> Result<(u64, u64), PrimFault>
+    ensures size { Answers result (sized length nesting) }
+    ensures most { IfOk result (λ s. AreWithinLimits s) }
+{
+    if length > MAX_ELEMENTS || nesting > MAX_NESTING {
+        return Err(PrimFault::Unsupported);
+    }
+    Ok((length, nesting))
+}
+
+/// The length and the nesting of these values before a list.
+#[tactic(auto, using(crate::proofs::OnSizes::sizes))]
+fn size_before(values: &[Value], tail: &Items) -> Result<(u64, u64), PrimFault>
+    ensures { Answers result (given (put_before (map value_of values.now) tail.now) size_in) }
+{
+    let mut nesting = tail.nesting();
+    for value in values {
+        nesting = (value.nesting() + 1).max(nesting);
+    }
+    sized(values.len() as u64 + tail.len(), nesting)
+}
+
+/// The length and the nesting of a list in the other order, which are those that it has.
+#[tactic(auto, using(crate::proofs::OnSizes::sizes))]
+fn size_of_reversed(items: &Items) -> Result<(u64, u64), PrimFault>
+    ensures { Answers result (given (put_before (reverse (elements items.now)) nil) size_in) }
+{
+    sized(items.len(), items.nesting())
+}
+
+/// The length and the nesting of the list that APPEND gives.
+#[tactic(auto, using(crate::proofs::OnMaking::making))]
+fn size_of_appended(args: &[Value]) -> Result<(u64, u64), PrimFault>
+    ensures { Answers result (given (appended (map value_of args.now)) size_in) }
+{
+    if args.is_empty() {
+        return Ok((0, 0));
+    }
+    let mut at = args.len() - 1;
+    let mut size = size_of_last(&args[at]);
+    while at > 0 {
+        at -= 1;
+        size = size_with(&args[at], size);
+    }
+    size
+}
+
+fn size_of_last(value: &Value) -> Result<(u64, u64), PrimFault>
+    ensures size { Answers result (given (end_of (value_of value.now)) size_in) }
+    ensures most { IfOk result (λ s. AreWithinLimits s) }
+{
+    let items = end(value)?;
+    Ok((items.len(), items.nesting()))
+}
+
+/// The length and the nesting of a list before what the later ones gave.
+#[tactic(auto, using(crate::proofs::OnSizes::sizes))]
+fn size_with(value: &Value, later: Result<(u64, u64), PrimFault>) -> Result<(u64, u64), PrimFault>
+    requires { ForOk later (λ s. AreWithinLimits s) }
+    ensures size { (x : Result Vals Condition) → Answers later (given x size_in)
+        → Answers result (given (given (list_of (value_of value.now)) (λ l. given x (put_before (elements l)))) size_in) }
+    ensures most { IfOk result (λ s. AreWithinLimits s) }
+{
+    let front = list(value)?;
+    let (length, nesting) = later?;
+    sized(front.len() + length, front.nesting().max(nesting))
+}
+
+// ---- lists that are made: first their size is worked out, so that memory runs out only for lists within the limits
 
 /// The list with one element more.
 fn consed(alloc: Global, head: Value, tail: Items) -> Result<Items, PrimFault>
-    ensures { AnswersUnlessMemory (λ l. l) result (consed (value_of head) tail) }
+    ensures { AnswersOrMemory (λ l. l) result (consed (value_of head) tail) }
 {
     Ok(Items::cons(alloc, head, tail)?)
 }
@@ -181,14 +292,27 @@ fn cons(alloc: Global, args: &[Value]) -> Result<Value, PrimFault>
 {
     let (head, tail) = two(args)?;
     let tail = end(tail)?;
+    let _size = sized(tail.len() + 1, (head.nesting() + 1).max(tail.nesting()))?;
     let items = consed(alloc, head.copy()?, tail.copy()?)?;
     Ok(Value::List(items))
+}
+
+/// The list of these values as elements before a list.
+#[tactic(auto, using(crate::proofs::OnSizes::sizes))]
+fn list_before(alloc: Global, values: &[Value], tail: &Items) -> Result<Value, PrimFault>
+    ensures { AnswersUnlessMemory value_of result (given (put_before (map value_of values.now) tail.now) as_value) }
+{
+    let (length, _) = size_before(values, tail)?;
+    if length == 0 {
+        return Ok(Value::List(Items::new()));
+    }
+    Ok(Value::List(put_before(alloc, values, tail.copy()?)?))
 }
 
 /// These values as elements before a list.
 #[tactic(auto, using(crate::proofs::OnMaking::making))]
 fn put_before(alloc: Global, values: &[Value], tail: Items) -> Result<Items, PrimFault>
-    ensures { AnswersUnlessMemory (λ l. l) result (put_before (map value_of values.now) tail) }
+    ensures { AnswersOrMemory (λ l. l) result (put_before (map value_of values.now) tail) }
 {
     let mut items = tail;
     let mut left = values;
@@ -207,16 +331,26 @@ fn list_star(alloc: Global, args: &[Value]) -> Result<Value, PrimFault>
         return Err(PrimFault::ProgramError);
     };
     if front.is_empty() {
-        return Ok(last.copy()?);
+        return copied(last);
     }
-    let tail = last_list(last)?;
-    Ok(Value::List(put_before(alloc, front, tail)?))
+    list_before(alloc, front, end(last)?)
+}
+
+#[tactic(auto, using(crate::proofs::OnSizes::sizes))]
+fn append(alloc: Global, args: &[Value]) -> Result<Value, PrimFault>
+    ensures { AnswersUnlessMemory value_of result (given (appended (map value_of args.now)) as_value) }
+{
+    let (length, _) = size_of_appended(args)?;
+    if length == 0 {
+        return Ok(Value::List(Items::new()));
+    }
+    Ok(Value::List(joined(alloc, args)?))
 }
 
 /// The elements of all lists before the last one.
 #[tactic(auto, using(crate::proofs::OnMaking::making))]
-fn append(alloc: Global, args: &[Value]) -> Result<Items, PrimFault>
-    ensures { AnswersUnlessMemory (λ l. l) result (appended (map value_of args.now)) }
+fn joined(alloc: Global, args: &[Value]) -> Result<Items, PrimFault>
+    ensures { AnswersOrMemory (λ l. l) result (appended (map value_of args.now)) }
 {
     if args.is_empty() {
         return Ok(Items::new());
@@ -231,7 +365,7 @@ fn append(alloc: Global, args: &[Value]) -> Result<Items, PrimFault>
 }
 
 fn last_list(value: &Value) -> Result<Items, PrimFault>
-    ensures { AnswersUnlessMemory (λ l. l) result (end_of (value_of value.now)) }
+    ensures { AnswersOrMemory (λ l. l) result (end_of (value_of value.now)) }
 {
     Ok(end(value)?.copy()?)
 }
@@ -242,8 +376,8 @@ fn append_before(
     value: &Value,
     later: Result<Items, PrimFault>,
 ) -> Result<Items, PrimFault>
-    ensures { (x : Result Vals Condition) → AnswersUnlessMemory (λ l. l) later x
-        → AnswersUnlessMemory (λ l. l) result (given (list_of (value_of value.now)) (λ l. given x (put_before (elements l)))) }
+    ensures { (x : Result Vals Condition) → AnswersOrMemory (λ l. l) later x
+        → AnswersOrMemory (λ l. l) result (given (list_of (value_of value.now)) (λ l. given x (put_before (elements l)))) }
 {
     let items = list(value)?;
     let tail = later?;
@@ -264,9 +398,21 @@ fn values_of(alloc: Global, items: &Items) -> Result<Vec<Value>, AllocError>
     Ok(values)
 }
 
+/// The list of the elements in the other order.
+#[tactic(auto, using(crate::proofs::OnSizes::sizes))]
+fn reverse(alloc: Global, items: &Items) -> Result<Value, PrimFault>
+    ensures { AnswersUnlessMemory value_of result (given (put_before (reverse (elements items.now)) nil) as_value) }
+{
+    let (length, _) = size_of_reversed(items)?;
+    if length == 0 {
+        return Ok(Value::List(Items::new()));
+    }
+    Ok(Value::List(reversed(alloc, items)?))
+}
+
 #[tactic(auto, using(crate::proofs::OnMaking::making))]
-fn reverse(alloc: Global, items: &Items) -> Result<Items, PrimFault>
-    ensures { AnswersUnlessMemory (λ l. l) result (put_before (reverse (elements items.now)) nil) }
+fn reversed(alloc: Global, items: &Items) -> Result<Items, PrimFault>
+    ensures { AnswersOrMemory (λ l. l) result (put_before (reverse (elements items.now)) nil) }
 {
     let mut reversed = Items::new();
     let mut rest = items;

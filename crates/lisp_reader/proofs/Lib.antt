@@ -8,9 +8,12 @@ pub mod OnFaults
 pub mod OnFront
 pub mod OnGaps
 pub mod OnLists
+pub mod OnMemory
+pub mod OnMore
 pub mod OnNesting
 pub mod OnStrings
 pub mod OnTokens
 pub mod OnReading
 pub mod PrintedToken
+pub mod PrintedString
 pub mod PrintedList

@@ -1,11 +1,12 @@
 -- Data at an offset of a text.
-use Rattle.std.proofs.Common.{◌≡◌, ◌∙◌, ℕ, ◌+◌, ◌-◌, ◌<◌, List, [], ◌∷◌, ◌++◌, length, get_or, drop, true, false, Bool, not, ◌&&◌, refl, sym, ap, subst}
+use Rattle.std.proofs.Common.{◌≡◌, ◌∙◌, ℕ, ◌+◌, ◌-◌, ◌<◌, List, [], ◌∷◌, ◌++◌, length, get_or, drop, true, false, Bool, not, ◌&&◌, refl, sym, ap, subst, arith}
 use Rattle.std.proofs.lemmas.Bool.{eqb-true, false≢true}
 use Rattle.std.proofs.lemmas.List.{drop_more, drop-drop}
 use Rattle.lisp_data.specs.Datum.{Dat}
 use Rattle.lisp_reader.specs.Characters.{begins_token, begins_with, goes_on}
 use Rattle.lisp_reader.specs.Fault.{Kind, bad_dot, too_deep}
 use Rattle.lisp_reader.specs.Gaps.{Gaps, GapFails}
+use Rattle.lisp_reader.specs.Memory.{Takes, an_element, in_element}
 use Rattle.lisp_reader.specs.Prefix.{HasPrefix}
 use Rattle.lisp_reader.specs.Reading.{Spells, Items, Tail, Fails, TailFails, NoDatum, BeginsDatum, in_parentheses, with_dot, prefixed, none, more, list_too_deep, in_item, before_item, after_dot, a_token, a_string, a_list, at_token, closes, is_dot, dot_fits, list_of, prefixed_by, ending_in}
 use Rattle.lisp_reader.proofs.OnFront.{starts}
@@ -88,6 +89,37 @@ Fails-before_item bytes room at cursor ds f kind rest fails =
 pub Fails-deep_list : (bytes : List ℕ) (room at : ℕ) → at < length bytes → get_or bytes at 0 ≡ 40 → room ≡ 0 → Fails room (drop at bytes) too_deep (drop at bytes)
 Fails-deep_list bytes room at within is full =
     subst (λ (t : List ℕ). Fails room t too_deep t) (sym (starts bytes at 40 within is)) (list_too_deep room (drop (at + 1) bytes) full)
+
+-- ---- memory runs out in a list only where an element takes some, or stands there
+
+takes-item : (room : ℕ) (text : List ℕ) (ds : List Dat) (last start : List ℕ) → 0 < room → Items (room - 1) text ds last → Gaps last start → Takes (room - 1) start → Takes room (40 ∷ text)
+takes-item room text ds last start some (none _ _) gaps takes = in_element room text start some gaps takes
+takes-item room text ds last start some (more _ _ s e after es _ gaps' spells items) gaps takes = an_element room text s e after some gaps' spells
+
+pub Takes-item : (bytes : List ℕ) (room at cursor next : ℕ) (ds : List Dat) → Front bytes room at cursor ds → Gaps (drop cursor bytes) (drop next bytes) → Takes (room - 1) (drop next bytes) → Takes room (drop at bytes)
+Takes-item bytes room at cursor next ds f gaps takes =
+    subst (Takes room) (sym (list-starts bytes room at cursor ds f)) (takes-item room (drop (at + 1) bytes) ds (drop cursor bytes) (drop next bytes) f.some f.items gaps takes)
+
+takes-items : (room : ℕ) (text : List ℕ) (ds : List Dat) (last : List ℕ) → 0 < room → Items (room - 1) text ds last → 0 < length ds → Takes room (40 ∷ text)
+takes-items room text ds last some (none _ _) any = absurd (omega arith)
+takes-items room text ds last some (more _ _ s e after es _ gaps spells items) any = an_element room text s e after some gaps spells
+
+pub Takes-items : (bytes : List ℕ) (room at cursor : ℕ) (ds : List Dat) → Front bytes room at cursor ds → 0 < length ds → Takes room (drop at bytes)
+Takes-items bytes room at cursor ds f any =
+    subst (Takes room) (sym (list-starts bytes room at cursor ds f)) (takes-items room (drop (at + 1) bytes) ds (drop cursor bytes) f.some f.items any)
+
+pub some-before_dot : (ds : List Dat) (text : List ℕ) → dot_fits ds text ≡ true → 0 < length ds
+some-before_dot [] text is = absurd (false≢true is)
+some-before_dot (d ∷ ds) text is = omega arith
+
+length-some : (ds : List Dat) (d : Dat) → 0 < length (ds ++ d ∷ [])
+length-some [] d = omega arith
+length-some (e ∷ ds) d = omega arith
+
+pub Takes-pushed : (bytes : List ℕ) (room at cursor next n : ℕ) (ds : List Dat) (d : Dat) → Front bytes room at cursor ds → Gaps (drop cursor bytes) (drop next bytes) → Spells (room - 1) (drop next bytes) d (drop n bytes) → Takes room (drop at bytes)
+Takes-pushed bytes room at cursor next n ds d f gaps spells =
+    let items = Items-push (room - 1) (drop (at + 1) bytes) ds (drop cursor bytes) (drop next bytes) d (drop n bytes) f.items gaps spells in
+    subst (Takes room) (sym (list-starts bytes room at cursor ds f)) (takes-items room (drop (at + 1) bytes) (ds ++ d ∷ []) (drop n bytes) f.some items (length-some ds d))
 
 -- ---- prefixes
 

@@ -7,6 +7,7 @@ use Rattle.std.proofs.lemmas.Str.{chars_past_char}
 use Rattle.std.proofs.lemmas.List.{drop_all, drop-drop, length-drop, length-take-le, at_drop_more}
 use Rattle.lisp_data.specs.Datum.{string}
 use Rattle.lisp_reader.specs.Fault.{end_inside, not_text}
+use Rattle.lisp_reader.specs.Memory.{Takes, a_string}
 use Rattle.lisp_reader.specs.Reading.{Spells, Fails, in_quotes, in_string, no_quote}
 use Rattle.lisp_reader.proofs.OnFront.{starts}
 use Rattle.lisp_reader.specs.Strings.{body_len, body, after_body, unescaped, characters}
@@ -96,3 +97,13 @@ Fails-no_quote bytes room at len text within is rest end all utf8 =
     let none : drop (length bytes) bytes ≡ [] = drop_all (length bytes) bytes (omega arith) in
     let here : Fails room (drop at bytes) end_inside [] = subst (λ (t : List ℕ). Fails room t end_inside []) e (no_quote room text utf8' after) in
     (omega arith, subst (λ (t : List ℕ). Fails room (drop at bytes) end_inside t) (sym none) here)
+
+-- it takes memory
+pub Takes-string : (bytes : List ℕ) (room at len : ℕ) (text : List ℕ) → at < length bytes → get_or bytes at 0 ≡ 34 → text ≡ drop (at + 1) bytes → len ≡ body_len false text → len ≤ length text → len ≢ length text → IsUtf8 (take len text) → Takes room (drop at bytes)
+Takes-string bytes room at len text within is rest end fits more utf8 =
+    let below : len < length text = omega arith in
+    let quote : get_or text len 0 ≡ 34 = rw end (body_len-quote false text (rw (← end) below)) in
+    let after : after_body text ≡ 34 ∷ drop (len + 1) text = ap (λ (k : ℕ). drop k text) (sym end) ∙ starts text len 34 below quote in
+    let utf8' : IsUtf8 (body text) = subst (λ (k : ℕ). IsUtf8 (take k text)) end utf8 in
+    let e : 34 ∷ text ≡ drop at bytes = ap (λ (t : List ℕ). 34 ∷ t) rest ∙ sym (starts bytes at 34 within is) in
+    subst (Takes room) e (a_string room text (drop (len + 1) text) utf8' after)

@@ -13,9 +13,11 @@ use Rattle.std.proofs.lemmas.List.{drop_more, drop-drop, length-drop, get_or-tak
 use Rattle.std.proofs.lemmas.List.Folds.{length-prefix_len}
 use Rattle.std.proofs.lemmas.List.Sums.{prefix_len_passes, prefix_len-le-length, prefix_len-drop_yes}
 use Rattle.std.proofs.lemmas.Str.Ascii.{IsAscii-from_reads}
-use Rattle.lisp_data.specs.Datum.{Dat}
+use Rattle.lisp_data.specs.Datum.{Dat, symbol}
+use Rattle.lisp_data.specs.Name.{Nam}
 use Rattle.lisp_reader.specs.Characters.{is_token_char, begins_token}
 use Rattle.lisp_reader.specs.Fault.{Kind}
+use Rattle.lisp_reader.specs.Memory.{Takes, a_name}
 use Rattle.lisp_reader.specs.Reading.{Spells, Fails, of_token, at_front, at_token}
 use Rattle.lisp_reader.specs.declared.token.Class.{Class}
 use Rattle.lisp_reader.specs.Token.{run, after_run, class_of, Means, Refused, Denotes, DenotesNone, is_integer, is_digits, all_digits, is_empty, is_point, is_keyword, value}
@@ -62,6 +64,16 @@ Reads-token bytes room at word k d within begins is class means =
     let after : after_run (drop at bytes) ≡ drop (at + length word) bytes = drop-drop n at bytes ∙ ap (λ (k : ℕ). drop (at + k) bytes) (sym len) in
     let bound : n ≤ length bytes - at = rw (← length-drop at bytes) most in
     (omega arith, omega arith, subst (λ (t : List ℕ). Spells room (drop at bytes) d t) after there)
+
+-- and takes memory if that is a symbol
+pub Takes-token : (bytes : List ℕ) (room at : ℕ) (word : List ℕ) (k : Class) (name : Nam) → at < length bytes → begins_token (get_or bytes at 0) ≡ true → word ≡ run (drop at bytes) → k ≡ class_of word → Means k word (symbol name) → Takes room (drop at bytes)
+Takes-token bytes room at word k name within begins is class means =
+    let b = get_or bytes at 0 in
+    let rest = drop (at + 1) bytes in
+    let e : drop at bytes ≡ b ∷ rest = drop_more bytes at 0 within in
+    let denotes : Denotes word (symbol name) = subst (λ (c : Class). Means c word (symbol name)) class means in
+    let denotes' : Denotes (run (b ∷ rest)) (symbol name) = subst (λ (t : List ℕ). Denotes t (symbol name)) (is ∙ ap run e) denotes in
+    subst (Takes room) (sym e) (a_name room b rest name begins denotes')
 
 -- and one that denotes none is at fault
 pub Fails-token : (bytes : List ℕ) (room at : ℕ) (word : List ℕ) (k : Class) (kind : Kind) → at < length bytes → begins_token (get_or bytes at 0) ≡ true → word ≡ run (drop at bytes) → k ≡ class_of word → Refused k word kind → (at ≤ length bytes) × Fails room (drop at bytes) kind (drop at bytes)

@@ -14,6 +14,7 @@ use Rattle.lisp_reader.specs.Gaps.{no_more, blank, begins_gap}
 use Rattle.lisp_reader.specs.Printed.{quoted_value, quoted_values, IsPlain, ArePlain, ReadsBack}
 use Rattle.lisp_reader.specs.Reading.{is_nil, Spells, Items, in_parentheses, none, more, list_of}
 use Rattle.lisp_reader.proofs.OnLists.{list_from-elements}
+use Rattle.lisp_reader.proofs.PrintedString.{Spells-printed_string}
 use Rattle.lisp_reader.proofs.PrintedToken.{Word, word-integer, word-name, Spells-printed}
 
 -- ---- the symbol NIL prints as the empty list does
@@ -70,7 +71,7 @@ mutual
   printed names methods room (integer n) rest plain within stop = printed-word room _ rest (integer n) (word-integer n plain) stop
   printed names methods room (symbol s) rest plain within stop =
       subst (λ (t : List ℕ). Printed room (t ++ rest) (symbol s) rest) (sym (symbol-text names methods s)) (printed-word room (name_text s) rest (symbol s) (word-name s plain) stop)
-  printed names methods room (string s) rest plain within stop = absurd plain
+  printed names methods room (string s) rest plain within stop = record { no_gap = refl; spells = Spells-printed_string room s rest plain }
   printed names methods room (dotted l d) rest plain within stop = absurd plain
   printed names methods room (method n) rest plain within stop = absurd plain
   printed names methods room (list nil) rest plain within stop = absurd (omega arith)

@@ -1,11 +1,12 @@
 -- What reading a text from an offset on answers.
-use Rattle.std.specs.Prelude.{◌≡◌, ◌≢◌, ℕ, ◌+◌, ◌≤◌, ◌<◌, List, [], ◌∷◌, length, drop, Option, Some, None, Result, Ok, Err}
-use Rattle.lisp_data.specs.Datum.{Dat}
+use Rattle.std.specs.Prelude.{◌≡◌, ◌≢◌, ℕ, ℤ, ◌+◌, ◌≤◌, ◌<◌, List, [], ◌∷◌, ◌++◌, length, drop, Option, Some, None, Result, Ok, Err}
+use Rattle.lisp_data.specs.Datum.{Dat, integer}
 use Rattle.lisp_data.specs.DatumView.{datum_of}
 use Rattle.lisp_data.specs.declared.datum.Datum.{Datum}
-use Rattle.lisp_reader.specs.Fault.{Kind, end_inside, OnFault}
+use Rattle.lisp_reader.specs.Fault.{Kind, end_inside, OnRefusal, OnFault}
 use Rattle.lisp_reader.specs.Gaps.{Gaps, GapFails}
-use Rattle.lisp_reader.specs.Reading.{Spells, Fails, Tail, TailFails, EndFails}
+use Rattle.lisp_reader.specs.Memory.{Takes}
+use Rattle.lisp_reader.specs.Reading.{Spells, NoDatum, Fails, Tail, TailFails, EndFails}
 use Rattle.lisp_reader.specs.declared.fault.ReadFault.{ReadFault}
 
 -- how many lists and prefixes may be open at once
@@ -43,24 +44,40 @@ Answers bytes from (Ok (Some found)) =
 Answers bytes from (Err fault) =
     OnFault fault (λ kind n. (n ≤ length bytes) × Gives (drop from bytes) (a_fault kind (drop n bytes)))
 
+-- the next datum takes memory
+abbrev pub TakesMemory : List ℕ → Type 0
+TakesMemory text = (start : List ℕ) × Gaps text start × Takes most_open start
+
+-- nothing does where only gaps are left, where one of them is at fault, where no datum begins after them, or where the
+-- next datum is an integer
+abbrev pub TakesNone : Type 0
+TakesNone =
+    (text : List ℕ) → TakesMemory text → ¬ (Gaps text []) × ((kind : Kind) (at : List ℕ) → ¬ (GapFails text kind at)) × ((start : List ℕ) (kind : Kind) → Gaps text start → ¬ (NoDatum start kind)) × ((n : ℤ) (rest : List ℕ) → ¬ (Next text (integer n) rest))
+
 -- a text gives one thing next
 abbrev pub GivesOne : Type 0
 GivesOne = (text : List ℕ) (one other : Outcome) → Gives text one → Gives text other → other ≡ one
+
+-- further lines mend no fault other than an end inside: it stays that of each text that goes on from this one with a
+-- newline (10)
+abbrev pub FaultStays : Type 0
+FaultStays =
+    (text more : List ℕ) (kind : Kind) (at : List ℕ) → kind ≢ end_inside → Gives text (a_fault kind at) → Gives (text ++ (10 ∷ more)) (a_fault kind (at ++ (10 ∷ more)))
 
 -- a datum that begins at an offset, with the offset after it
 abbrev pub Reads : List ℕ → ℕ → ℕ → Datum × ℕ → Type 0
 Reads bytes room at found =
     (at < found.1) × (found.1 ≤ length bytes) × Spells room (drop at bytes) (datum_of found.0) (drop found.1 bytes)
 
--- or the fault that stands in its place
+-- or the fault that stands in its place; memory runs out only where the datum takes some
 abbrev pub Refuses : List ℕ → ℕ → ℕ → ReadFault → Type 0
 Refuses bytes room at fault =
-    OnFault fault (λ kind n. (n ≤ length bytes) × Fails room (drop at bytes) kind (drop n bytes))
+    OnRefusal fault (λ kind n. (n ≤ length bytes) × Fails room (drop at bytes) kind (drop n bytes)) (Takes room (drop at bytes))
 
--- the gaps at an offset are at fault
+-- the gaps at an offset are at fault, and take no memory
 abbrev pub GapRefuses : List ℕ → ℕ → ReadFault → Type 0
 GapRefuses bytes at fault =
-    OnFault fault (λ kind n. (n ≤ length bytes) × GapFails (drop at bytes) kind (drop n bytes))
+    OnRefusal fault (λ kind n. (n ≤ length bytes) × GapFails (drop at bytes) kind (drop n bytes)) ⊥
 
 -- one datum after the dot at `dot` and the closing parenthesis, with the offset after that
 abbrev pub ReadsTail : List ℕ → ℕ → ℕ → Datum × ℕ → Type 0

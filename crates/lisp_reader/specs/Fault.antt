@@ -13,16 +13,20 @@ pub data Kind : Type 0 where
   too_deep : Kind
   not_text : Kind
 
--- what is so of the kind and the offset of a fault. Where memory ran out nothing is promised
+-- what is so of the kind and the offset of a fault, and what is so where memory ran out
+abbrev pub OnRefusal : ReadFault → (Kind → ℕ → Type 0) → Type 0 → Type 0
+OnRefusal (EndInside n) P M = P end_inside n
+OnRefusal (StrayClose n) P M = P stray_close n
+OnRefusal (BadToken n) P M = P bad_token n
+OnRefusal (BadDot n) P M = P bad_dot n
+OnRefusal (BadHash n) P M = P bad_hash n
+OnRefusal (TooDeep n) P M = P too_deep n
+OnRefusal (NotText n) P M = P not_text n
+OnRefusal Memory P M = M
+
+-- the same, where nothing is promised if memory ran out
 abbrev pub OnFault : ReadFault → (Kind → ℕ → Type 0) → Type 0
-OnFault (EndInside n) P = P end_inside n
-OnFault (StrayClose n) P = P stray_close n
-OnFault (BadToken n) P = P bad_token n
-OnFault (BadDot n) P = P bad_dot n
-OnFault (BadHash n) P = P bad_hash n
-OnFault (TooDeep n) P = P too_deep n
-OnFault (NotText n) P = P not_text n
-OnFault Memory P = ⊤
+OnFault fault P = OnRefusal fault P ⊤
 
 abbrev pub number_of : ReadFault → ℕ
 number_of (EndInside n) = 1

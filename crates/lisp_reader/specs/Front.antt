@@ -1,7 +1,7 @@
 -- What begins at an offset of a text, as `front_at` tells it.
 use Rattle.std.specs.Prelude.{◌≡◌, ℕ, ◌+◌, ◌≤◌, ◌<◌, List, length, drop, slice_index, true}
 use Rattle.lisp_reader.specs.Characters.{begins_token}
-use Rattle.lisp_reader.specs.Fault.{OnFault}
+use Rattle.lisp_reader.specs.Fault.{OnRefusal}
 use Rattle.lisp_reader.specs.Prefix.{HasPrefix}
 use Rattle.lisp_reader.specs.Reading.{NoDatum}
 use Rattle.lisp_reader.specs.declared.fault.ReadFault.{ReadFault}
@@ -16,7 +16,7 @@ BeginsPrefix bytes at prefix =
 
 -- no datum, and its fault stands there
 abbrev pub Lacks : List ℕ → ℕ → ReadFault → Type 0
-Lacks bytes at fault = OnFault fault (λ kind n. (n ≡ at) × NoDatum (drop at bytes) kind)
+Lacks bytes at fault = OnRefusal fault (λ kind n. (n ≡ at) × NoDatum (drop at bytes) kind) ⊥
 
 abbrev pub Begins : List ℕ → ℕ → Front → Type 0
 Begins bytes at Token = (at < length bytes) × (begins_token (slice_index bytes at) ≡ true)

@@ -1,8 +1,10 @@
 pub mod Answers
 pub mod Characters
+pub mod Examples
 pub mod Fault
 pub mod Front
 pub mod Gaps
+pub mod Memory
 pub mod Prefix
 pub mod Printed
 pub mod Reading

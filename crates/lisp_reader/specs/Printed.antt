@@ -1,5 +1,5 @@
 -- Printing a value readably and reading what it prints (HyperSpec 22.1.3, 2.3.4).
-use Rattle.std.specs.Prelude.{◌≡◌, ◌≢◌, ℕ, ◌<◌, ◌≤◌, Bool, true, false, ◌&&◌, not, if◌then◌else◌, List, [], length, slice_index, FitsSigned, ⊤}
+use Rattle.std.specs.Prelude.{◌≡◌, ◌≢◌, ℕ, ◌<◌, ◌≤◌, Bool, true, false, ◌&&◌, not, if◌then◌else◌, List, [], length, slice_index, FitsSigned, IsUtf8, ⊤}
 use Rattle.std.specs.Int.{w64}
 use Rattle.std.specs.Char.{is_ascii_lowercase}
 use Rattle.std.specs.List.{list_any, list_all}
@@ -42,12 +42,12 @@ abbrev pub IsPlainName : Nam → Type 0
 IsPlainName name =
     (0 < length name.text) × (list_all is_plain_char name.text ≡ true) × IsNameOf name.keyword name.text
 
--- a datum of integers, such names and lists of these
+-- a datum of integers, such names, strings (their bytes are UTF-8) and lists of these
 abbrev mutual
   pub IsPlain : Dat → Type 0
   IsPlain (integer n) = FitsSigned w64 n
   IsPlain (symbol s) = IsPlainName s
-  IsPlain (string s) = ⊥
+  IsPlain (string s) = IsUtf8 s
   IsPlain (list l) = (0 < length_of l) × ArePlain l
   IsPlain (dotted l d) = ⊥
   IsPlain (method n) = ⊥

@@ -1,5 +1,5 @@
 //! Lists of data (HyperSpec 2.4.1).
-ghost use Rattle.std.specs.Prelude.{◌≡◌, ◌≤◌, ◌<◌, ◌++◌, map, IfOk};
+ghost use Rattle.std.specs.Prelude.{◌≡◌, ◌≤◌, ◌<◌, ◌++◌, length, map, IfOk, MatchResult};
 ghost use Rattle.lisp_data.specs.DatumView.{datum_of};
 ghost use Rattle.lisp_data.specs.Datum.{cons, dotted, list_from, elements, nesting_of, nesting_in, nesting_of_dot};
 ghost use Rattle.lisp_data.specs.Limits.{most_nesting};
@@ -18,10 +18,10 @@ pub fn prefixed_by(alloc: Global, operator: &'static str, datum: Datum) -> Resul
     Ok(Datum::List(items))
 }
 
-/// The list of these elements. With none it is the symbol NIL.
+/// The list of these elements. With none it is the symbol NIL, which takes no memory.
 pub fn list_of(alloc: Global, items: Vec<Datum>) -> Result<Datum, AllocError>
     requires { nesting_in (list_from (map datum_of items.items)) ≤ most_nesting }
-    ensures { IfOk result (λ d. datum_of d ≡ list_of (map datum_of items.items)) }
+    ensures { MatchResult result (λ d. datum_of d ≡ list_of (map datum_of items.items)) (λ e. 0 < length items.items) }
 {
     if items.is_empty() {
         return Ok(Datum::Sym(Name::fixed("NIL")));

@@ -1,11 +1,12 @@
 //! Data: lists, prefixes and what stands in them (HyperSpec 2.2, 2.4).
-ghost use Rattle.std.specs.Prelude.{◌≡◌, ℕ, ◌+◌, ◌<◌, ◌≤◌, length, drop, map, slice_index, false, IfOk, IfSome, IsTrue, MatchResult};
-ghost use Rattle.lisp_reader.specs.Answers.{Answers, most_open, Reads, Refuses, ReadsTail, RefusesTail, Ends, RefusesEnd};
+ghost use Rattle.std.specs.Prelude.{◌≡◌, ℕ, ◌+◌, ◌<◌, ◌≤◌, length, drop, map, slice_index, false, Err, IfOk, IfSome, IsTrue, MatchResult};
+ghost use Rattle.lisp_reader.specs.Answers.{Answers, TakesMemory, most_open, Reads, Refuses, ReadsTail, RefusesTail, Ends, RefusesEnd};
 ghost use Rattle.lisp_reader.specs.Front.{BeginsPrefix};
 ghost use Rattle.lisp_reader.specs.Reading.{closes, dot_fits, is_dot};
 ghost use Rattle.lisp_data.specs.Datum.{nesting_of};
 ghost use Rattle.lisp_data.specs.DatumView.{datum_of};
 ghost use Rattle.lisp_reader.specs.Gaps.{Gaps};
+ghost use Rattle.lisp_reader.specs.declared.fault.ReadFault.TheVariants.{Memory};
 
 use crate::characters::{begins_with, goes_on};
 use crate::fault::ReadFault;
@@ -20,7 +21,8 @@ use std::alloc::Global;
 /// How many lists and prefixes may be open at once.
 pub const MAX_NESTING: usize = 200;
 
-/// The next datum of a text from an offset on and the offset after it, or None where only gaps are left.
+/// The next datum of a text from an offset on and the offset after it, or None where only gaps are left. Memory runs out
+/// only at a symbol, a string, a list with elements or a datum after a prefix.
 pub fn read_form(
     alloc: Global,
     bytes: &[u8],
@@ -30,6 +32,7 @@ pub fn read_form(
     ensures answer { Answers bytes.now from result }
     ensures advances { IfOk result (λ found. IfSome found (λ datum. from < datum.1)) }
     ensures shallow { IfOk result (λ found. IfSome found (λ datum. nesting_of (datum_of datum.0) ≤ most_open)) }
+    ensures memory { result ≡ Err Memory → TakesMemory (drop from bytes.now) }
 {
     let start = skip_gaps(bytes, from)?;
     if start == bytes.len() {

@@ -1,8 +1,10 @@
 use Rattle.std.proofs.Common.{sym, subst, ◌∙◌}
 use Rattle.lisp_prims.specs.Primitive.{answer}
-use Rattle.clos_eval.specs.Generic.{function_named}
-use Rattle.clos_eval.specs.World.{seen}
-use Rattle.clos_eval.specs.Meaning.{meaning, applied, answered, called_function}
+use Rattle.clos_world.specs.Generic.{function_named}
+use Rattle.clos_world.specs.World.{seen}
+use Rattle.clos_eval.specs.Calls.{applied, called_function}
+use Rattle.clos_eval.specs.Fault.{answered}
+use Rattle.clos_eval.specs.Meaning.{meaning}
 use Rattle.clos_eval.specs.Machine.{Turns, inside}
 use Rattle.clos_eval.proofs.Running.{turns_of_leads}
 use Rattle.clos_eval.proofs.eval.apply.Goals as goal

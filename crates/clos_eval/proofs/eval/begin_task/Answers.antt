@@ -1,6 +1,6 @@
 use Rattle.std.proofs.Common.{◌-◌, arith, ap, sym, ◌∙◌}
-use Rattle.clos_eval.specs.World.{seen}
-use Rattle.clos_eval.specs.Meaning.{Stopped}
+use Rattle.clos_world.specs.World.{seen}
+use Rattle.clos_eval.specs.Outcome.{Stopped}
 use Rattle.clos_eval.specs.Machine.{at}
 use Rattle.clos_eval.proofs.Running.{start_no_step, start_too_deep, start_begins, start_begins_at}
 use Rattle.clos_eval.proofs.eval.begin_task.Goals as goal

@@ -1,17 +1,20 @@
 use Rattle.std.proofs.Common.{[], subst, arith, Ok, Err}
 use Rattle.lisp_data.specs.ValueView.{value_of}
-use Rattle.clos_eval.specs.World.{seen}
-use Rattle.clos_eval.specs.Meaning.{Run, evaluation, known}
+use Rattle.clos_world.specs.World.{seen}
+use Rattle.clos_eval.specs.Calls.{known}
+use Rattle.clos_eval.specs.Meaning.{evaluation}
+use Rattle.clos_eval.specs.Outcome.{Run}
 use Rattle.clos_eval.specs.Machine.{at, Reached, denote, given_to, below}
-use Rattle.clos_eval.specs.declared.machine.Doing.TheVariants.{Start, Apply, Give}
+use Rattle.clos_eval.specs.declared.machine.Doing.TheVariants.{Start, Act, Give}
+use Rattle.clos_eval.specs.declared.machine.Doing.TheVariants as doing
 use Rattle.clos_eval.specs.declared.machine.Machine.{Machine}
 use Rattle.clos_eval.specs.declared.machine.Task.TheVariants.{Plain}
-use Rattle.clos_eval.proofs.Quiet.{evaluation_quiet, start_quiet, apply_quiet, frame_quiet}
+use Rattle.clos_eval.proofs.Quiet.{evaluation_quiet, start_quiet, act_quiet, loop_quiet, frame_quiet}
 use Rattle.clos_eval.proofs.Running.{turns_of_leads, reached_on, reached_same, ended, popped}
 use Rattle.clos_eval.proofs.eval.evaluate.Goals as goal
 
-pub returns-in_default : goal.returns-in_default
-returns-in_default c = (0, omega arith, evaluation_quiet c.args.room (known []) (Plain c.args.form) (seen c.args.world.now))
+pub returns-in_default-clause-answer : goal.returns-in_default-clause-answer
+returns-in_default-clause-answer c = (0, omega arith, evaluation_quiet c.args.room (known []) (Plain c.args.form) (seen c.args.world.now))
 
 pub loop-doing-preserved-in-Ok-begin_task : goal.loop-doing-preserved-in-Ok-begin_task
 loop-doing-preserved-in-Ok-begin_task c =
@@ -21,8 +24,8 @@ loop-doing-preserved-in-Ok-begin_task c =
     (subst (λ d. Reached run (seen c.args.world.now) c.args.steps.now (denote c.loop-doing.machine d) (seen c.loop-doing.world) c.loop-doing.steps)
     c.in-Start.is c.loop-doing.invariant) c.in-Ok-begin_task.ensures.turns
 
-pub returns-in-Err : goal.returns-in-Err
-returns-in-Err c =
+pub returns-in-Err-clause-answer : goal.returns-in-Err-clause-answer
+returns-in-Err-clause-answer c =
     let run : Run = evaluation c.args.room c.args.form in
     ended run (seen c.args.world.now) c.args.steps.now (denote c.loop-doing.machine (Start c.in-Start.task)) (seen c.loop-doing.world) c.loop-doing.steps
     c.in-Err.stop c.begin_task.new.machine (seen c.loop-doing.world) c.begin_task.new.steps
@@ -43,8 +46,8 @@ loop-doing-preserved c =
     c.in-Give.is c.loop-doing.invariant))
     (turns_of_leads rest (seen c.loop-doing.world) c.loop-doing.steps (Ok c.in-Ok-give.next) c.give.new.machine c.in-Ok-give.ensures.leads)
 
-pub returns-in-Err-give : goal.returns-in-Err-give
-returns-in-Err-give c =
+pub returns-in-Err-give-clause-answer : goal.returns-in-Err-give-clause-answer
+returns-in-Err-give-clause-answer c =
     let run : Run = evaluation c.args.room c.args.form in
     let m : Machine = record { levels = c.pop.new.self; context = c.loop-doing.machine.context; locals = c.loop-doing.machine.locals; room = c.in-Some.level.room } in
     let rest : Run = given_to m c.in-Some.level.frame (value_of c.in-Give.value) in
@@ -57,27 +60,36 @@ returns-in-Err-give c =
     c.in-Give.is c.loop-doing.invariant))
     (turns_of_leads rest (seen c.loop-doing.world) c.loop-doing.steps (Err c.in-Err-give.stop) c.give.new.machine c.in-Err-give.ensures.leads)
 
-pub loop-doing-preserved-in-Ok-apply : goal.loop-doing-preserved-in-Ok-apply
-loop-doing-preserved-in-Ok-apply c =
+pub loop-doing-preserved-in-Ok-act : goal.loop-doing-preserved-in-Ok-act
+loop-doing-preserved-in-Ok-act c =
     let run : Run = evaluation c.args.room c.args.form in
-    reached_on run (seen c.args.world.now) c.args.steps.now (denote c.loop-doing.machine (Apply c.in-Apply.name c.in-Apply.values)) (seen c.loop-doing.world) c.loop-doing.steps
-    c.in-Ok-apply.next c.apply.new.machine (seen c.apply.new.world) c.apply.new.steps
+    reached_on run (seen c.args.world.now) c.args.steps.now (denote c.loop-doing.machine (Act c.in-Act.action c.in-Act.values)) (seen c.loop-doing.world) c.loop-doing.steps
+    c.in-Ok-act.next c.act.new.machine (seen c.act.new.world) c.act.new.steps
     (subst (λ d. Reached run (seen c.args.world.now) c.args.steps.now (denote c.loop-doing.machine d) (seen c.loop-doing.world) c.loop-doing.steps)
-    c.in-Apply.is c.loop-doing.invariant) c.in-Ok-apply.ensures.turns
+    c.in-Act.is c.loop-doing.invariant) c.in-Ok-act.ensures.turns
 
-pub loop-doing-preserved-in-Ok-apply-2 : goal.loop-doing-preserved-in-Ok-apply-2
-loop-doing-preserved-in-Ok-apply-2 c =
+pub returns-in-Err-act-clause-answer : goal.returns-in-Err-act-clause-answer
+returns-in-Err-act-clause-answer c =
     let run : Run = evaluation c.args.room c.args.form in
-    reached_on run (seen c.args.world.now) c.args.steps.now (denote c.loop-doing.machine (Apply c.in-Apply.name c.in-Apply.values)) (seen c.loop-doing.world) c.loop-doing.steps
-    c.in-Ok-apply.next c.apply.new.machine (seen c.apply.new.world) c.apply.new.steps
+    ended run (seen c.args.world.now) c.args.steps.now (denote c.loop-doing.machine (Act c.in-Act.action c.in-Act.values)) (seen c.loop-doing.world) c.loop-doing.steps
+    c.in-Err-act.stop c.act.new.machine (seen c.act.new.world) c.act.new.steps
+    (act_quiet c.loop-doing.machine c.in-Act.action c.in-Act.values (seen c.loop-doing.world))
     (subst (λ d. Reached run (seen c.args.world.now) c.args.steps.now (denote c.loop-doing.machine d) (seen c.loop-doing.world) c.loop-doing.steps)
-    c.in-Apply.is c.loop-doing.invariant) c.in-Ok-apply.ensures.turns
+    c.in-Act.is c.loop-doing.invariant) c.in-Err-act.ensures.turns
 
-pub returns-in-Err-apply : goal.returns-in-Err-apply
-returns-in-Err-apply c =
+pub loop-doing-preserved-in-Ok-turn : goal.loop-doing-preserved-in-Ok-turn
+loop-doing-preserved-in-Ok-turn c =
     let run : Run = evaluation c.args.room c.args.form in
-    ended run (seen c.args.world.now) c.args.steps.now (denote c.loop-doing.machine (Apply c.in-Apply.name c.in-Apply.values)) (seen c.loop-doing.world) c.loop-doing.steps
-    c.in-Err-apply.stop c.apply.new.machine (seen c.apply.new.world) c.apply.new.steps
-    (apply_quiet c.loop-doing.machine c.in-Apply.name c.in-Apply.values (seen c.loop-doing.world))
+    reached_on run (seen c.args.world.now) c.args.steps.now (denote c.loop-doing.machine (doing.Turn c.in-Turn.repetition c.in-Turn.counter)) (seen c.loop-doing.world)
+    c.loop-doing.steps c.in-Ok-turn.next c.turn.new.machine (seen c.loop-doing.world) c.turn.new.steps
     (subst (λ d. Reached run (seen c.args.world.now) c.args.steps.now (denote c.loop-doing.machine d) (seen c.loop-doing.world) c.loop-doing.steps)
-    c.in-Apply.is c.loop-doing.invariant) c.in-Err-apply.ensures.turns
+    c.in-Turn.is c.loop-doing.invariant) c.in-Ok-turn.ensures.turns
+
+pub returns-in-Err-turn-clause-answer : goal.returns-in-Err-turn-clause-answer
+returns-in-Err-turn-clause-answer c =
+    let run : Run = evaluation c.args.room c.args.form in
+    ended run (seen c.args.world.now) c.args.steps.now (denote c.loop-doing.machine (doing.Turn c.in-Turn.repetition c.in-Turn.counter)) (seen c.loop-doing.world)
+    c.loop-doing.steps c.in-Err-turn.stop c.turn.new.machine (seen c.loop-doing.world) c.turn.new.steps
+    (loop_quiet c.loop-doing.machine c.in-Turn.repetition c.in-Turn.counter (seen c.loop-doing.world))
+    (subst (λ d. Reached run (seen c.args.world.now) c.args.steps.now (denote c.loop-doing.machine d) (seen c.loop-doing.world) c.loop-doing.steps)
+    c.in-Turn.is c.loop-doing.invariant) c.in-Err-turn.ensures.turns

@@ -1,6 +1,6 @@
 use Rattle.std.proofs.Common.{◌≡◌, [], length, map}
 use Rattle.lisp_data.specs.ValueView.{value_of}
-use Rattle.clos_eval.specs.World.{bound_to}
+use Rattle.clos_world.specs.World.{bound_to}
 use Rattle.clos_eval.proofs.locals.bind.Given as goal
 
 abbrev pub invariant-loop-name : goal.invariant-loop-name

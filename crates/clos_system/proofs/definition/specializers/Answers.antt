@@ -1,6 +1,6 @@
 use Rattle.std.proofs.Common.{◌<◌, ◌∷◌, drop, length, suc, ap, sym, ◌∙◌, arith}
 use Rattle.std.proofs.Math.Seq.{drop-cons}
-use Rattle.clos_eval.specs.World.{seen}
+use Rattle.clos_world.specs.World.{seen}
 use Rattle.clos_system.specs.Step.{found_after, specializer_numbers}
 use Rattle.clos_system.proofs.Steps.{found_fault}
 use Rattle.clos_system.proofs.definition.specializers.Goals as goal

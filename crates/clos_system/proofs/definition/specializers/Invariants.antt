@@ -1,5 +1,5 @@
 use Rattle.std.proofs.Common.{◌≡◌, ◌≤◌, ◌-◌, drop, length}
-use Rattle.clos_eval.specs.World.{seen}
+use Rattle.clos_world.specs.World.{seen}
 use Rattle.clos_system.specs.Step.{found_after, specializer_numbers}
 use Rattle.clos_system.proofs.definition.specializers.Given as goal
 

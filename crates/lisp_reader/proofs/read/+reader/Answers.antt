@@ -1,15 +1,17 @@
-use Rattle.std.proofs.Common.{◌≡◌, ◌∙◌, ◌++◌, ◌∷◌, [], ◌+◌, ◌-◌, ◌<◌, ◌≤◌, ℕ, List, sym, ap, arith, refl, subst, map, drop}
-use Rattle.std.proofs.lemmas.List.{map_push}
+use Rattle.std.proofs.Common.{◌≡◌, ◌∙◌, ◌++◌, ◌∷◌, [], ◌+◌, ◌-◌, ◌<◌, ◌≤◌, ℕ, List, sym, ap, arith, refl, subst, map, drop, length}
+use Rattle.std.specs.Bool.{⊤}
+use Rattle.std.proofs.lemmas.List.{map_push, length-map}
 use Rattle.std.proofs.lemmas.Result.{err_from_is_err_and}
 use Rattle.lisp_data.specs.Datum.{Dat, list_from, nesting_in}
 use Rattle.lisp_data.specs.DatumView.{datum_of}
 use Rattle.lisp_data.specs.Limits.{most_nesting}
 use Rattle.lisp_reader.specs.Answers.{most_open}
 use Rattle.lisp_reader.specs.Gaps.{GapFails}
+use Rattle.lisp_reader.specs.Memory.{Takes, in_prefixed as takes_in_prefixed, a_prefix}
 use Rattle.lisp_reader.specs.Reading.{Items, Fails, TailFails, EndFails, none, tail, prefix_too_deep, in_prefixed, after_prefix, before_tail, no_tail, in_tail, after_tail}
 use Rattle.lisp_reader.proofs.OnNesting.{Spells-nesting, Items-nesting, Tail-nesting}
-use Rattle.lisp_reader.proofs.OnFaults.{OnFault-lift, Refuses-front}
-use Rattle.lisp_reader.proofs.OnReading.{Front, Items-push, Spells-list, Spells-dotted, Fails-after_dot, Fails-item, Fails-before_item, Fails-deep_list, Spells-prefixed, dot-at, tail-place}
+use Rattle.lisp_reader.proofs.OnFaults.{OnRefusal-lift, Refuses-front}
+use Rattle.lisp_reader.proofs.OnReading.{Front, Items-push, Spells-list, Spells-dotted, Fails-after_dot, Fails-item, Fails-before_item, Fails-deep_list, Spells-prefixed, Takes-item, Takes-items, Takes-pushed, some-before_dot, dot-at, tail-place}
 use Rattle.lisp_reader.proofs.read.+reader.Goals as goal
 
 pub read_datum-returns-in-Nothing : goal.read_datum-returns-in-Nothing
@@ -39,7 +41,7 @@ read_list-returns-in_err-next t c =
     let bytes = c.args.bytes.now in
     let room = c.args.room in
     let p = err_from_is_err_and c.from_residual.result c.from_residual.ensures.1 in
-    rw (p.1, p.2) (OnFault-lift bytes (GapFails (drop c.items.cursor bytes)) (Fails room (drop c.args.at bytes)) c.in_err-next.field-0.0 (Fails-before_item bytes room c.args.at c.items.cursor _ c.items.invariant.front) c.in_err-next.ensures)
+    rw (p.1, p.2) (OnRefusal-lift bytes (GapFails (drop c.items.cursor bytes)) (Fails room (drop c.args.at bytes)) ⊥ (Takes room (drop c.args.at bytes)) c.in_err-next.field-0.0 (Fails-before_item bytes room c.args.at c.items.cursor _ c.items.invariant.front) (λ e. absurd e) c.in_err-next.ensures)
 
 pub read_list-returns-then-closes : goal.read_list-returns-then-closes
 read_list-returns-then-closes t c =
@@ -58,8 +60,9 @@ read_list-returns-in_err-last t c =
     let room = c.args.room in
     let gaps = c.in_ok-next.ensures in
     let inside = c.if-dot_fits.ensures.within refl in
+    let takes = Takes-items bytes room c.args.at c.items.cursor _ c.items.invariant.front (some-before_dot (map datum_of c.items.items.items) (drop c.in_ok-next.next bytes) (sym c.if-dot_fits.ensures.value)) in
     let p = err_from_is_err_and c.from_residual-in_err-last.result c.from_residual-in_err-last.ensures.1 in
-    rw (p.1, p.2) (OnFault-lift bytes (TailFails (room - 1) (drop (c.in_ok-next.next + 1) bytes)) (Fails room (drop c.args.at bytes)) c.in_err-last.field-0.0 (Fails-after_dot bytes room c.args.at c.items.cursor c.in_ok-next.next _ c.items.invariant.front gaps.2 inside (sym c.if-dot_fits.ensures.value)) c.in_err-last.ensures)
+    rw (p.1, p.2) (OnRefusal-lift bytes (TailFails (room - 1) (drop (c.in_ok-next.next + 1) bytes)) (Fails room (drop c.args.at bytes)) ⊤ (Takes room (drop c.args.at bytes)) c.in_err-last.field-0.0 (Fails-after_dot bytes room c.args.at c.items.cursor c.in_ok-next.next _ c.items.invariant.front gaps.2 inside (sym c.if-dot_fits.ensures.value)) (λ _. takes) c.in_err-last.ensures)
 
 pub read_list-returns-then-dot_fits : goal.read_list-returns-then-dot_fits
 read_list-returns-then-dot_fits t c =
@@ -74,7 +77,7 @@ read_list-returns-in_err-item t c =
     let room = c.args.room in
     let gaps = c.in_ok-next.ensures in
     let p = err_from_is_err_and c.from_residual-in_err-item.result c.from_residual-in_err-item.ensures.1 in
-    rw (p.1, p.2) (OnFault-lift bytes (Fails (room - 1) (drop c.in_ok-next.next bytes)) (Fails room (drop c.args.at bytes)) c.in_err-item.field-0.0 (Fails-item bytes room c.args.at c.items.cursor c.in_ok-next.next _ c.items.invariant.front gaps.2 (sym c.if-closes.ensures.value) (sym c.if-dot_fits.ensures.value)) c.in_err-item.ensures)
+    rw (p.1, p.2) (OnRefusal-lift bytes (Fails (room - 1) (drop c.in_ok-next.next bytes)) (Fails room (drop c.args.at bytes)) (Takes (room - 1) (drop c.in_ok-next.next bytes)) (Takes room (drop c.args.at bytes)) c.in_err-item.field-0.0 (Fails-item bytes room c.args.at c.items.cursor c.in_ok-next.next _ c.items.invariant.front gaps.2 (sym c.if-closes.ensures.value) (sym c.if-dot_fits.ensures.value)) (Takes-item bytes room c.args.at c.items.cursor c.in_ok-next.next _ c.items.invariant.front gaps.2) c.in_err-item.ensures)
 
 pub read_list-items-preserved : goal.read_list-items-preserved
 read_list-items-preserved t c =
@@ -93,6 +96,26 @@ read_list-items-preserved t c =
       };
     }
 
+pub read_list-returns-in_err-list_of : goal.read_list-returns-in_err-list_of
+read_list-returns-in_err-list_of t c =
+    let ds = map datum_of c.items.items.items in
+    let any : 0 < length ds = omega (arith, c.in_err-list_of.ensures, length-map c.items.items.items datum_of) in
+    let p = err_from_is_err_and c.from_residual-in_err-list_of.result c.from_residual-in_err-list_of.ensures.1 in
+    rw (p.1, p.2) (Takes-items c.args.bytes.now c.args.room c.args.at c.items.cursor ds c.items.invariant.front any)
+
+pub read_list-returns-in_err-ending_in : goal.read_list-returns-in_err-ending_in
+read_list-returns-in_err-ending_in t c =
+    let ds = map datum_of c.items.items.items in
+    let any : 0 < length ds = some-before_dot ds (drop c.in_ok-next.next c.args.bytes.now) (sym c.if-dot_fits.ensures.value) in
+    let p = err_from_is_err_and c.from_residual-in_err-ending_in.result c.from_residual-in_err-ending_in.ensures.1 in
+    rw (p.1, p.2) (Takes-items c.args.bytes.now c.args.room c.args.at c.items.cursor ds c.items.invariant.front any)
+
+pub read_list-returns-in_err-push : goal.read_list-returns-in_err-push
+read_list-returns-in_err-push t c =
+    let ds = map datum_of c.items.items.items in
+    let p = err_from_is_err_and c.from_residual-in_err-push.result c.from_residual-in_err-push.ensures.1 in
+    rw (p.1, p.2) (Takes-pushed c.args.bytes.now c.args.room c.args.at c.items.cursor c.in_ok-next.next c.in_ok-item.after ds (datum_of c.in_ok-item.item) c.items.invariant.front c.in_ok-next.ensures.2 c.in_ok-item.ensures.2)
+
 -- ---- prefixes
 
 pub read_prefixed-returns-then-room-eq0 : goal.read_prefixed-returns-then-room-eq0
@@ -106,7 +129,7 @@ read_prefixed-returns-in_err-start t c =
     let some : 0 < room = omega arith in
     let after = c.args.at + c.args.prefix.len in
     let p = err_from_is_err_and c.from_residual.result c.from_residual.ensures.1 in
-    rw (p.1, p.2) (OnFault-lift bytes (GapFails (drop after bytes)) (Fails room (drop c.args.at bytes)) c.in_err-start.field-0.0 (λ kind rest fails. after_prefix room (drop c.args.at bytes) _ (drop after bytes) kind rest some c.requires.begins.2 fails) c.in_err-start.ensures)
+    rw (p.1, p.2) (OnRefusal-lift bytes (GapFails (drop after bytes)) (Fails room (drop c.args.at bytes)) ⊥ (Takes room (drop c.args.at bytes)) c.in_err-start.field-0.0 (λ kind rest fails. after_prefix room (drop c.args.at bytes) _ (drop after bytes) kind rest some c.requires.begins.2 fails) (λ e. absurd e) c.in_err-start.ensures)
 
 pub read_prefixed-returns-in_err-datum : goal.read_prefixed-returns-in_err-datum
 read_prefixed-returns-in_err-datum t c =
@@ -115,7 +138,7 @@ read_prefixed-returns-in_err-datum t c =
     let some : 0 < room = omega arith in
     let start = c.in_ok-start.start in
     let p = err_from_is_err_and c.from_residual-in_err-datum.result c.from_residual-in_err-datum.ensures.1 in
-    rw (p.1, p.2) (OnFault-lift bytes (Fails (room - 1) (drop start bytes)) (Fails room (drop c.args.at bytes)) c.in_err-datum.field-0.0 (λ kind rest fails. in_prefixed room (drop c.args.at bytes) _ _ (drop start bytes) kind rest some c.requires.begins.2 c.in_ok-start.ensures.2 fails) c.in_err-datum.ensures)
+    rw (p.1, p.2) (OnRefusal-lift bytes (Fails (room - 1) (drop start bytes)) (Fails room (drop c.args.at bytes)) (Takes (room - 1) (drop start bytes)) (Takes room (drop c.args.at bytes)) c.in_err-datum.field-0.0 (λ kind rest fails. in_prefixed room (drop c.args.at bytes) _ _ (drop start bytes) kind rest some c.requires.begins.2 c.in_ok-start.ensures.2 fails) (λ takes. takes_in_prefixed room (drop c.args.at bytes) _ _ (drop start bytes) some c.requires.begins.2 c.in_ok-start.ensures.2 takes) c.in_err-datum.ensures)
 
 pub read_prefixed-returns : goal.read_prefixed-returns
 read_prefixed-returns t c =
@@ -124,6 +147,14 @@ read_prefixed-returns t c =
     let found = c.in_ok-datum.ensures in
     (omega (arith, gaps.0, found.0), found.1, Spells-prefixed c.args.bytes.now c.args.room c.args.at (c.args.at + c.args.prefix.len) c.in_ok-start.start c.in_ok-datum.after _ (datum_of c.in_ok-datum.datum) _ c.requires.begins.2 some gaps.2 found.2 c.in_ok-prefixed_by.ensures)
 
+pub read_prefixed-returns-in_err-prefixed_by : goal.read_prefixed-returns-in_err-prefixed_by
+read_prefixed-returns-in_err-prefixed_by t c =
+    let bytes = c.args.bytes.now in
+    let room = c.args.room in
+    let some : 0 < room = omega arith in
+    let p = err_from_is_err_and c.from_residual-in_err-prefixed_by.result c.from_residual-in_err-prefixed_by.ensures.1 in
+    rw (p.1, p.2) (a_prefix room (drop c.args.at bytes) _ _ (drop c.in_ok-start.start bytes) (datum_of c.in_ok-datum.datum) (drop c.in_ok-datum.after bytes) some c.requires.begins.2 c.in_ok-start.ensures.2 c.in_ok-datum.ensures.2)
+
 -- ---- after a dot
 
 pub read_tail-returns-in_err-start : goal.read_tail-returns-in_err-start
@@ -131,7 +162,7 @@ read_tail-returns-in_err-start t c =
     let bytes = c.args.bytes.now in
     let text = drop (c.args.dot + 1) bytes in
     let p = err_from_is_err_and c.from_residual.result c.from_residual.ensures.1 in
-    rw (p.1, p.2) (OnFault-lift bytes (GapFails text) (TailFails c.args.room text) c.in_err-start.field-0.0 (λ kind rest fails. before_tail c.args.room text kind rest fails) c.in_err-start.ensures)
+    rw (p.1, p.2) (OnRefusal-lift bytes (GapFails text) (TailFails c.args.room text) ⊥ ⊤ c.in_err-start.field-0.0 (λ kind rest fails. before_tail c.args.room text kind rest fails) (λ _. tt) c.in_err-start.ensures)
 
 pub read_tail-returns-then-closes : goal.read_tail-returns-then-closes
 read_tail-returns-then-closes t c =
@@ -144,7 +175,7 @@ read_tail-returns-in_err-last t c =
     let text = drop (c.args.dot + 1) bytes in
     let start = drop c.in_ok-start.start bytes in
     let p = err_from_is_err_and c.from_residual-in_err-last.result c.from_residual-in_err-last.ensures.1 in
-    rw (p.1, p.2) (OnFault-lift bytes (Fails c.args.room start) (TailFails c.args.room text) c.in_err-last.field-0.0 (λ kind rest fails. in_tail c.args.room text start kind rest c.in_ok-start.ensures.2 (sym c.if-closes.ensures.value) fails) c.in_err-last.ensures)
+    rw (p.1, p.2) (OnRefusal-lift bytes (Fails c.args.room start) (TailFails c.args.room text) (Takes c.args.room start) ⊤ c.in_err-last.field-0.0 (λ kind rest fails. in_tail c.args.room text start kind rest c.in_ok-start.ensures.2 (sym c.if-closes.ensures.value) fails) (λ _. tt) c.in_err-last.ensures)
 
 pub read_tail-returns-in_err-end : goal.read_tail-returns-in_err-end
 read_tail-returns-in_err-end t c =
@@ -153,7 +184,7 @@ read_tail-returns-in_err-end t c =
     let start = drop c.in_ok-start.start bytes in
     let end = drop c.in_ok-last.after bytes in
     let p = err_from_is_err_and c.from_residual-in_err-end.result c.from_residual-in_err-end.ensures.1 in
-    rw (p.1, p.2) (OnFault-lift bytes (EndFails end) (TailFails c.args.room text) c.in_err-end.field-0.0 (λ kind rest fails. after_tail c.args.room text start (datum_of c.in_ok-last.last) end kind rest c.in_ok-start.ensures.2 c.in_ok-last.ensures.2 fails) c.in_err-end.ensures)
+    rw (p.1, p.2) (OnRefusal-lift bytes (EndFails end) (TailFails c.args.room text) ⊤ ⊤ c.in_err-end.field-0.0 (λ kind rest fails. after_tail c.args.room text start (datum_of c.in_ok-last.last) end kind rest c.in_ok-start.ensures.2 c.in_ok-last.ensures.2 fails) (λ _. tt) c.in_err-end.ensures)
 
 pub read_tail-returns : goal.read_tail-returns
 read_tail-returns t c =

@@ -1,8 +1,9 @@
 use Rattle.std.proofs.Common.{drop, arith, subst, sym, refl}
+use Rattle.std.specs.Bool.{⊤}
 use Rattle.std.proofs.lemmas.Result.{err_from_is_err_and}
 use Rattle.lisp_reader.specs.Gaps.{Gaps, GapFails}
 use Rattle.lisp_reader.specs.Reading.{EndFails, before_end}
-use Rattle.lisp_reader.proofs.OnFaults.{OnFault-lift}
+use Rattle.lisp_reader.proofs.OnFaults.{OnRefusal-lift}
 use Rattle.lisp_reader.proofs.OnReading.{closing-starts}
 use Rattle.lisp_reader.proofs.read.list_end.Goals as goal
 
@@ -11,7 +12,7 @@ returns-in_err-next c =
     let bytes = c.args.bytes.now in
     let from = c.args.from in
     let p = err_from_is_err_and c.from_residual.result c.from_residual.ensures.1 in
-    rw (p.1, p.2) (OnFault-lift bytes (GapFails (drop from bytes)) (EndFails (drop from bytes)) c.in_err-next.field-0.0 (λ kind rest fails. before_end (drop from bytes) kind rest fails) c.in_err-next.ensures)
+    rw (p.1, p.2) (OnRefusal-lift bytes (GapFails (drop from bytes)) (EndFails (drop from bytes)) ⊥ ⊤ c.in_err-next.field-0.0 (λ kind rest fails. before_end (drop from bytes) kind rest fails) (λ _. tt) c.in_err-next.ensures)
 
 pub returns-then-closes : goal.returns-then-closes
 returns-then-closes c =

@@ -1,9 +1,10 @@
 use Rattle.std.proofs.Common.{◌<◌, length, drop, arith}
+use Rattle.std.specs.Bool.{⊤}
 use Rattle.std.proofs.lemmas.Result.{err_from_is_err_and}
 use Rattle.lisp_reader.specs.Answers.{NextFails, next, in_gaps}
 use Rattle.lisp_reader.specs.Gaps.{GapFails}
 use Rattle.lisp_reader.proofs.OnAnswers.{NextFails-datum}
-use Rattle.lisp_reader.proofs.OnFaults.{OnFault-lift}
+use Rattle.lisp_reader.proofs.OnFaults.{OnRefusal-lift}
 use Rattle.lisp_reader.proofs.OnNesting.{Spells-nesting}
 use Rattle.lisp_reader.proofs.read.read_form.Goals as goal
 
@@ -12,7 +13,7 @@ returns-in_err-start-clause-answer c =
     let bytes = c.args.bytes.now in
     let text = drop c.args.from bytes in
     let p = err_from_is_err_and c.from_residual.result c.from_residual.ensures.1 in
-    rw (p.1, p.2) (OnFault-lift bytes (GapFails text) (NextFails text) c.in_err-start.field-0.0 (λ kind rest fails. in_gaps text kind rest fails) c.in_err-start.ensures)
+    rw (p.1, p.2) (OnRefusal-lift bytes (GapFails text) (NextFails text) ⊥ ⊤ c.in_err-start.field-0.0 (λ kind rest fails. in_gaps text kind rest fails) (λ _. tt) c.in_err-start.ensures)
 
 pub returns-in-Ok-clause-answer : goal.returns-in-Ok-clause-answer
 returns-in-Ok-clause-answer c =

@@ -6,9 +6,10 @@ use Rattle.std.proofs.lemmas.Int.{to_z-of_z}
 use Rattle.lisp_data.specs.Name.{Nam}
 use Rattle.lisp_data.specs.Datum.{integer, symbol}
 use Rattle.std.specs.Str.{IsAscii}
+use Rattle.std.proofs.lemmas.Result.{err_from_is_err_and}
 use Rattle.std.proofs.lemmas.Str.{IsUtf8-from_ascii}
 use Rattle.lisp_reader.specs.declared.token.Class.TheVariants.{Integer, Dot, Keyword, Symbol, Bad}
-use Rattle.lisp_reader.proofs.OnTokens.{run-ascii, Reads-token, Fails-token, keyword-length}
+use Rattle.lisp_reader.proofs.OnTokens.{run-ascii, Reads-token, Fails-token, Takes-token, keyword-length}
 use Rattle.lisp_reader.proofs.token.read_token.Goals as goal
 
 abbrev named_by : List ℕ → Bool → Nam
@@ -60,3 +61,17 @@ returns-in-Dot c = λ room.
 pub returns-in-Bad : goal.returns-in-Bad
 returns-in-Bad c = λ room.
     Fails-token c.args.bytes.now room c.args.at c.token_at-token.result.now Bad _ c.requires.within c.requires.begins c.token_at-token.ensures.value c.in-Bad.ensures.value refl
+
+-- memory runs out only at a name
+
+pub returns-in_err-upcased_name-in-Keyword : goal.returns-in_err-upcased_name-in-Keyword
+returns-in_err-upcased_name-in-Keyword c =
+    let token = c.token_at-token.result.now in
+    let p = err_from_is_err_and c.from_residual.result c.from_residual.ensures.1 in
+    rw (p.1, p.2) (λ room. Takes-token c.args.bytes.now room c.args.at token Keyword (named_by (drop 1 token) true) c.requires.within c.requires.begins c.token_at-token.ensures.value c.in-Keyword.ensures.value refl)
+
+pub returns-in_err-upcased_name-in-Symbol : goal.returns-in_err-upcased_name-in-Symbol
+returns-in_err-upcased_name-in-Symbol c =
+    let token = c.token_at-token.result.now in
+    let p = err_from_is_err_and c.from_residual-in_err-upcased_name-in-Symbol.result c.from_residual-in_err-upcased_name-in-Symbol.ensures.1 in
+    rw (p.1, p.2) (λ room. Takes-token c.args.bytes.now room c.args.at token Symbol (named_by token false) c.requires.within c.requires.begins c.token_at-token.ensures.value c.in-Symbol.ensures.value refl)

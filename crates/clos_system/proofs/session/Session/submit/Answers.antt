@@ -1,5 +1,5 @@
 use Rattle.lisp_data.specs.DatumView.{datum_of}
-use Rattle.clos_eval.specs.World.{seen}
+use Rattle.clos_world.specs.World.{seen}
 use Rattle.clos_system.specs.Session.{Replies}
 use Rattle.clos_system.specs.Step.{step}
 use Rattle.clos_system.specs.declared.session.Reply.TheVariants.{Condition}

@@ -1,7 +1,0 @@
-use Rattle.clos_eval.specs.World.{seen}
-use Rattle.clos_eval.proofs.Running.{nil_designates}
-use Rattle.clos_eval.proofs.eval.designate_list.Goals as goal
-
-pub returns-in-None : goal.returns-in-None
-returns-in-None c =
-    nil_designates (seen c.args.world.now) c.args.items c.fixed.result c.found-in-None.result c.in-None.ensures c.fixed.ensures c.found-in-None.ensures

@@ -1,9 +1,0 @@
-use Rattle.clos_eval.specs.Callee.{only_value}
-use Rattle.clos_eval.specs.World.{seen}
-use Rattle.clos_eval.proofs.Running.{nothing_printed}
-use Rattle.clos_eval.proofs.eval.print.Goals as goal
-
-pub returns-in_default-clause-turns : goal.returns-in_default-clause-turns
-returns-in_default-clause-turns c =
-    nothing_printed c.args.machine.now c.args.output (only_value c.args.values.now) c.plain.result (seen c.args.world.now) c.args.steps.now
-    c.in_default.ensures c.plain.ensures

@@ -1,7 +1,0 @@
--- What a session has defined.
-use Rattle.std.specs.Prelude.{◌≡◌}
-use Rattle.clos_eval.specs.World.{State}
-
--- the same classes, generic functions and methods
-abbrev pub Same : State → State → Type 0
-Same w u = (u.classes ≡ w.classes) × (u.generics ≡ w.generics) × (u.methods ≡ w.methods)

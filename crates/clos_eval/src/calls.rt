@@ -1,0 +1,555 @@
+//! Calls of functions, of generic functions and of methods (HyperSpec 3.1.2.1.2.3, 7.6.6).
+ghost use Rattle.std.specs.Prelude.{◌≡◌, ◌∷◌, ◌++◌, [], ℕ, IfOk, Some, slice_get, option_copied, true};
+ghost use Rattle.std.specs.List.{list_any};
+ghost use Rattle.lisp_data.specs.Value.{list, nil};
+ghost use Rattle.lisp_data.specs.ValueView.{value_of};
+ghost use Rattle.lisp_prims.specs.Primitive.{answer};
+ghost use Rattle.clos_forms.specs.OperatorView.{called_of};
+ghost use Rattle.clos_forms.specs.Quotation.{name_value};
+ghost use Rattle.clos_world.specs.Functions.{function_in};
+ghost use Rattle.clos_world.specs.Generic.{function_named, ordered};
+ghost use Rattle.clos_world.specs.Globals.{any_global};
+ghost use Rattle.clos_world.specs.World.{State, seen, bound_as, bound_to, lists_of};
+ghost use Rattle.clos_eval.specs.Calls.{known, restoring, scoped, body_run, applied_to, called_defined, dispatched, called_generic, called_function, method_run, combined, system, called_setter, setter_value};
+ghost use Rattle.clos_eval.specs.Control.{sequence};
+ghost use Rattle.clos_eval.specs.Fault.{answered};
+ghost use Rattle.clos_eval.specs.Machine.{Leads, Grows, at, inside, given_to};
+ghost use Rattle.clos_eval.specs.Meaning.{meaning, alone, acted, collect, collected, function_value, is_plain_function, other_function};
+ghost use Rattle.clos_eval.specs.Outcome.{Run, then_do};
+ghost use Rattle.clos_eval.specs.declared.machine.Action.TheVariants.{Call};
+ghost use Rattle.clos_eval.specs.declared.machine.Frame.TheVariants.{Body};
+ghost use Rattle.clos_eval.specs.declared.machine.Task.TheVariants.{Plain};
+
+use crate::arguments::{Arguments, Context};
+use crate::control::{begin, done};
+use crate::effective::{EffectiveForm, EffectiveNode, combined};
+use crate::fault::of_function;
+use crate::locals::{Locals, bind};
+use crate::machine::{Action, Doing, Frame, Level, Machine, SystemCall, Task};
+use crate::truth::nil;
+use clos_forms::{Form, Forms, FunctionName, is_function, is_system_function, value_named};
+use clos_world::{
+    ConditionKind, Function, Generic, Method, Parameters, Stop, Values, World, about, about_call,
+    about_name, generic_named, method_numbered, ordered_methods, plain,
+};
+use lisp_data::{Items, MethodId, Name, Value};
+use lisp_prims::Primitive;
+use std::alloc::{AllocError, Global};
+use std::mem;
+
+/// The next of the values that an action is done with, or the action itself.
+pub fn collect_next(
+    machine: &mut Machine,
+    action: Action,
+    forms: &Forms,
+    values: Values,
+) -> Result<Doing, Stop>
+    ensures leads { (run : Run) (w : State)
+        → ((t : ℕ) → collect (meaning machine.old.room) machine.old.context forms.now values (acted (meaning machine.old.room) machine.old.context action) (at machine.old w) t ≡ run (at machine.old w) t)
+        → Leads (inside machine.old run) w result machine.new }
+    ensures small { Grows 8 machine.old.levels result machine.new }
+{
+    match forms.split_first() {
+        None => Ok(Doing::Act(action, values)),
+        Some((first, others)) => {
+            let next = Task::Plain(first.copy()?);
+            let rest = others.copy()?;
+            begin(machine, next, Frame::Collect(action, rest, values))
+        }
+    }
+}
+
+/// A call of the function of this name begins with its arguments.
+pub fn start_call(
+    alloc: Global,
+    machine: &mut Machine,
+    name: &Name,
+    arguments: &Forms,
+) -> Result<Doing, Stop>
+    ensures leads { (run : Run) (w : State)
+        → ((t : ℕ) → collected (meaning machine.old.room) machine.old.context arguments.now (Call name.now) (at machine.old w) t ≡ run (at machine.old w) t)
+        → Leads (inside machine.old run) w result machine.new }
+    ensures small { Grows 8 machine.old.levels result machine.new }
+{
+    let action = Action::Call(name.copy()?);
+    collect_next(machine, action, arguments, Values::new(alloc))
+}
+
+/// The next value is there.
+pub fn next_value(
+    machine: &mut Machine,
+    action: Action,
+    rest: &Forms,
+    mut values: Values,
+    value: Value,
+) -> Result<Doing, Stop>
+    ensures leads { (run : Run) (w : State)
+        → ((t : ℕ) → collect (meaning machine.old.room) machine.old.context rest.now (values ++ value_of value ∷ []) (acted (meaning machine.old.room) machine.old.context action) (at machine.old w) t ≡ run (at machine.old w) t)
+        → Leads (inside machine.old run) w result machine.new }
+    ensures small { Grows 8 machine.old.levels result machine.new }
+{
+    values.push(value)?;
+    collect_next(machine, action, rest, values)
+}
+
+/// The new value of a place follows its arguments.
+pub fn new_value(
+    machine: &mut Machine,
+    name: Name,
+    form: &Form,
+    values: Values,
+) -> Result<Doing, Stop>
+    ensures leads { (run : Run) (w : State)
+        → ((t : ℕ) → collect (meaning machine.old.room) machine.old.context (alone form.now) values (λ vs u k. called_setter (meaning machine.old.room) name vs u k) (at machine.old w) t ≡ run (at machine.old w) t)
+        → Leads (inside machine.old run) w result machine.new }
+    ensures small { Grows 4 machine.old.levels result machine.new }
+{
+    let next = Task::Plain(form.copy()?);
+    begin(
+        machine,
+        next,
+        Frame::Collect(Action::CallSetter(name), Forms::new(), values),
+    )
+}
+
+/// A function of values.
+#[tactic(auto, using(crate::proofs::Turns::stopped_through))]
+pub fn compute(
+    alloc: Global,
+    machine: &mut Machine,
+    world: &World,
+    primitive: Primitive,
+    values: &Values,
+) -> Result<Doing, Stop>
+    ensures leads { Leads (inside machine.old (answered (answer primitive values.now))) (seen world.now) result machine.new }
+    ensures small { Grows 6 machine.old.levels result machine.new }
+{
+    let _ = world;
+    match primitive.call(alloc, values.as_slice()) {
+        Ok(value) => Ok(Doing::Give(value)),
+        Err(fault) => Err(of_function(alloc, fault)),
+    }
+}
+
+/// A call of the function of the program's of this name.
+#[tactic(auto, using(crate::proofs::Turns::stopped_through))]
+pub fn call(
+    alloc: Global,
+    machine: &mut Machine,
+    world: &World,
+    name: &Name,
+    values: Values,
+) -> Result<Doing, Stop>
+    ensures leads { Leads (inside machine.old (λ w. called_function (meaning machine.old.room) name.now values (function_named w.generics name.now) w)) (seen world.now) result machine.new }
+    ensures small { Grows 6 machine.old.levels result machine.new }
+{
+    match generic_named(&world.generics, name) {
+        None => call_named(alloc, machine, world, name, values),
+        Some(id) => match world.generics.get(id.0 as usize) {
+            None => Err(Stop::Refused(plain(alloc, ConditionKind::ProgramError))),
+            Some(generic) => call_generic(alloc, machine, world, generic, values),
+        },
+    }
+}
+
+/// A call of the function that a `defun` gave this name.
+#[tactic(auto, using(crate::proofs::Turns::stopped_through))]
+fn call_named(
+    alloc: Global,
+    machine: &mut Machine,
+    world: &World,
+    name: &Name,
+    values: Values,
+) -> Result<Doing, Stop>
+    ensures leads { Leads (inside machine.old (λ w. called_defined (meaning machine.old.room) values (name_value name.now) (function_in w.functions name.now) w)) (seen world.now) result machine.new }
+    ensures small { Grows 6 machine.old.levels result machine.new }
+{
+    match world.functions.get(name) {
+        None => {
+            let condition = about_name(alloc, ConditionKind::UndefinedFunction, name)?;
+            Err(Stop::Refused(condition))
+        }
+        Some(function) => call_function(alloc, machine, world, function, values),
+    }
+}
+
+/// A call of the function `(setf name)`, whose first argument is the last of the values.
+#[tactic(auto, using(crate::proofs::Turns::stopped_through))]
+pub fn call_setter(
+    alloc: Global,
+    machine: &mut Machine,
+    world: &World,
+    name: &Name,
+    mut values: Values,
+) -> Result<Doing, Stop>
+    ensures leads { Leads (inside machine.old (called_setter (meaning machine.old.room) name.now values)) (seen world.now) result machine.new }
+    ensures small { Grows 6 machine.old.levels result machine.new }
+{
+    match world.setters.get(name) {
+        None => {
+            let kind = ConditionKind::UndefinedFunction;
+            Err(Stop::Refused(about(alloc, kind, setter_value(alloc, name)?)?))
+        }
+        Some(function) => {
+            values.put_last_first()?;
+            call_function(alloc, machine, world, function, values)
+        }
+    }
+}
+
+/// The list of SETF and this name.
+pub fn setter_value(alloc: Global, name: &Name) -> Result<Value, AllocError>
+    ensures { IfOk result (λ r. value_of r ≡ setter_value name.now) }
+{
+    let Ok(names) = Items::cons(alloc, value_named(name)?, Items::new()) else {
+        return Err(AllocError);
+    };
+    let Ok(names) = Items::cons(alloc, value_named(&Name::fixed("SETF"))?, names) else {
+        return Err(AllocError);
+    };
+    Ok(Value::List(names))
+}
+
+/// A call of a function of the program's.
+#[tactic(auto, using(crate::proofs::Turns::stopped_through))]
+fn call_function(
+    alloc: Global,
+    machine: &mut Machine,
+    world: &World,
+    function: &Function,
+    values: Values,
+) -> Result<Doing, Stop>
+    ensures leads { Leads (inside machine.old (applied_to (meaning machine.old.room) values function.now)) (seen world.now) result machine.new }
+    ensures small { Grows 6 machine.old.levels result machine.new }
+{
+    if values.len() != function.parameters.as_slice().len() {
+        return Err(Stop::Refused(plain(alloc, ConditionKind::ProgramError)));
+    }
+    let arguments = Arguments::new(alloc, values)?;
+    run_body(
+        alloc,
+        machine,
+        world,
+        arguments,
+        &function.parameters,
+        &function.body,
+    )
+}
+
+/// A call of a generic function: its applicable methods are worked out and combined (HyperSpec 7.6.6).
+#[tactic(auto, using(crate::proofs::Turns::stopped_through))]
+fn call_generic(
+    alloc: Global,
+    machine: &mut Machine,
+    world: &World,
+    generic: &Generic,
+    values: Values,
+) -> Result<Doing, Stop>
+    ensures leads { Leads (inside machine.old (called_generic (meaning machine.old.room) values (Some generic.now))) (seen world.now) result machine.new }
+    ensures small { Grows 6 machine.old.levels result machine.new }
+{
+    if values.len() as u64 != generic.required {
+        return Err(Stop::Refused(plain(alloc, ConditionKind::ProgramError)));
+    }
+    call_applicable(alloc, machine, world, generic, values)
+}
+
+/// The applicable methods of a generic function are called, or no-applicable-method.
+fn call_applicable(
+    alloc: Global,
+    machine: &mut Machine,
+    world: &World,
+    generic: &Generic,
+    values: Values,
+) -> Result<Doing, Stop>
+    ensures leads { (run : Run)
+        → ((t : ℕ) → meaning machine.old.room (known values) (dispatched generic.now.name values (ordered (seen world.now).methods (lists_of (seen world.now) values) generic.now.methods)) (at machine.old (seen world.now)) t ≡ run (at machine.old (seen world.now)) t)
+        → Leads (inside machine.old run) (seen world.now) result machine.new }
+    ensures small { Grows 6 machine.old.levels result machine.new }
+{
+    let arguments = Arguments::new(alloc, values)?;
+    let next = dispatch(alloc, world, generic, &arguments)?;
+    let context = Context { arguments };
+    enter_effect(machine, context, next)
+}
+
+/// The effective form of a call, or the call of no-applicable-method.
+fn dispatch(
+    alloc: Global,
+    world: &World,
+    generic: &Generic,
+    arguments: &Arguments,
+) -> Result<Task, AllocError>
+    ensures { IfOk result (λ r. r ≡ dispatched generic.now.name arguments.now (ordered (seen world.now).methods (lists_of (seen world.now) arguments.now) generic.now.methods)) }
+{
+    let lists = world.precedence_lists(alloc, arguments.as_slice())?;
+    let mut order = ordered_methods(alloc, &world.methods, &lists, &generic.methods)?;
+    if order.len() == 0 {
+        let name = generic.name.copy()?;
+        let arguments = arguments.copy()?;
+        return Ok(Task::System(SystemCall::SignalNoApplicable(name, arguments)));
+    }
+    let method = order.get(0);
+    order.remove(0);
+    Ok(Task::Effect(combined(alloc, method, order)?))
+}
+
+/// Evaluates this next in a context of its own; the machine's comes back after it.
+#[tactic(auto, using(crate::proofs::Turns::stopped_through, crate::proofs::Turns::then_gave))]
+fn enter_effect(machine: &mut Machine, context: Context, next: Task) -> Result<Doing, Stop>
+    ensures leads { (run : Run) (w : State)
+        → ((t : ℕ) → meaning machine.old.room context next (at machine.old w) t ≡ run (at machine.old w) t)
+        → Leads (inside machine.old run) w result machine.new }
+    ensures small { Grows 6 machine.old.levels result machine.new }
+{
+    let room = machine.room;
+    let saved = mem::replace(&mut machine.context, context);
+    let frame = Frame::Known(saved);
+    machine.levels.push(Level { frame, room })?;
+    Ok(Doing::Start(next))
+}
+
+/// An effective form begins.
+#[tactic(auto, using(crate::proofs::Turns::stopped_through, crate::proofs::Turns::then_gave))]
+pub fn start_effective(
+    alloc: Global,
+    machine: &mut Machine,
+    world: &World,
+    form: &EffectiveForm,
+) -> Result<Doing, Stop>
+    ensures leads { Leads (inside machine.old (combined (meaning machine.old.room) machine.old.context form.now)) (seen world.now) result machine.new }
+    ensures small { Grows 6 machine.old.levels result machine.new }
+{
+    match form.node() {
+        EffectiveNode::CallMethod(method, _next) => run_method(alloc, machine, world, *method),
+        EffectiveNode::Progn(inner) => {
+            let next = Task::Effect(inner.copy()?);
+            begin(machine, next, Frame::Passing)
+        }
+        EffectiveNode::Prog1(inner) => {
+            let next = Task::Effect(inner.copy()?);
+            begin(machine, next, Frame::Passing)
+        }
+    }
+}
+
+/// A method runs on the arguments of its effective form.
+#[tactic(auto, using(crate::proofs::Turns::stopped_through))]
+fn run_method(
+    alloc: Global,
+    machine: &mut Machine,
+    world: &World,
+    id: MethodId,
+) -> Result<Doing, Stop>
+    ensures leads { Leads (inside machine.old (method_run (meaning machine.old.room) machine.old.context.arguments (slice_get (seen world.now).methods id.0))) (seen world.now) result machine.new }
+    ensures small { Grows 6 machine.old.levels result machine.new }
+{
+    match method_numbered(&world.methods, id) {
+        None => Err(Stop::Refused(plain(alloc, ConditionKind::ProgramError))),
+        Some(method) => {
+            let arguments = machine.context.arguments.copy()?;
+            run_body(
+                alloc,
+                machine,
+                world,
+                arguments,
+                &method.parameters,
+                &method.body,
+            )
+        }
+    }
+}
+
+/// The body of a function or a method begins, with its parameters bound to the arguments.
+#[tactic(auto, using(crate::proofs::Turns::stopped_through))]
+fn run_body(
+    alloc: Global,
+    machine: &mut Machine,
+    world: &World,
+    arguments: Arguments,
+    parameters: &Parameters,
+    body: &Forms,
+) -> Result<Doing, Stop>
+    ensures leads { Leads (inside machine.old (body_run (meaning machine.old.room) arguments parameters.now body.now)) (seen world.now) result machine.new }
+    ensures small { Grows 6 machine.old.levels result machine.new }
+{
+    if any_global(world, parameters.as_slice()) {
+        return Err(Stop::Refused(plain(alloc, ConditionKind::Unsupported)));
+    }
+    run_bound(alloc, machine, arguments, parameters, body)
+}
+
+/// Whether one of these names is a global variable's.
+fn any_global(world: &World, names: &[Name]) -> bool
+    ensures { result ≡ any_global (seen world.now).globals names.now }
+{
+    names.iter().any(|name| world.globals.has(name))
+}
+
+fn run_bound(
+    alloc: Global,
+    machine: &mut Machine,
+    arguments: Arguments,
+    parameters: &Parameters,
+    body: &Forms,
+) -> Result<Doing, Stop>
+    ensures leads { (run : Run) (w : State)
+        → ((t : ℕ) → scoped (sequence (meaning machine.old.room) (known arguments) body.now (list nil)) (bound_to parameters.now arguments []) (at machine.old w) t ≡ run (at machine.old w) t)
+        → Leads (inside machine.old run) w result machine.new }
+    ensures small { Grows 6 machine.old.levels result machine.new }
+{
+    let locals = bind(alloc, parameters.as_slice(), arguments.as_slice())?;
+    run_scoped(machine, Context { arguments }, locals, body)
+}
+
+/// These forms are evaluated in a context of their own and with these variables.
+fn run_scoped(
+    machine: &mut Machine,
+    context: Context,
+    locals: Locals,
+    forms: &Forms,
+) -> Result<Doing, Stop>
+    ensures leads { (run : Run) (w : State)
+        → ((t : ℕ) → scoped (sequence (meaning machine.old.room) context forms.now (list nil)) locals (at machine.old w) t ≡ run (at machine.old w) t)
+        → Leads (inside machine.old run) w result machine.new }
+    ensures small { Grows 6 machine.old.levels result machine.new }
+{
+    match forms.split_first() {
+        None => Ok(done(machine, nil())),
+        Some((first, others)) => {
+            let first = first.copy()?;
+            let rest = others.copy()?;
+            enter_body(machine, context, locals, first, rest)
+        }
+    }
+}
+
+/// Evaluates the forms of a body, of which this is the first, in a context of their own and with these variables.
+fn enter_body(
+    machine: &mut Machine,
+    context: Context,
+    locals: Locals,
+    first: Form,
+    rest: Forms,
+) -> Result<Doing, Stop>
+    ensures leads { (run : Run) (w : State)
+        → ((t : ℕ) → then_do (then_do (meaning machine.old.room context (Plain first) (bound_as locals w) t) (λ v. sequence (meaning machine.old.room) context rest v)) (restoring machine.old.locals) ≡ run (at machine.old w) t)
+        → Leads (inside machine.old run) w result machine.new }
+    ensures small { Grows 6 machine.old.levels result machine.new }
+{
+    let room = machine.room;
+    let saved = mem::replace(&mut machine.context, context);
+    let outer = mem::replace(&mut machine.locals, locals);
+    let frame = Frame::Body(rest, saved, outer);
+    machine.levels.push(Level { frame, room })?;
+    Ok(Doing::Start(Task::Plain(first)))
+}
+
+/// The rest of a body follows the value of one of its forms.
+pub fn next_of_body(
+    machine: &mut Machine,
+    world: &World,
+    rest: &Forms,
+    saved: Context,
+    outer: Locals,
+    value: Value,
+) -> Result<Doing, Stop>
+    ensures leads { Leads (given_to machine.old (Body rest.now saved outer) (value_of value)) (seen world.now) result machine.new }
+    ensures small { Grows 6 machine.old.levels result machine.new }
+{
+    let _ = world;
+    match rest.split_first() {
+        None => {
+            machine.context = saved;
+            machine.locals = outer;
+            Ok(Doing::Give(value))
+        }
+        Some((first, others)) => {
+            let room = machine.room;
+            let next = Task::Plain(first.copy()?);
+            let rest = others.copy()?;
+            let frame = Frame::Body(rest, saved, outer);
+            machine.levels.push(Level { frame, room })?;
+            Ok(Doing::Start(next))
+        }
+    }
+}
+
+/// The effective form of a system generic function begins.
+#[tactic(auto, using(crate::proofs::Turns::stopped_through, crate::proofs::Turns::then_gave))]
+pub fn start_system(
+    alloc: Global,
+    machine: &mut Machine,
+    world: &World,
+    call: SystemCall,
+) -> Result<Doing, Stop>
+    ensures leads { Leads (inside machine.old (system (meaning machine.old.room) machine.old.context call)) (seen world.now) result machine.new }
+    ensures small { Grows 6 machine.old.levels result machine.new }
+{
+    let _ = world;
+    match call {
+        SystemCall::SignalNoApplicable(name, arguments) => {
+            let kind = ConditionKind::NoApplicableMethod;
+            let condition = about_call(alloc, kind, &name, arguments.as_slice())?;
+            Err(Stop::Refused(condition))
+        }
+        SystemCall::Initialize(id) => {
+            let next = Task::System(SystemCall::InitializeShared(id));
+            begin(machine, next, Frame::Passing)
+        }
+        SystemCall::InitializeShared(id) => Ok(Doing::Give(Value::Instance(id))),
+    }
+}
+
+/// What a `function` form names: a generic function.
+#[tactic(auto, using(crate::proofs::Turns::stopped_through))]
+pub fn function_named(
+    alloc: Global,
+    machine: &mut Machine,
+    world: &World,
+    name: &FunctionName,
+) -> Result<Doing, Stop>
+    ensures leads { Leads (inside machine.old (function_value (called_of name.now))) (seen world.now) result machine.new }
+    ensures small { Grows 6 machine.old.levels result machine.new }
+{
+    match name {
+        FunctionName::Symbol(name) => match generic_named(&world.generics, name) {
+            Some(id) => Ok(Doing::Give(Value::Generic(id))),
+            None => {
+                let known = is_plain_function(world, name);
+                no_object(alloc, machine, world, known, value_named(name)?)
+            }
+        },
+        FunctionName::Setf(name) => {
+            let known = world.setters.get(name).is_some();
+            no_object(alloc, machine, world, known, setter_value(alloc, name)?)
+        }
+    }
+}
+
+/// Whether a symbol names a function that is no generic function.
+fn is_plain_function(world: &World, name: &Name) -> bool
+    ensures { result ≡ is_plain_function (seen world.now) name.now }
+{
+    is_function(name) || is_system_function(name) || world.functions.get(name).is_some()
+}
+
+/// A function that is no object here, or none at all.
+#[tactic(auto, using(crate::proofs::Turns::stopped_through))]
+fn no_object(
+    alloc: Global,
+    machine: &Machine,
+    world: &World,
+    known: bool,
+    name: Value,
+) -> Result<Doing, Stop>
+    ensures leads { Leads (inside machine.now (other_function known (value_of name))) (seen world.now) result machine.now }
+    ensures small { Grows 6 machine.now.levels result machine.now }
+{
+    let _ = machine;
+    let _ = world;
+    if known {
+        return Err(Stop::Refused(plain(alloc, ConditionKind::Unsupported)));
+    }
+    Err(Stop::Refused(about(alloc, ConditionKind::UndefinedFunction, name)?))
+}

@@ -1,0 +1,38 @@
+-- Conditions, and what they are about.
+use Rattle.std.specs.Prelude.{ℕ, List, false, codes}
+use Rattle.lisp_data.specs.Name.{Nam}
+use Rattle.clos_world.specs.declared.condition.ConditionKind.{ConditionKind}
+use Rattle.clos_world.specs.declared.condition.ConditionKind.TheVariants.{ProgramError, UnboundVariable, UndefinedFunction, TypeError, IntegerRange, DivisionByZero, UndefinedClass, LambdaListCongruence, NoApplicableMethod, Unsupported, StepLimit, DepthLimit, TableLimit}
+
+abbrev pub number_of : ConditionKind → ℕ
+number_of ProgramError = 1
+number_of UnboundVariable = 2
+number_of UndefinedFunction = 3
+number_of TypeError = 4
+number_of IntegerRange = 5
+number_of DivisionByZero = 6
+number_of UndefinedClass = 7
+number_of LambdaListCongruence = 12
+number_of NoApplicableMethod = 14
+number_of Unsupported = 28
+number_of StepLimit = 29
+number_of DepthLimit = 30
+number_of TableLimit = 31
+
+abbrev pub condition_name : ConditionKind → List ℕ
+condition_name ProgramError = codes "PROGRAM-ERROR"
+condition_name UnboundVariable = codes "UNBOUND-VARIABLE"
+condition_name UndefinedFunction = codes "UNDEFINED-FUNCTION"
+condition_name TypeError = codes "TYPE-ERROR"
+condition_name IntegerRange = codes "INTEGER-RANGE"
+condition_name DivisionByZero = codes "DIVISION-BY-ZERO"
+condition_name UndefinedClass = codes "UNDEFINED-CLASS"
+condition_name LambdaListCongruence = codes "LAMBDA-LIST-CONGRUENCE"
+condition_name NoApplicableMethod = codes "NO-APPLICABLE-METHOD"
+condition_name Unsupported = codes "UNSUPPORTED"
+condition_name StepLimit = codes "STEP-LIMIT"
+condition_name DepthLimit = codes "DEPTH-LIMIT"
+condition_name TableLimit = codes "TABLE-LIMIT"
+
+abbrev pub nil_name : Nam
+nil_name = record { text = codes "NIL"; keyword = false }

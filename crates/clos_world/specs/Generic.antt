@@ -1,0 +1,47 @@
+-- Applicable methods and their order (HyperSpec 7.6.6.1).
+use Rattle.std.specs.Prelude.{ℕ, ◌==◌, List, [], ◌∷◌, Bool, true, false, ◌&&◌, if◌then◌else◌, Option, Some, None, slice_get, position}
+use Rattle.std.specs.List.{list_any}
+use Rattle.lisp_data.specs.Name.{Nam, same_name}
+use Rattle.clos_world.specs.declared.generic.Method.{Method}
+use Rattle.clos_world.specs.declared.generic.Generic.{Generic}
+
+-- the number of the generic function of this name
+abbrev pub function_named : List Generic → Nam → Option ℕ
+function_named generics name = position (λ g. same_name g.name name) generics
+
+-- the numbers of the classes on which a method is specialised
+abbrev pub specializers_in : Option Method → List ℕ
+specializers_in None = []
+specializers_in (Some m) = m.specializers
+
+abbrev pub specializers_of : List Method → ℕ → List ℕ
+specializers_of methods m = specializers_in (slice_get methods m)
+
+-- Each specializer is in the precedence list of the class of its argument.
+abbrev pub is_applicable : List (List ℕ) → List ℕ → Bool
+is_applicable [] specializers = true
+is_applicable (list ∷ lists) [] = true
+is_applicable (list ∷ lists) (s ∷ specializers) = list_any (λ n. n == s) list && is_applicable lists specializers
+
+-- whether the first class stands earlier in the list than the second
+abbrev pub stands_before : List ℕ → ℕ → ℕ → Bool
+stands_before [] a b = false
+stands_before (c ∷ list) a b = if c == a then true else if c == b then false else stands_before list a b
+
+-- At the first place where the specializers differ, the first method's stands earlier in the argument's list.
+abbrev pub is_before : List (List ℕ) → List ℕ → List ℕ → Bool
+is_before [] xs ys = false
+is_before (list ∷ lists) [] ys = false
+is_before (list ∷ lists) (a ∷ xs) [] = false
+is_before (list ∷ lists) (a ∷ xs) (b ∷ ys) = if a == b then is_before lists xs ys else stands_before list a b
+
+module _ (methods : List Method) (lists : List (List ℕ)) where
+  -- a method at its place among ordered ones that were added after it
+  abbrev pub placed : ℕ → List ℕ → List ℕ
+  placed m [] = m ∷ []
+  placed m (n ∷ ns) = if is_before lists (specializers_of methods n) (specializers_of methods m) then n ∷ placed m ns else m ∷ n ∷ ns
+
+  -- the applicable ones of these methods, the most specific first
+  abbrev pub ordered : List ℕ → List ℕ
+  ordered [] = []
+  ordered (m ∷ ms) = if is_applicable lists (specializers_of methods m) then placed m (ordered ms) else ordered ms

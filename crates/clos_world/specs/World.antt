@@ -1,0 +1,105 @@
+-- The state of a session (HyperSpec 3.1.1, 4.3, 7.6): lists that only grow at their ends.
+use Rattle.std.specs.Prelude.{ℕ, ◌-◌, ◌==◌, List, [], ◌∷◌, ◌||◌, nat_le, Option, Some, None, map, reverse, take, option_map, unwrap_or, slice_get, if◌then◌else◌}
+use Rattle.lisp_data.specs.Name.{Nam, same_name}
+use Rattle.lisp_data.specs.Value.{Val, integer, symbol, string, list, class, generic, method, instance, nil, cons}
+use Rattle.lisp_data.specs.Print.{Names, MethodParts, by_symbol, on_class}
+use Rattle.clos_world.specs.declared.class.Class.{Class}
+use Rattle.clos_world.specs.declared.generic.Generic.{Generic}
+use Rattle.clos_world.specs.declared.generic.Method.{Method}
+use Rattle.clos_world.specs.declared.limits.Limits.{Limits}
+use Rattle.clos_world.specs.declared.functions.Function.{Function}
+use Rattle.clos_world.specs.declared.world.World.{World}
+use Rattle.clos_world.specs.Globals.{Variables}
+use Rattle.clos_world.specs.Class.{precedence, class_name}
+
+-- a lexical variable and its value (3.1.2.1.1)
+abbrev pub Local : Type 0
+Local = Nam × Val
+
+pub record State : Type 0 where
+  pub classes : List Class  -- the predefined ones first, then in order of definition
+  pub generics : List Generic
+  pub methods : List Method  -- all ever made
+  pub functions : List (Nam × Function)  -- by symbols, in order of definition
+  pub setters : List (Nam × Function)  -- the functions (setf name), by that name
+  pub globals : Variables  -- in order of definition
+  pub instances : List ℕ  -- of each its class; the first has the number 1
+  pub written : List ℕ
+  pub limits : Limits
+  pub locals : List Local  -- the variables of the body that runs, the innermost first; between forms none
+
+-- a session's tables as lists
+abbrev pub seen : World → State
+seen w = record {
+  classes = w.classes.items;
+  generics = w.generics.items;
+  methods = w.methods.items;
+  functions = w.functions;
+  setters = w.setters;
+  globals = w.globals;
+  instances = map (λ c. c.0) w.instances.items;
+  written = w.written.items;
+  limits = w.limits;
+  locals = [];
+}
+
+-- the same, with these variables
+abbrev pub bound_as : List Local → State → State
+bound_as locals w = record w { locals = locals }
+
+-- the same, with none
+abbrev pub unbound : State → State
+unbound w = bound_as [] w
+
+-- the value of the innermost variable of this name
+abbrev pub local_named : List Local → Nam → Option Val
+local_named [] name = None
+local_named (l ∷ ls) name = if same_name l.0 name then Some l.1 else local_named ls name
+
+-- so many of the outermost variables
+abbrev pub outermost : ℕ → List Local → List Local
+outermost n ls = reverse (take n (reverse ls))
+
+-- these names bound to the values in turn, from left to right, within these
+abbrev pub bound_to : List Nam → List Val → List Local → List Local
+bound_to [] vs ls = ls
+bound_to (n ∷ ns) [] ls = ls
+bound_to (n ∷ ns) (v ∷ vs) ls = bound_to ns vs ((n, v) ∷ ls)
+
+abbrev pub instance_among : List ℕ → ℕ → Option ℕ
+instance_among is i = if i == 0 then None else slice_get is (i - 1)
+
+-- the class of an instance
+abbrev pub class_of_instance : State → ℕ → Option ℕ
+class_of_instance w i = instance_among w.instances i
+
+-- the class of a value (4.3.7)
+abbrev pub class_among : List ℕ → Val → ℕ
+class_among is (integer n) = 2
+class_among is (symbol s) = 7
+class_among is (string s) = 11
+class_among is (list nil) = 6
+class_among is (list (cons v l)) = 10
+class_among is (class n) = if (n == 1) || nat_le 22 n then 18 else 19
+class_among is (generic n) = 16
+class_among is (method n) = 20
+class_among is (instance i) = unwrap_or (instance_among is i) 1
+
+abbrev pub class_of : State → Val → ℕ
+class_of w v = class_among w.instances v
+
+-- the precedence lists of the classes of these arguments
+abbrev pub lists_of : State → List Val → List (List ℕ)
+lists_of w vs = map (λ v. precedence w.classes (class_of w v)) vs
+
+abbrev pub parts_of : Method → MethodParts
+parts_of m = record { generic = m.generic.0; qualifiers = []; specializers = map on_class m.specializers }
+
+-- what the numbers in values stand for
+abbrev pub names_of : State → Names
+names_of w = record {
+  class = λ n. class_name w.classes n;
+  generic = λ n. option_map (λ g. by_symbol g.name) (slice_get w.generics n);
+  method = λ n. option_map parts_of (slice_get w.methods n);
+  class_of = λ i. class_of_instance w i;
+}

@@ -1,0 +1,148 @@
+//! The conditions that forms end with.
+ghost use Rattle.std.specs.Prelude.{◌≡◌, ◌∷◌, [], IfOk, map};
+ghost use Rattle.lisp_data.specs.ValueView.{value_of};
+ghost use Rattle.clos_forms.specs.Quotation.{name_value};
+ghost use Rattle.clos_world.specs.Condition.{number_of, condition_name};
+ghost use Rattle.clos_world.specs.declared.condition.Condition.{Condition};
+ghost use Rattle.clos_world.specs.declared.condition.Stop.TheVariants.{Storage};
+
+use crate::values::Values;
+use clos_forms::value_named;
+use lisp_data::{Name, Value};
+use std::alloc::{AllocError, AllocFailed, Global};
+
+/// The kinds of conditions. Each has a number.
+#[derive(Clone, Copy, Debug, PartialEq, Eq)]
+pub enum ConditionKind {
+    ProgramError,
+    UnboundVariable,
+    UndefinedFunction,
+    TypeError,
+    IntegerRange,
+    DivisionByZero,
+    UndefinedClass,
+    LambdaListCongruence,
+    NoApplicableMethod,
+    Unsupported,
+    StepLimit,
+    DepthLimit,
+    TableLimit,
+}
+
+impl ConditionKind {
+    /// Its number, from 1 to 31.
+    pub fn number(self) -> u64
+        ensures { result ≡ number_of self }
+    {
+        match self {
+            ConditionKind::ProgramError => 1,
+            ConditionKind::UnboundVariable => 2,
+            ConditionKind::UndefinedFunction => 3,
+            ConditionKind::TypeError => 4,
+            ConditionKind::IntegerRange => 5,
+            ConditionKind::DivisionByZero => 6,
+            ConditionKind::UndefinedClass => 7,
+            ConditionKind::LambdaListCongruence => 12,
+            ConditionKind::NoApplicableMethod => 14,
+            ConditionKind::Unsupported => 28,
+            ConditionKind::StepLimit => 29,
+            ConditionKind::DepthLimit => 30,
+            ConditionKind::TableLimit => 31,
+        }
+    }
+
+    /// Its name, as it is printed.
+    pub fn name(self) -> &'static str
+        ensures { result.now ≡ condition_name self }
+    {
+        match self {
+            ConditionKind::ProgramError => "PROGRAM-ERROR",
+            ConditionKind::UnboundVariable => "UNBOUND-VARIABLE",
+            ConditionKind::UndefinedFunction => "UNDEFINED-FUNCTION",
+            ConditionKind::TypeError => "TYPE-ERROR",
+            ConditionKind::IntegerRange => "INTEGER-RANGE",
+            ConditionKind::DivisionByZero => "DIVISION-BY-ZERO",
+            ConditionKind::UndefinedClass => "UNDEFINED-CLASS",
+            ConditionKind::LambdaListCongruence => "LAMBDA-LIST-CONGRUENCE",
+            ConditionKind::NoApplicableMethod => "NO-APPLICABLE-METHOD",
+            ConditionKind::Unsupported => "UNSUPPORTED",
+            ConditionKind::StepLimit => "STEP-LIMIT",
+            ConditionKind::DepthLimit => "DEPTH-LIMIT",
+            ConditionKind::TableLimit => "TABLE-LIMIT",
+        }
+    }
+}
+
+/// A condition: its kind, and what it is about.
+#[derive(Drop)]
+pub struct Condition {
+    pub kind: ConditionKind,
+    pub items: Values,
+}
+
+/// Why an evaluation stopped.
+#[derive(Drop)]
+pub enum Stop {
+    Refused(Condition),
+    /// Memory was refused.
+    Storage,
+}
+
+impl From<AllocError> for Stop {
+    ghost from_gives = { λ _ e. e ≡ Storage };
+
+    fn from(_refusal: AllocError) -> Stop {
+        Stop::Storage
+    }
+}
+
+impl<T: Drop> From<AllocFailed<T>> for Stop {
+    ghost from_gives = { λ _ e. e ≡ Storage };
+
+    fn from(_refusal: AllocFailed<T>) -> Stop {
+        Stop::Storage
+    }
+}
+
+/// The condition of this kind that is about nothing in particular.
+pub fn plain(alloc: Global, kind: ConditionKind) -> Condition
+    ensures { result ≡ record { kind = kind; items = [] } }
+{
+    Condition {
+        kind,
+        items: Values::new(alloc),
+    }
+}
+
+/// The condition of this kind that is about this value.
+pub fn about(alloc: Global, kind: ConditionKind, value: Value) -> Result<Condition, AllocError>
+    ensures { IfOk result (λ c. c ≡ record { kind = kind; items = value_of value ∷ [] }) }
+{
+    let mut items = Values::new(alloc);
+    items.push(value)?;
+    Ok(Condition { kind, items })
+}
+
+/// The condition of this kind that is about this name.
+pub fn about_name(alloc: Global, kind: ConditionKind, name: &Name) -> Result<Condition, AllocError>
+    ensures { IfOk result (λ c. c ≡ record { kind = kind; items = name_value name.now ∷ [] }) }
+{
+    about(alloc, kind, value_named(name)?)
+}
+
+/// The condition of this kind that is about a function's name and these arguments.
+pub fn about_call(
+    alloc: Global,
+    kind: ConditionKind,
+    name: &Name,
+    arguments: &[Value],
+) -> Result<Condition, AllocError>
+    ensures { IfOk result (λ c. c ≡ record { kind = kind; items = name_value name.now ∷ map value_of arguments.now }) }
+{
+    let mut items = Values::new(alloc);
+    items.push(value_named(name)?)?;
+    for argument in arguments {
+        items.push(argument.copy()?)?;
+    }
+    Ok(Condition { kind, items })
+}
