@@ -1,4 +1,3 @@
-pub mod Lists
 pub mod WhereGiven
 pub mod Laws
 pub mod WellFormed

@@ -1,7 +1,4 @@
-pub mod Lists
-pub mod Sections
 pub mod Property
-pub mod LambdaList
 pub mod FunctionName
 pub mod Method
 pub mod Function

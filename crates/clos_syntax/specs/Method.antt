@@ -8,10 +8,10 @@ use Rattle.clos_forms.specs.Grammar.{form_of, body_forms_of}
 use Rattle.clos_forms.specs.Names.{is_called}
 use Rattle.clos_forms.specs.Part.{only_in}
 use Rattle.clos_forms.specs.declared.part.Context.TheVariants.{Plain, Method}
-use Rattle.clos_syntax.specs.LambdaList.{parameter_in, with_optionals}
-use Rattle.clos_syntax.specs.Lists.{list_in}
-use Rattle.clos_syntax.specs.Sections.{is_symbol_called, front, back}
-use Rattle.clos_syntax.specs.declared.lambda_list.LambdaList.{LambdaList}
+use Rattle.clos_lambda.specs.LambdaList.{parameter_in, with_optionals}
+use Rattle.clos_lambda.specs.Lists.{list_in}
+use Rattle.clos_lambda.specs.Sections.{is_symbol_called, front, back}
+use Rattle.clos_lambda.specs.declared.lambda_list.LambdaList.{LambdaList}
 use Rattle.clos_syntax.specs.declared.method.ParameterSpecializer.{ParameterSpecializer}
 use Rattle.clos_syntax.specs.declared.method.ParameterSpecializer.TheVariants.{Class, Eql}
 use Rattle.clos_syntax.specs.declared.method.MethodDefinition.{MethodDefinition}

@@ -5,7 +5,7 @@ use Rattle.lisp_data.specs.Name.{Nam}
 use Rattle.lisp_data.specs.Datum.{Dat, integer, symbol, string, list, dotted, method, Dats, nil, cons}
 use Rattle.clos_forms.specs.Binding.{each}
 use Rattle.clos_forms.specs.Fault.{◌>>=◌}
-use Rattle.clos_syntax.specs.Lists.{single}
+use Rattle.clos_lambda.specs.Lists.{single}
 
 -- the keyword of these characters
 abbrev pub is_keyword_called : List ℕ → Nam → Bool

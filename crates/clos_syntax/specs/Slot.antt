@@ -5,11 +5,9 @@ use Rattle.lisp_data.specs.Datum.{Dat, integer, symbol, string, list, dotted, me
 use Rattle.clos_forms.specs.Binding.{each}
 use Rattle.clos_forms.specs.Body.{is_string}
 use Rattle.clos_forms.specs.Fault.{◌>>=◌}
-use Rattle.clos_forms.specs.Form.{Frm}
 use Rattle.clos_forms.specs.FunctionName.{symbol_in}
-use Rattle.clos_forms.specs.Grammar.{form_of}
 use Rattle.clos_forms.specs.declared.operator.FunctionName.TheVariants.{Setf}
-use Rattle.clos_forms.specs.declared.part.Context.TheVariants.{Plain}
+use Rattle.clos_lambda.specs.PlainForm.{form_in}
 use Rattle.clos_syntax.specs.FunctionName.{method_function_in, method_symbol_in}
 use Rattle.clos_syntax.specs.Property.{is_key, values_of, value_in}
 use Rattle.clos_syntax.specs.declared.slot.Accessor.{Accessor}
@@ -17,9 +15,6 @@ use Rattle.clos_syntax.specs.declared.slot.Accessor.TheVariants.{Reader, Writer}
 use Rattle.clos_syntax.specs.declared.slot.Allocation.{Allocation}
 use Rattle.clos_syntax.specs.declared.slot.Allocation.TheVariants.{Instance, Class}
 use Rattle.clos_syntax.specs.declared.slot.SlotSpecifier.{SlotSpecifier}
-
-abbrev pub form_in : Dat → Option Frm
-form_in d = form_of Plain d
 
 -- ---- accessors
 

@@ -11,7 +11,7 @@ use Rattle.clos_syntax.specs.Function.{function_in}
 use Rattle.clos_syntax.specs.FunctionName.{method_function_in}
 use Rattle.clos_syntax.specs.Generic.{generic_in}
 use Rattle.clos_syntax.specs.Method.{method_in}
-use Rattle.clos_syntax.specs.Slot.{form_in}
+use Rattle.clos_lambda.specs.PlainForm.{form_in}
 use Rattle.clos_syntax.specs.Variable.{variable_definition_in}
 use Rattle.clos_syntax.specs.declared.top.Top.{Top}
 use Rattle.clos_syntax.specs.declared.top.Top.TheVariants.{DefClass, DefGeneric, DefMethod, Defun, DefVar, RemoveMethod, AddDependent, RemoveDependent, InPackage, Expr}

@@ -5,8 +5,8 @@ ghost use Rattle.clos_forms.specs.Fault.{Gives};
 ghost use Rattle.clos_syntax.specs.Function.{function_in, function_with};
 
 use crate::function_name::parse_new_function;
-use crate::lambda_list::{LambdaList, parse_lambda_list};
 use clos_forms::{Context, Forms, FunctionName, SyntaxFault, parse_body};
+use clos_lambda::{LambdaList, parse_lambda_list};
 use lisp_data::{Data, Datum};
 use std::alloc::Global;
 

@@ -6,11 +6,11 @@ ghost use Rattle.clos_forms.specs.Fault.{Gives};
 ghost use Rattle.clos_forms.specs.OperatorView.{called_of};
 ghost use Rattle.clos_syntax.specs.FunctionName.{if_free, is_taken, method_function_in, method_symbol_in, new_function_in, unless_system, unless_taken};
 
-use crate::kind::parse_symbol;
 use clos_forms::{
     FunctionName, SyntaxFault, is_closed_function, is_function, is_special_operator,
     is_system_function, parse_function_name,
 };
+use clos_lambda::parse_symbol;
 use lisp_data::{Datum, Name};
 
 /// Whether a program has no methods on this name.

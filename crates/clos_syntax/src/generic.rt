@@ -7,12 +7,11 @@ ghost use Rattle.clos_syntax.specs.Generic.{combination_in, combination_with, fi
 
 use crate::class::DocumentationOptions;
 use crate::function_name::parse_new_function;
-use crate::kind::{Kind, Symbols, parse_each, parse_option, parse_options, parse_symbol};
-use crate::lambda_list::{LambdaList, parse_generic_lambda_list};
+use crate::kind::{Symbols, parse_each, parse_option, parse_options};
 use crate::method::{MethodDefinition, parse_method};
 use crate::property::{arguments, is_option};
-use crate::sequence::Sequence;
 use clos_forms::{FunctionName, SyntaxFault, are_among, are_distinct, is_declaration};
+use clos_lambda::{Kind, LambdaList, Sequence, parse_generic_lambda_list, parse_symbol};
 use lisp_data::{Data, Datum, Name};
 use std::alloc::{AllocError, Global};
 

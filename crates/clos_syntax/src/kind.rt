@@ -1,31 +1,17 @@
-//! Kinds of things that data stand for, and lists of one kind.
-ghost use Rattle.std.specs.Prelude.{◌≡◌, Option};
-ghost use Rattle.lisp_data.specs.Datum.{Dat};
+//! Lists of things of one kind.
+ghost use Rattle.std.specs.Prelude.{◌≡◌};
 ghost use Rattle.lisp_data.specs.DatumView.{datum_of};
 ghost use Rattle.clos_forms.specs.Binding.{each};
 ghost use Rattle.clos_forms.specs.Fault.{Gives};
 ghost use Rattle.clos_forms.specs.FunctionName.{symbol_in};
 ghost use Rattle.clos_syntax.specs.Property.{options_of, option_in, values_of, value_in};
-ghost use Rattle.clos_syntax.specs.Sections.{front};
-ghost use Rattle.clos_syntax.specs.Slot.{form_in};
+ghost use Rattle.clos_lambda.specs.PlainForm.{form_in};
 
 use crate::property::{is_key, is_option};
-use crate::section::ends_section;
-use crate::sequence::Sequence;
-use clos_forms::{Context, Form, SyntaxFault, parse_form, symbol_name};
+use clos_forms::{Form, SyntaxFault};
+use clos_lambda::{Kind, Sequence, parse_plain_form, parse_symbol};
 use lisp_data::{Data, Datum, Name};
 use std::alloc::Global;
-
-/// A kind of thing that a datum may stand for.
-pub(crate) trait Kind {
-    type Item: Drop;
-
-    ghost item_in: { Dat → Option Self.Item };
-
-    /// What a datum stands for.
-    fn parse(alloc: Global, datum: &Datum) -> Result<Self::Item, SyntaxFault>
-        ensures { Gives (λ x. x) result (item_in (datum_of datum.now)) };
-}
 
 /// Symbols.
 pub(crate) struct Symbols;
@@ -53,25 +39,8 @@ impl Kind for PlainForms {
     }
 }
 
-/// The name of the symbol that a datum is.
-pub(crate) fn parse_symbol(datum: &Datum) -> Result<Name, SyntaxFault>
-    ensures { Gives (λ n. n) result (symbol_in (datum_of datum.now)) }
-{
-    match symbol_name(datum) {
-        None => Err(SyntaxFault::Program),
-        Some(name) => Ok(name.copy()?),
-    }
-}
-
-/// The form that a datum is in no method.
-pub(crate) fn parse_plain_form(alloc: Global, datum: &Datum) -> Result<Form, SyntaxFault>
-    ensures { Gives (λ f. f) result (form_in (datum_of datum.now)) }
-{
-    parse_form(alloc, Context::Plain, datum)
-}
-
 /// What each element of a list stands for.
-#[tactic(auto, using(crate::proofs::Lists::one_more))]
+#[tactic(auto, using(clos_lambda::proofs::Lists::one_more))]
 pub(crate) fn parse_each<K: Kind>(
     alloc: Global,
     elements: &Data,
@@ -90,31 +59,8 @@ pub(crate) fn parse_each<K: Kind>(
     Ok(items)
 }
 
-/// What each element of a section of a lambda list stands for.
-#[tactic(auto, using(crate::proofs::Lists::one_more))]
-pub(crate) fn parse_front<K: Kind>(
-    alloc: Global,
-    elements: &Data,
-) -> Result<Sequence<K::Item>, SyntaxFault>
-    ensures { Gives (λ xs. xs) result (each K.item_in (front elements.now)) }
-{
-    let mut items = Sequence::new(alloc);
-    let mut rest = elements;
-    while let Some((first, others)) = rest.split_first() {
-        if ends_section(first) {
-            return Ok(items);
-        }
-        match K::parse(alloc, first) {
-            Err(fault) => return Err(fault),
-            Ok(item) => items.push(item)?,
-        }
-        rest = others;
-    }
-    Ok(items)
-}
-
 /// What each value of a keyword stands for, of keywords and values in turn.
-#[tactic(auto, using(crate::proofs::Lists::one_more))]
+#[tactic(auto, using(clos_lambda::proofs::Lists::one_more))]
 pub(crate) fn parse_values<K: Kind>(
     alloc: Global,
     key: &str,
@@ -154,7 +100,7 @@ pub(crate) fn parse_value<K: Kind>(
 }
 
 /// What each option of a keyword stands for.
-#[tactic(auto, using(crate::proofs::Lists::one_more))]
+#[tactic(auto, using(clos_lambda::proofs::Lists::one_more))]
 pub(crate) fn parse_options<K: Kind>(
     alloc: Global,
     key: &str,

@@ -3,15 +3,14 @@ ghost use Rattle.std.specs.Prelude.{◌≡◌, IfOk, map};
 ghost use Rattle.lisp_data.specs.Datum.{nil};
 ghost use Rattle.lisp_data.specs.DatumView.{datum_of};
 ghost use Rattle.clos_forms.specs.Fault.{Gives};
-ghost use Rattle.clos_syntax.specs.Lists.{ahead};
+ghost use Rattle.clos_lambda.specs.Lists.{ahead};
 ghost use Rattle.clos_syntax.specs.Method.{eql_specializer, is_qualifier, listed_specializer, method_in, method_with, past_qualifiers, qualified, qualifiers_in, required_in, specialized, specialized_name, specializer_in, specializer_named, specializers_in, t_name};
 
-use crate::kind::{Kind, parse_front, parse_plain_form};
-use crate::lambda_list::{LambdaList, parse_parameter, parse_with_optionals};
-use crate::list::parse_list;
-use crate::section::{back, is_symbol_called};
-use crate::sequence::Sequence;
 use clos_forms::{Context, Form, Forms, SyntaxFault, is_the, only, parse_body};
+use clos_lambda::{
+    Kind, LambdaList, Sequence, back, is_symbol_called, parse_front, parse_list, parse_parameter,
+    parse_plain_form, parse_with_optionals,
+};
 use lisp_data::{Data, Datum, Name};
 use std::alloc::{AllocError, Global};
 
@@ -171,7 +170,7 @@ fn is_qualifier(datum: &Datum) -> bool
 }
 
 /// The qualifiers that lead a method's data.
-#[tactic(auto, using(crate::proofs::Lists::one_ahead))]
+#[tactic(auto, using(clos_lambda::proofs::Lists::one_ahead))]
 fn leading_qualifiers(alloc: Global, elements: &Data) -> Result<Vec<Datum>, AllocError>
     ensures { IfOk result (λ ds. ahead (map datum_of ds.items) nil ≡ qualifiers_in elements.now) }
 {
@@ -188,7 +187,7 @@ fn leading_qualifiers(alloc: Global, elements: &Data) -> Result<Vec<Datum>, Allo
 }
 
 /// The list of these atoms.
-#[tactic(auto, using(crate::proofs::Lists::one_ahead))]
+#[tactic(auto, using(clos_lambda::proofs::Lists::one_ahead))]
 fn data_from(alloc: Global, mut atoms: Vec<Datum>) -> Result<Data, AllocError>
     ensures { IfOk result (λ l. l ≡ ahead (map datum_of atoms.items) nil) }
 {

@@ -5,10 +5,10 @@ ghost use Rattle.clos_forms.specs.Fault.{Gives};
 ghost use Rattle.clos_syntax.specs.Slot.{accessor_in, accessors_at, accessors_in, allocation_in, anything, are_slot_options, documentation_in, is_slot_key, listed_slot, or_instance, reader_in, slot_from, slot_in, slot_with, writer_in};
 
 use crate::function_name::{parse_method_function, parse_method_symbol};
-use crate::kind::{Kind, PlainForms, Symbols, parse_symbol, parse_value, parse_values};
+use crate::kind::{PlainForms, Symbols, parse_value, parse_values};
 use crate::property::is_key;
-use crate::sequence::Sequence;
 use clos_forms::{Form, FunctionName, SyntaxFault, is_string};
+use clos_lambda::{Kind, Sequence, parse_symbol};
 use lisp_data::{Data, Datum, Name};
 use std::alloc::{AllocError, Global};
 
@@ -164,7 +164,7 @@ fn accessors_at(
 }
 
 /// The accessors that options ask for, in the order of the options.
-#[tactic(auto, using(crate::proofs::Lists::some_more))]
+#[tactic(auto, using(clos_lambda::proofs::Lists::some_more))]
 fn parse_accessors(alloc: Global, options: &Data) -> Result<Sequence<Accessor>, SyntaxFault>
     ensures { Gives (λ xs. xs) result (accessors_in options.now) }
 {

@@ -10,10 +10,10 @@ use crate::class::{ClassDefinition, parse_class};
 use crate::function::{FunctionDefinition, parse_function};
 use crate::function_name::parse_method_function;
 use crate::generic::{GenericDefinition, parse_generic};
-use crate::kind::parse_plain_form;
 use crate::method::{MethodDefinition, parse_method};
 use crate::variable::{Definer, VariableDefinition, parse_variable};
 use clos_forms::{Form, FunctionName, SyntaxFault, is_the, only};
+use clos_lambda::parse_plain_form;
 use lisp_data::{Data, Datum, Name};
 use std::alloc::Global;
 

@@ -4,8 +4,8 @@ ghost use Rattle.lisp_data.specs.DatumView.{datum_of};
 ghost use Rattle.clos_forms.specs.Fault.{Gives};
 ghost use Rattle.clos_syntax.specs.Variable.{documented, init_in, is_documentation, variable_definition_in};
 
-use crate::kind::parse_plain_form;
 use clos_forms::{Form, SyntaxFault, at_most_one, is_string, variable_name};
+use clos_lambda::parse_plain_form;
 use lisp_data::{Data, Datum, Name};
 use std::alloc::Global;
 

@@ -1,7 +1,7 @@
 use Rattle.std.proofs.Common.{◌≡◌, map, vec_len}
 use Rattle.lisp_data.specs.Datum.{nil}
 use Rattle.lisp_data.specs.DatumView.{datum_of}
-use Rattle.clos_syntax.specs.Lists.{ahead}
+use Rattle.clos_lambda.specs.Lists.{ahead}
 use Rattle.clos_syntax.proofs.method.data_from.Given as goal
 
 abbrev pub invariant-loop-last : goal.invariant-loop-last

@@ -1,7 +1,7 @@
 use Rattle.std.proofs.Common.{◌≡◌, map}
 use Rattle.lisp_data.specs.Datum.{size_of_data}
 use Rattle.lisp_data.specs.DatumView.{datum_of}
-use Rattle.clos_syntax.specs.Lists.{ahead}
+use Rattle.clos_lambda.specs.Lists.{ahead}
 use Rattle.clos_syntax.specs.Method.{qualifiers_in}
 use Rattle.clos_syntax.proofs.method.leading_qualifiers.Given as goal
 

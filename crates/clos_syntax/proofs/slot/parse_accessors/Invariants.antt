@@ -1,6 +1,6 @@
 use Rattle.std.proofs.Common.{◌≡◌}
 use Rattle.lisp_data.specs.Datum.{size_of_data}
-use Rattle.clos_syntax.specs.Lists.{before}
+use Rattle.clos_lambda.specs.Lists.{before}
 use Rattle.clos_syntax.specs.Slot.{accessors_in}
 use Rattle.clos_syntax.proofs.slot.parse_accessors.Given as goal
 

@@ -2,13 +2,13 @@
 ghost use Rattle.std.specs.Prelude.{◌≡◌};
 ghost use Rattle.lisp_data.specs.DatumView.{datum_of};
 ghost use Rattle.clos_forms.specs.Fault.{Gives};
-ghost use Rattle.clos_syntax.specs.Lists.{list_in};
+ghost use Rattle.clos_lambda.specs.Lists.{list_in};
 
 use clos_forms::{SyntaxFault, is_the};
 use lisp_data::{Data, Datum};
 
 /// The elements of a list, which may be written NIL.
-pub(crate) fn parse_list(datum: &Datum) -> Result<Data, SyntaxFault>
+pub fn parse_list(datum: &Datum) -> Result<Data, SyntaxFault>
     ensures { Gives (λ l. l) result (list_in (datum_of datum.now)) }
 {
     match datum {

@@ -1,6 +1,6 @@
 //! Things in order.
 ghost use Rattle.std.specs.Prelude.{◌≡◌, ◌++◌, ◌∷◌, [], OnOk, length};
-ghost use Rattle.clos_syntax.specs.Lists.{single, the_one};
+ghost use Rattle.clos_lambda.specs.Lists.{single, the_one};
 ghost use Rattle.clos_forms.specs.Fault.{Gives};
 
 use clos_forms::SyntaxFault;
@@ -45,7 +45,7 @@ impl<T> Sequence<T> {
     }
 
     /// Moves these to the end.
-    pub(crate) fn append(&mut self, more: Sequence<T>) -> Result<(), AllocError>
+    pub fn append(&mut self, more: Sequence<T>) -> Result<(), AllocError>
     where
         T: Drop,
         ensures { OnOk result (self.new ≡ self.old ++ more) }
@@ -55,7 +55,7 @@ impl<T> Sequence<T> {
     }
 
     /// The only one, where there is one; several are a fault.
-    pub(crate) fn into_single(self) -> Result<Option<T>, SyntaxFault>
+    pub fn into_single(self) -> Result<Option<T>, SyntaxFault>
     where
         T: Drop,
         ensures { Gives (λ x. x) result (single self) }

@@ -1,5 +1,5 @@
 use Rattle.std.proofs.Common.{◌≡◌, ◌++◌, drop}
-use Rattle.clos_syntax.proofs.lambda_list.push_names.Given as goal
+use Rattle.clos_lambda.proofs.lambda_list.push_names.Given as goal
 
 abbrev pub invariant-loop-name : goal.invariant-loop-name
 invariant-loop-name l = l.names.items ++ drop l.name-index l.more ≡ l.fn.names.items ++ l.more

@@ -4,7 +4,7 @@ use Rattle.clos_forms.specs.Fault.{◌>>=◌}
 use Rattle.lisp_data.specs.Datum.{Dats, cons}
 use Rattle.lisp_data.specs.DatumView.{datum_of}
 use Rattle.lisp_data.specs.declared.datum.Datum.{Datum}
-use Rattle.clos_syntax.specs.Lists.{ahead, before}
+use Rattle.clos_lambda.specs.Lists.{ahead, before}
 
 pub one_more : {A : Type 0} (xs : List A) (x : A) (o : Option (List A)) → before xs (o >>= λ ys. Some (x ∷ ys)) ≡ before (xs ++ x ∷ []) o
 one_more xs x None = refl

@@ -5,8 +5,8 @@ ghost use Rattle.std.specs.Option.{option_copied};
 ghost use Rattle.lisp_data.specs.Datum.{Dats};
 ghost use Rattle.lisp_data.specs.DatumView.{datum_of};
 ghost use Rattle.clos_forms.specs.Fault.{Gives};
-ghost use Rattle.clos_syntax.specs.LambdaList.{all_variables, allowing, bare, entries_of, generic_lambda_list_in, given_in, has_init, has_inits, if_distinct, key_in, key_variables, key_with, keyed, keyword_of, keys_from, lambda_list_in, listed_key, listed_optional, named_key, names_in, optional_in, optional_variables, optional_with, optionals_in, ordinary, parameter_in, plain_key, rest_in, unless_keyword, variables_of, with_keys, with_optionals, with_rest};
-ghost use Rattle.clos_syntax.specs.Lists.{the_one};
+ghost use Rattle.clos_lambda.specs.LambdaList.{all_variables, allowing, bare, entries_of, generic_lambda_list_in, given_in, has_init, has_inits, if_distinct, key_in, key_variables, key_with, keyed, keyword_of, keys_from, lambda_list_in, listed_key, listed_optional, named_key, names_in, optional_in, optional_variables, optional_with, optionals_in, ordinary, parameter_in, plain_key, rest_in, unless_keyword, variables_of, with_keys, with_optionals, with_rest};
+ghost use Rattle.clos_lambda.specs.Lists.{the_one};
 
 use crate::kind::{Kind, parse_front, parse_plain_form, parse_symbol};
 use crate::list::parse_list;
@@ -50,7 +50,7 @@ pub struct Key {
 }
 
 /// Variables of lambda lists.
-pub(crate) struct Parameters;
+struct Parameters;
 
 /// Entries of `&optional`.
 struct Optionals;
@@ -104,7 +104,7 @@ fn parameter_name(datum: &Datum) -> Option<&Name>
 }
 
 /// A variable of a lambda list: a symbol that may be bound, and no lambda list keyword.
-pub(crate) fn parse_parameter(datum: &Datum) -> Result<Name, SyntaxFault>
+pub fn parse_parameter(datum: &Datum) -> Result<Name, SyntaxFault>
     ensures { Gives (λ n. n) result (parameter_in (datum_of datum.now)) }
 {
     match parameter_name(datum) {
@@ -405,7 +405,7 @@ fn if_distinct(alloc: Global, list: LambdaList) -> Result<LambdaList, SyntaxFaul
 }
 
 /// The lambda list of these required parameters, from the first lambda list keyword on.
-pub(crate) fn parse_with_optionals(
+pub fn parse_with_optionals(
     alloc: Global,
     required: Sequence<Name>,
     elements: &Data,
@@ -450,7 +450,7 @@ fn parse_with_keys(
 }
 
 /// An ordinary lambda list (HyperSpec 3.4.1).
-pub(crate) fn parse_lambda_list(alloc: Global, datum: &Datum) -> Result<LambdaList, SyntaxFault>
+pub fn parse_lambda_list(alloc: Global, datum: &Datum) -> Result<LambdaList, SyntaxFault>
     ensures { Gives (λ l. l) result (lambda_list_in (datum_of datum.now)) }
 {
     let elements = parse_list(datum)?;
@@ -483,10 +483,7 @@ fn has_inits(list: &LambdaList) -> bool
 }
 
 /// A generic function lambda list, which has no init forms (HyperSpec 3.4.2).
-pub(crate) fn parse_generic_lambda_list(
-    alloc: Global,
-    datum: &Datum,
-) -> Result<LambdaList, SyntaxFault>
+pub fn parse_generic_lambda_list(alloc: Global, datum: &Datum) -> Result<LambdaList, SyntaxFault>
     ensures { Gives (λ l. l) result (generic_lambda_list_in (datum_of datum.now)) }
 {
     let list = parse_lambda_list(alloc, datum)?;

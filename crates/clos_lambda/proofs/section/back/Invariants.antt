@@ -1,7 +1,7 @@
 use Rattle.std.proofs.Common.{◌≡◌}
 use Rattle.lisp_data.specs.Datum.{size_of_data}
-use Rattle.clos_syntax.specs.Sections.{back}
-use Rattle.clos_syntax.proofs.section.back.Given as goal
+use Rattle.clos_lambda.specs.Sections.{back}
+use Rattle.clos_lambda.proofs.section.back.Given as goal
 
 abbrev pub invariant-loop-first : goal.invariant-loop-first
 invariant-loop-first l = back l.rest ≡ back l.elements

@@ -2,7 +2,7 @@
 ghost use Rattle.std.specs.Prelude.{◌≡◌, map};
 ghost use Rattle.std.specs.Option.{option_copied};
 ghost use Rattle.lisp_data.specs.DatumView.{datum_of};
-ghost use Rattle.clos_syntax.specs.Sections.{after, back, ends_section, is_lambda_list_keyword, is_symbol_called, past};
+ghost use Rattle.clos_lambda.specs.Sections.{after, back, ends_section, is_lambda_list_keyword, is_symbol_called, past};
 
 use clos_forms::is_the;
 use clos_forms::names::is_among;
@@ -36,7 +36,7 @@ pub(crate) fn ends_section(datum: &Datum) -> bool
 }
 
 /// The data from the first lambda list keyword on.
-pub(crate) fn back(elements: &Data) -> &Data
+pub fn back(elements: &Data) -> &Data
     ensures { result.now ≡ back elements.now }
 {
     let mut rest = elements;
@@ -49,7 +49,8 @@ pub(crate) fn back(elements: &Data) -> &Data
     rest
 }
 
-pub(crate) fn is_symbol_called(text: &str, datum: &Datum) -> bool
+/// Whether a datum is the symbol of these characters.
+pub fn is_symbol_called(text: &str, datum: &Datum) -> bool
     ensures { result ≡ is_symbol_called text.now (datum_of datum.now) }
 {
     match datum {

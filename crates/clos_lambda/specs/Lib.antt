@@ -1,0 +1,4 @@
+pub mod Lists
+pub mod Sections
+pub mod PlainForm
+pub mod LambdaList
