@@ -19,7 +19,7 @@ use Rattle.clos_world.specs.Functions.{function_in}
 use Rattle.clos_world.specs.Generic.{function_named, ordered}
 use Rattle.clos_world.specs.Globals.{is_global, any_global}
 use Rattle.clos_world.specs.Values.{only_value, last_first}
-use Rattle.clos_world.specs.World.{State, Local, bound_as, unbound, local_named, bound_to, names_of, lists_of}
+use Rattle.clos_world.specs.World.{State, Local, bound_as, unbound, local_named, names_of, lists_of}
 use Rattle.clos_world.specs.declared.condition.Condition.{Condition}
 use Rattle.clos_world.specs.declared.condition.ConditionKind.TheVariants.{DepthLimit}
 use Rattle.clos_world.specs.declared.functions.Function.{Function}
@@ -27,7 +27,7 @@ use Rattle.clos_world.specs.declared.generic.Generic.{Generic}
 use Rattle.clos_world.specs.declared.generic.Method.{Method}
 use Rattle.clos_eval.specs.Assignment.{stored, stored_globally, stored_only, made_of, changed_only, global_set}
 use Rattle.clos_eval.specs.Callee.{callee_of}
-use Rattle.clos_eval.specs.Calls.{known, restoring, body_run, applied_to, called_defined, called_setter, setter_value, dispatched, called_generic, called_function, method_run, combined, system, applied}
+use Rattle.clos_eval.specs.Calls.{known, restoring, parameters_run, body_run, applied_to, called_defined, called_setter, setter_value, dispatched, called_generic, called_function, method_run, combined, system, applied}
 use Rattle.clos_eval.specs.Control.{keeping, sequence, while_true, until_true, branch, followed, going, tested, clause, clauses}
 use Rattle.clos_eval.specs.Effective.{Effective, call_method, progn, prog1}
 use Rattle.clos_eval.specs.Fault.{answered}
@@ -35,6 +35,7 @@ use Rattle.clos_eval.specs.Meaning.{acted, collect, collected, alone, setq, setf
 use Rattle.clos_eval.specs.Objects.{made, designated, allocated, instance_made}
 use Rattle.clos_eval.specs.Outcome.{Out, Gave, Stopped, Run, Eval, then_do, step_then, stopped, is_true}
 use Rattle.clos_eval.specs.Output.{output_of, text_by, written, line_ended}
+use Rattle.clos_eval.specs.Parameters.{Sources, argument, refused, init, fits, required_sources, sources}
 use Rattle.clos_eval.specs.Variables.{Loop, found_value, variable_value, inner, leaving, init_form, within, binding, in_order, together, aside, name_in, counted, body_of, result_value, turns, turns_in, repeated, dotimes}
 use Rattle.clos_eval.specs.declared.arguments.Context.{Context}
 use Rattle.clos_eval.specs.declared.callee.Callee.{Callee}
@@ -159,16 +160,26 @@ restored : (l : List Local) (w : State) (o : Out) → Kept w o → Kept w (then_
 restored l w (Gave v u k) h = h
 restored l w (Stopped c u k) h = h
 
-body_kept : (ev : Eval) → Keeps ev → (vs : List Val) (names : List Nam) (fs : Frms) (w : State) (k : ℕ) → Kept w (body_run ev vs names fs w k)
-body_kept ev h vs names fs w k =
-    choice_kept (any_global w.globals names) w _ _ (same w)
-    (restored w.locals w (sequence ev (known vs) fs none (bound_as (bound_to names vs []) w) k)
-    (sequence_kept ev h (known vs) fs none (bound_as (bound_to names vs []) w) k))
+binding_kept : (name : Nam) (v : Val) (go : Run) → ((u : State) (j : ℕ) → Kept u (go u j)) → (w : State) (k : ℕ) → Kept w (binding name v go w k)
+binding_kept name v go h w k = choice_kept (is_global w.globals name) w _ (go (inner name v w) k) (same w) (h (inner name v w) k)
+
+parameters_kept : (ev : Eval) → Keeps ev → (env : Context) (ps : Sources) (fs : Frms) (w : State) (k : ℕ) → Kept w (parameters_run ev env ps fs w k)
+parameters_kept ev h env [] fs w k = sequence_kept ev h env fs none w k
+parameters_kept ev h env ((x, argument v) ∷ ps) fs w k =
+    binding_kept x v (parameters_run ev env ps fs) (λ u j. parameters_kept ev h env ps fs u j) w k
+parameters_kept ev h env ((x, refused c) ∷ ps) fs w k = same w
+parameters_kept ev h env ((x, init f) ∷ ps) fs w k =
+    then_kept w (ev env (Plain f) w k) (λ v. binding x v (parameters_run ev env ps fs)) (h env (Plain f) w k)
+    (λ v u j. binding_kept x v (parameters_run ev env ps fs) (λ t i. parameters_kept ev h env ps fs t i) u j)
+
+body_kept : (ev : Eval) → Keeps ev → (vs : List Val) (ps : Sources) (fs : Frms) (w : State) (k : ℕ) → Kept w (body_run ev vs ps fs w k)
+body_kept ev h vs ps fs w k =
+    restored w.locals w (parameters_run ev (known vs) ps fs (bound_as [] w) k) (parameters_kept ev h (known vs) ps fs (bound_as [] w) k)
 
 defined_kept : (ev : Eval) → Keeps ev → (vs : List Val) (name : Val) (o : Option Function) (w : State) (k : ℕ) → Kept w (called_defined ev vs name o w k)
 defined_kept ev h vs name None w k = same w
 defined_kept ev h vs name (Some f) w k =
-    choice_kept (length vs == length f.parameters) w (body_run ev vs f.parameters f.body w k) _ (body_kept ev h vs f.parameters f.body w k) (same w)
+    choice_kept (fits f.lambda_list vs) w (body_run ev vs (sources f.lambda_list vs) f.body w k) _ (body_kept ev h vs (sources f.lambda_list vs) f.body w k) (same w)
 
 function_kept : (ev : Eval) → Keeps ev → (name : Nam) (vs : List Val) (o : Option ℕ) (w : State) (k : ℕ) → Kept w (called_function ev name vs o w k)
 function_kept ev h name vs None w k = defined_kept ev h vs (name_value name) (function_in w.functions name) w k
@@ -176,7 +187,7 @@ function_kept ev h name vs (Some g) w k = generic_kept ev h vs (slice_get w.gene
 
 method_kept : (ev : Eval) → Keeps ev → (vs : List Val) (o : Option Method) (w : State) (k : ℕ) → Kept w (method_run ev vs o w k)
 method_kept ev h vs None w k = same w
-method_kept ev h vs (Some m) w k = body_kept ev h vs m.parameters m.body w k
+method_kept ev h vs (Some m) w k = body_kept ev h vs (required_sources m.parameters vs) m.body w k
 
 combined_kept : (ev : Eval) → Keeps ev → (env : Context) (e : Effective) (w : State) (k : ℕ) → Kept w (combined ev env e w k)
 combined_kept ev h env (call_method m ns) w k = method_kept ev h env.arguments (slice_get w.methods m) w k
@@ -222,9 +233,6 @@ left_kept m w (Stopped c u k) h = h
 init_kept : (ev : Eval) → Keeps ev → (env : Context) (fs : Frms) (go : Frms → Val → Run) → ((gs : Frms) (v : Val) (u : State) (j : ℕ) → Kept u (go gs v u j)) → (w : State) (k : ℕ) → Kept w (init_form ev env fs go w k)
 init_kept ev h env nil go g w k = same w
 init_kept ev h env (cons f fs) go g w k = then_kept w (ev env (Plain f) w k) (λ v. go fs v) (h env (Plain f) w k) (λ v u j. g fs v u j)
-
-binding_kept : (name : Nam) (v : Val) (go : Run) → ((u : State) (j : ℕ) → Kept u (go u j)) → (w : State) (k : ℕ) → Kept w (binding name v go w k)
-binding_kept name v go h w k = choice_kept (is_global w.globals name) w _ (go (inner name v w) k) (same w) (h (inner name v w) k)
 
 within_kept : (ev : Eval) → Keeps ev → (env : Context) (m : ℕ) (fs : Frms) (v : Val) (w : State) (k : ℕ) → Kept w (within ev env m fs v w k)
 within_kept ev h env m fs v w k = left_kept m w (sequence ev env fs v w k) (sequence_kept ev h env fs v w k)

@@ -4,3 +4,4 @@ pub mod Quiet
 pub mod Running
 pub mod Kept
 pub mod Unset
+pub mod Settled

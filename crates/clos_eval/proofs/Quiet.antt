@@ -15,14 +15,14 @@ use Rattle.clos_world.specs.Functions.{function_in}
 use Rattle.clos_world.specs.Generic.{function_named, ordered}
 use Rattle.clos_world.specs.Globals.{is_global, any_global}
 use Rattle.clos_world.specs.Values.{only_value, last_first}
-use Rattle.clos_world.specs.World.{State, Local, unbound, bound_as, bound_to, local_named, lists_of}
+use Rattle.clos_world.specs.World.{State, Local, unbound, bound_as, local_named, lists_of}
 use Rattle.clos_world.specs.declared.condition.Condition.{Condition}
 use Rattle.clos_world.specs.declared.condition.ConditionKind.TheVariants.{StepLimit}
 use Rattle.clos_world.specs.declared.functions.Function.{Function}
 use Rattle.clos_world.specs.declared.generic.Generic.{Generic}
 use Rattle.clos_eval.specs.Assignment.{stored, stored_globally, stored_only, made_of, changed_only, with_local}
 use Rattle.clos_eval.specs.Callee.{callee_of}
-use Rattle.clos_eval.specs.Calls.{known, restoring, body_run, applied_to, called_defined, called_setter, setter_value, dispatched, called_generic, called_function, applied}
+use Rattle.clos_eval.specs.Calls.{known, restoring, parameters_run, body_run, applied_to, called_defined, called_setter, setter_value, dispatched, called_generic, called_function, applied}
 use Rattle.clos_eval.specs.Control.{keeping, sequence, while_true, until_true, branch, followed, tested, clause, clauses}
 use Rattle.clos_eval.specs.Fault.{answered}
 use Rattle.clos_eval.specs.Machine.{at, below, after, resume, leaves, denote, loop_of, targets}
@@ -30,6 +30,7 @@ use Rattle.clos_eval.specs.Meaning.{acted, collect, collected, alone, setq, setf
 use Rattle.clos_eval.specs.Objects.{made, designated, allocated, instance_made}
 use Rattle.clos_eval.specs.Outcome.{Out, Gave, Stopped, Run, Eval, then_do, step_then, stopped, is_true}
 use Rattle.clos_eval.specs.Output.{output_of, line_ended}
+use Rattle.clos_eval.specs.Parameters.{Sources, argument, refused, init, fits, sources}
 use Rattle.clos_eval.specs.Variables.{Loop, found_value, variable_value, inner, leaving, init_form, within, binding, in_order, together, aside, name_in, counted, result_value, turns, turns_in, repeated}
 use Rattle.clos_eval.specs.declared.arguments.Context.{Context}
 use Rattle.clos_eval.specs.declared.callee.Callee.{Callee}
@@ -42,7 +43,7 @@ use Rattle.clos_eval.specs.declared.machine.Control.TheVariants.{Progn, Prog1, I
 use Rattle.clos_eval.specs.declared.machine.Doing.TheVariants.{Start, Act}
 use Rattle.clos_eval.specs.declared.machine.Doing.TheVariants as doing
 use Rattle.clos_eval.specs.declared.machine.Frame.{Frame}
-use Rattle.clos_eval.specs.declared.machine.Frame.TheVariants.{Rest, Keep, Clause, Collect, Body, Scope, InOrder, Aside, Count, Turn, Setq, Setf, Known, Passing}
+use Rattle.clos_eval.specs.declared.machine.Frame.TheVariants.{Rest, Keep, Clause, Collect, Body, Bind, Scope, InOrder, Aside, Count, Turn, Setq, Setf, Known, Passing}
 use Rattle.clos_eval.specs.declared.machine.Level.{Level}
 use Rattle.clos_eval.specs.declared.machine.Machine.{Machine}
 use Rattle.clos_eval.specs.declared.machine.Repetition.{Repetition}
@@ -103,16 +104,24 @@ restored_quiet : (l : List Local) (o : Out) (w : State) → Quiet o w → Quiet 
 restored_quiet l (Gave v u k) w h = h
 restored_quiet l (Stopped c u k) w h = h
 
-body_quiet : (n : ℕ) (vs : List Val) (names : List Nam) (fs : Frms) (w : State) → Quiet (body_run (meaning n) vs names fs w 0) w
-body_quiet n vs names fs w =
-    choice_quiet (any_global w.globals names) _ _ w (refl, refl)
-    (restored_quiet w.locals (sequence (meaning n) (known vs) fs (value.list value.nil) (bound_as (bound_to names vs []) w) 0) w
-    (sequence_quiet n (known vs) fs (value.list value.nil) (bound_as (bound_to names vs []) w)))
+binding_quiet : (name : Nam) (v : Val) (go : Run) (w : State) → ((u : State) → Quiet (go u 0) u) → Quiet (binding name v go w 0) w
+binding_quiet name v go w h = choice_quiet (is_global w.globals name) _ (go (inner name v w) 0) w (refl, refl) (h (inner name v w))
+
+parameters_quiet : (n : ℕ) (env : Context) (ps : Sources) (fs : Frms) (w : State) → Quiet (parameters_run (meaning n) env ps fs w 0) w
+parameters_quiet n env [] fs w = sequence_quiet n env fs (value.list value.nil) w
+parameters_quiet n env ((x, argument v) ∷ ps) fs w = binding_quiet x v (parameters_run (meaning n) env ps fs) w (λ u. parameters_quiet n env ps fs u)
+parameters_quiet n env ((x, refused c) ∷ ps) fs w = (refl, refl)
+parameters_quiet n env ((x, init f) ∷ ps) fs w = then_quiet n env (Plain f) (λ v. binding x v (parameters_run (meaning n) env ps fs)) w
+
+body_quiet : (n : ℕ) (vs : List Val) (ps : Sources) (fs : Frms) (w : State) → Quiet (body_run (meaning n) vs ps fs w 0) w
+body_quiet n vs ps fs w =
+    restored_quiet w.locals (parameters_run (meaning n) (known vs) ps fs (bound_as [] w) 0) w (parameters_quiet n (known vs) ps fs (bound_as [] w))
 
 defined_quiet : (n : ℕ) (vs : List Val) (name : Val) (o : Option Function) (w : State) → Quiet (called_defined (meaning n) vs name o w 0) w
 defined_quiet n vs name None w = (refl, refl)
 defined_quiet n vs name (Some f) w =
-    choice_quiet (length vs == length f.parameters) (body_run (meaning n) vs f.parameters f.body w 0) _ w (body_quiet n vs f.parameters f.body w) (refl, refl)
+    choice_quiet (fits f.lambda_list vs) (body_run (meaning n) vs (sources f.lambda_list vs) f.body w 0) _ w
+    (body_quiet n vs (sources f.lambda_list vs) f.body w) (refl, refl)
 
 function_quiet : (n : ℕ) (name : Nam) (vs : List Val) (o : Option ℕ) (w : State) → Quiet (called_function (meaning n) name vs o w 0) w
 function_quiet n name vs None w = defined_quiet n vs (name_value name) (function_in w.functions name) w
@@ -255,9 +264,6 @@ init_quiet : (n : ℕ) (env : Context) (fs : Frms) (go : Frms → Val → Run) (
 init_quiet n env nil go w = (refl, refl)
 init_quiet n env (cons f fs) go w = then_quiet n env (Plain f) (λ v. go fs v) w
 
-binding_quiet : (name : Nam) (v : Val) (go : Run) (w : State) → ((u : State) → Quiet (go u 0) u) → Quiet (binding name v go w 0) w
-binding_quiet name v go w h = choice_quiet (is_global w.globals name) _ (go (inner name v w) 0) w (refl, refl) (h (inner name v w))
-
 within_quiet : (n : ℕ) (env : Context) (m : ℕ) (fs : Frms) (v : Val) (w : State) → Quiet (within (meaning n) env m fs v w 0) w
 within_quiet n env m fs v w = left_quiet m (sequence (meaning n) env fs v w 0) w (sequence_quiet n env fs v w)
 
@@ -315,6 +321,9 @@ after_quiet n env (Keep fs u) v w = keeping_quiet n env fs (value_of u) w
 after_quiet n env (Clause fs cs) v w = tested_quiet n env fs cs v w
 after_quiet n env (Collect action rest values) v w = collect_quiet n env rest (values ++ v ∷ []) action w
 after_quiet n env (Body rest saved locals) v w = restored_quiet locals (sequence (meaning n) env rest v w 0) w (sequence_quiet n env rest v w)
+after_quiet n env (Bind name plan body saved locals) v w =
+    restored_quiet locals (binding name v (parameters_run (meaning n) env plan body) w 0) w
+    (binding_quiet name v (parameters_run (meaning n) env plan body) w (λ u. parameters_quiet n env plan body u))
 after_quiet n env (Scope outer rest) v w = within_quiet n env outer rest v w
 after_quiet n env (InOrder outer name plan forms) v w =
     binding_quiet name v (in_order (meaning n) env outer plan forms) w (λ u. order_quiet n env outer plan forms u)

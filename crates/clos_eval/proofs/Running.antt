@@ -1,7 +1,7 @@
 -- How the turns of the machine make a run.
 use Rattle.std.proofs.Common.{◌≡◌, true, false, map, Option, Some, None, ℕ, zero, suc, ◌+◌, ◌-◌, ◌<◌, ◌≤◌, List, [], ◌∷◌, Result, Ok, Err, length, refl, ap, sym, subst, ◌∙◌, add_assoc, add-zero, arith}
 use Rattle.std.specs.Prelude.{ℤ, pos, if◌then◌else◌}
-use Rattle.std.proofs.lemmas.Bool.{le-ltb, lt-ltb, eq-eqb}
+use Rattle.std.proofs.lemmas.Bool.{le-ltb, lt-ltb}
 use Rattle.lisp_data.specs.Value.{Val, Vals, nil, list}
 use Rattle.lisp_data.specs.ValueView.{value_of}
 use Rattle.lisp_data.specs.declared.value.Value.{Value}
@@ -41,6 +41,7 @@ use Rattle.clos_eval.specs.declared.machine.Machine.{Machine}
 use Rattle.clos_eval.specs.declared.machine.Task.{Task}
 use Rattle.clos_world.specs.declared.functions.Function.{Function}
 use Rattle.clos_eval.specs.Calls.{applied_to, body_run}
+use Rattle.clos_eval.specs.Parameters.{fits, sources}
 use Rattle.clos_eval.proofs.Turns.{stopped_through, leads_same}
 use Rattle.clos_eval.proofs.Quiet.{no_step}
 
@@ -92,11 +93,11 @@ nothing_made m ev env None c w s e k = stopped_through m.levels m.context (recor
 nothing_made m ev env (Some v) c w s e k = cc
 
 pub applied_runs : (m : Machine) (ev : Eval) (vs us : List Val) (f : Function) (w : State) (r : Result Doing Stop) (p : Machine) → us ≡ vs
-    → length vs ≡ length f.parameters → Leads (inside m (body_run ev us f.parameters f.body)) w r p → Leads (inside m (applied_to ev vs f)) w r p
+    → true ≡ fits f.lambda_list vs → Leads (inside m (body_run ev us (sources f.lambda_list us) f.body)) w r p → Leads (inside m (applied_to ev vs f)) w r p
 applied_runs m ev vs us f w r p e l h =
-    leads_same (inside m (body_run ev us f.parameters f.body)) (inside m (applied_to ev vs f)) w r p
-    (λ t. ap (λ xs. inside m (body_run ev xs f.parameters f.body) w t) e
-    ∙ sym (ap (λ b. closed (resume m.levels m.context (if b then body_run ev vs f.parameters f.body (at m w) t else stopped ProgramError [] (at m w) t))) (eq-eqb (length vs) (length f.parameters) l))) h
+    leads_same (inside m (body_run ev us (sources f.lambda_list us) f.body)) (inside m (applied_to ev vs f)) w r p
+    (λ t. ap (λ xs. inside m (body_run ev xs (sources f.lambda_list xs) f.body) w t) e
+    ∙ ap (λ b. closed (resume m.levels m.context (if b then body_run ev vs (sources f.lambda_list vs) f.body (at m w) t else stopped ProgramError [] (at m w) t))) l) h
 
 pub not_made : (x : Result Val prims.Condition) (f : PrimFault) (stop : Stop) (w : State)
     → AnswersUnlessMemory {A = Value} value_of (Err f) x → ((c : prims.Condition) → StandsFor f c → Signals c stop) → (f ≡ Memory → stop ≡ Storage)

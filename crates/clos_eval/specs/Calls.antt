@@ -7,9 +7,8 @@ use Rattle.clos_forms.specs.Form.{Frms}
 use Rattle.clos_forms.specs.Quotation.{name_value}
 use Rattle.clos_world.specs.Functions.{function_in}
 use Rattle.clos_world.specs.Generic.{function_named, ordered}
-use Rattle.clos_world.specs.Globals.{any_global}
 use Rattle.clos_world.specs.Values.{only_value, last_first}
-use Rattle.clos_world.specs.World.{State, Local, bound_as, bound_to, lists_of}
+use Rattle.clos_world.specs.World.{State, Local, bound_as, lists_of}
 use Rattle.clos_world.specs.declared.condition.ConditionKind.TheVariants.{ProgramError, UndefinedFunction, NoApplicableMethod, Unsupported}
 use Rattle.clos_world.specs.declared.functions.Function.{Function}
 use Rattle.clos_world.specs.declared.generic.Generic.{Generic}
@@ -19,15 +18,17 @@ use Rattle.clos_eval.specs.Control.{sequence}
 use Rattle.clos_eval.specs.Effective.{Effective, call_method, progn, prog1, effective_form}
 use Rattle.clos_eval.specs.Fault.{answered}
 use Rattle.clos_eval.specs.Objects.{instance_made}
-use Rattle.clos_eval.specs.Outcome.{Gave, Run, Eval, then_do, stopped}
+use Rattle.clos_eval.specs.Outcome.{Gave, Stopped, Run, Eval, then_do, stopped}
 use Rattle.clos_eval.specs.Output.{output_of, line_ended}
+use Rattle.clos_eval.specs.Parameters.{Source, Sources, argument, refused, init, fits, required_sources, sources}
+use Rattle.clos_eval.specs.Variables.{binding}
 use Rattle.clos_eval.specs.declared.arguments.Context.{Context}
 use Rattle.clos_eval.specs.declared.callee.Callee.{Callee}
 use Rattle.clos_eval.specs.declared.callee.Callee.TheVariants.{Output, Terpri, Primitive, MakeInstance, Defined}
 use Rattle.clos_eval.specs.declared.machine.SystemCall.{SystemCall}
 use Rattle.clos_eval.specs.declared.machine.SystemCall.TheVariants.{SignalNoApplicable, Initialize, InitializeShared}
 use Rattle.clos_eval.specs.declared.machine.Task.{Task}
-use Rattle.clos_eval.specs.declared.machine.Task.TheVariants.{Effect, System}
+use Rattle.clos_eval.specs.declared.machine.Task.TheVariants.{Plain, Effect, System}
 
 -- what a body and an effective form know: the arguments of the call
 abbrev pub known : List Val → Context
@@ -42,16 +43,25 @@ restoring locals v w s = Gave v (bound_as locals w) s
 abbrev pub scoped : Run → List Local → Run
 scoped run locals w s = then_do (run (bound_as locals w) s) (restoring w.locals)
 
--- A body runs with its parameters bound to the arguments; a global variable is never bound.
-abbrev pub body_run : Eval → List Val → List Nam → Frms → Run
-body_run ev vs parameters body w s =
-    if any_global w.globals parameters then stopped Unsupported [] w s
-    else scoped (sequence ev (known vs) body (list nil)) (bound_to parameters vs []) w s
+-- the value of a parameter
+abbrev pub source_value : Eval → Context → Source → Run
+source_value ev env (argument v) w s = Gave v w s
+source_value ev env (refused c) w s = Stopped c w s
+source_value ev env (init f) w s = ev env (Plain f) w s
+
+-- Each parameter is bound before the next, but never a global variable; then the body.
+abbrev pub parameters_run : Eval → Context → Sources → Frms → Run
+parameters_run ev env [] fs w s = sequence ev env fs (list nil) w s
+parameters_run ev env (p ∷ ps) fs w s = then_do (source_value ev env p.1 w s) (λ v. binding p.0 v (parameters_run ev env ps fs))
+
+-- A body runs in a context of its own, with its parameters and no other variables.
+abbrev pub body_run : Eval → List Val → Sources → Frms → Run
+body_run ev vs ps body w s = scoped (parameters_run ev (known vs) ps body) [] w s
 
 -- ---- functions of the program's
 
 abbrev pub applied_to : Eval → List Val → Function → Run
-applied_to ev vs f w s = if length vs == length f.parameters then body_run ev vs f.parameters f.body w s else stopped ProgramError [] w s
+applied_to ev vs f w s = if fits f.lambda_list vs then body_run ev vs (sources f.lambda_list vs) f.body w s else stopped ProgramError [] w s
 
 -- the function, or the condition that there is none of this name
 abbrev pub called_defined : Eval → List Val → Val → Option Function → Run
@@ -77,7 +87,7 @@ called_function ev name vs (Some g) w s = called_generic ev vs (slice_get w.gene
 
 abbrev pub method_run : Eval → List Val → Option Method → Run
 method_run ev vs None w s = stopped ProgramError [] w s
-method_run ev vs (Some m) w s = body_run ev vs m.parameters m.body w s
+method_run ev vs (Some m) w s = body_run ev vs (required_sources m.parameters vs) m.body w s
 
 abbrev pub combined : Eval → Context → Effective → Run
 combined ev env (call_method m ns) w s = method_run ev env.arguments (slice_get w.methods m) w s

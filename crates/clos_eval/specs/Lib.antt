@@ -10,6 +10,9 @@ pub mod Variables
 pub mod Assignment
 pub mod Objects
 pub mod Output
+pub mod Parameters
+pub mod ParametersCode
+pub mod ParametersView
 pub mod Calls
 pub mod Meaning
 pub mod Machine

@@ -14,17 +14,18 @@ use Rattle.clos_world.specs.declared.condition.Condition.{Condition}
 use Rattle.clos_world.specs.declared.condition.ConditionKind.TheVariants.{Unsupported}
 use Rattle.clos_world.specs.declared.condition.Stop.{Stop}
 use Rattle.clos_world.specs.declared.condition.Stop.TheVariants.{Refused, Storage}
-use Rattle.clos_eval.specs.Calls.{restoring}
+use Rattle.clos_eval.specs.Calls.{restoring, parameters_run}
 use Rattle.clos_eval.specs.Control.{followed, keeping, tested, clauses, sequence}
 use Rattle.clos_eval.specs.Meaning.{acted, collect, setq, setf, meaning, closed}
 use Rattle.clos_eval.specs.Outcome.{Out, Gave, Stopped, Run, Eval, then_do, step_then, gave}
+use Rattle.clos_eval.specs.Parameters.{Sources, argument, refused, init}
 use Rattle.clos_eval.specs.Variables.{Loop, in_order, binding, within, aside, repeated, turns}
 use Rattle.clos_eval.specs.declared.arguments.Context.{Context}
 use Rattle.clos_eval.specs.declared.machine.Doing.{Doing}
 use Rattle.clos_eval.specs.declared.machine.Doing.TheVariants.{Start, Act, Give}
 use Rattle.clos_eval.specs.declared.machine.Doing.TheVariants as doing
 use Rattle.clos_eval.specs.declared.machine.Frame.{Frame}
-use Rattle.clos_eval.specs.declared.machine.Frame.TheVariants.{Rest, Keep, Clause, Collect, Body, Scope, InOrder, Aside, Count, Turn, Setq, Setf, Known, Passing}
+use Rattle.clos_eval.specs.declared.machine.Frame.TheVariants.{Rest, Keep, Clause, Collect, Body, Bind, Scope, InOrder, Aside, Count, Turn, Setq, Setf, Known, Passing}
 use Rattle.clos_eval.specs.declared.machine.Level.{Level}
 use Rattle.clos_eval.specs.declared.machine.Machine.{Machine}
 use Rattle.clos_eval.specs.declared.machine.Repetition.{Repetition}
@@ -49,6 +50,7 @@ below env (Keep fs v) = env
 below env (Clause fs cs) = env
 below env (Collect action rest values) = env
 below env (Body rest saved locals) = saved
+below env (Bind name plan body saved locals) = saved
 below env (Scope outer rest) = env
 below env (InOrder outer name plan forms) = env
 below env (Aside outer locals name plan forms) = env
@@ -66,6 +68,7 @@ after ev env (Keep fs v) = λ u. keeping ev env fs (value_of v)
 after ev env (Clause fs cs) = λ v. tested ev env fs (clauses ev env cs) v
 after ev env (Collect action rest values) = λ v. collect ev env rest (values ++ v ∷ []) (acted ev env action)
 after ev env (Body rest saved locals) = λ v w s. then_do (sequence ev env rest v w s) (restoring locals)
+after ev env (Bind name plan body saved locals) = λ v w s. then_do (binding name v (parameters_run ev env plan body) w s) (restoring locals)
 after ev env (Scope outer rest) = λ v. within ev env outer rest v
 after ev env (InOrder outer name plan forms) = λ v. binding name v (in_order ev env outer plan forms)
 after ev env (Aside outer locals name plan forms) = λ v. aside ev env outer plan forms ((name, v) ∷ locals)
@@ -140,6 +143,7 @@ weight_of (Keep fs v) = 2
 weight_of (Clause fs cs) = 2
 weight_of (Collect action rest values) = 4
 weight_of (Body rest saved locals) = 2
+weight_of (Bind name plan body saved locals) = 2
 weight_of (Scope outer rest) = 2
 weight_of (InOrder outer name plan forms) = 2
 weight_of (Aside outer locals name plan forms) = 2
@@ -183,6 +187,10 @@ Designates d (Err Storage) = Unit {0}
 abbrev pub given_to : Machine → Frame → Val → Run
 given_to m f v w s = closed (resume m.levels (below m.context f) (after (meaning m.room) m.context f v (at m w) s))
 
+-- the machine goes on with a body, and then with its caller's context and variables
+abbrev pub under : Machine → Context → List Local → Run → Run
+under m saved outer run w s = closed (resume m.levels saved (then_do (run (at m w) s) (restoring outer)))
+
 -- A change takes one step, and touches the state alone; want of memory leaves both.
 abbrev pub Changes : Run → Val → State → ℕ → Result (Unit {0}) Stop → State → ℕ → Type 0
 Changes change v w s (Ok u) w' s' = (s ≡ suc s') × ((t : ℕ) → step_then change w (suc t) ≡ Gave v w' t)
@@ -211,3 +219,26 @@ pub record Reached (run : Run) (w0 : State) (s0 : ℕ) (rest : Run) (w : State) 
   pub taken : ℕ
   pub steps : s0 ≡ taken + s
   pub same : (t : ℕ) → rest w t ≡ run w0 (taken + t)
+
+-- the parameters whose values are there, bound up to the next that has an init form
+abbrev pub settled : Variables → Sources → List Local → Result (List Local × Sources) Condition
+settled gs [] ls = Ok (ls, [])
+settled gs ((n, argument v) ∷ ps) ls = if is_global gs n then Err (record { kind = Unsupported; items = [] }) else settled gs ps ((n, v) ∷ ls)
+settled gs ((n, refused c) ∷ ps) ls = Err c
+settled gs ((n, init f) ∷ ps) ls = Ok (ls, (n, init f) ∷ ps)
+
+-- these parameters, after one of this name with an init form; none where there is no such
+abbrev pub with_init : Option (Nam × Frm) → Sources → Sources
+with_init None ps = []
+with_init (Some p) ps = (p.0, init p.1) ∷ ps
+
+abbrev pub Settles : Result (List Local × Sources) Condition → Result (Option (Nam × Frm)) Stop → List Local → Sources → Type 0
+Settles x (Ok next) ls ps = x ≡ Ok (ls, with_init next ps)
+Settles x (Err (Refused c)) ls ps = x ≡ Err c
+Settles x (Err Storage) ls ps = Unit {0}
+
+-- the same, where all values are there
+abbrev pub Binds : Result (List Local × Sources) Condition → Result (List Local) Stop → Type 0
+Binds x (Ok ls) = x ≡ Ok (ls, [])
+Binds x (Err (Refused c)) = x ≡ Err c
+Binds x (Err Storage) = Unit {0}

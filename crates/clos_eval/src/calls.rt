@@ -8,28 +8,29 @@ ghost use Rattle.clos_forms.specs.OperatorView.{called_of};
 ghost use Rattle.clos_forms.specs.Quotation.{name_value};
 ghost use Rattle.clos_world.specs.Functions.{function_in};
 ghost use Rattle.clos_world.specs.Generic.{function_named, ordered};
-ghost use Rattle.clos_world.specs.Globals.{any_global};
-ghost use Rattle.clos_world.specs.World.{State, seen, bound_as, bound_to, lists_of};
-ghost use Rattle.clos_eval.specs.Calls.{known, restoring, scoped, body_run, applied_to, called_defined, dispatched, called_generic, called_function, method_run, combined, system, called_setter, setter_value};
+ghost use Rattle.clos_world.specs.World.{State, seen, bound_as, lists_of};
+ghost use Rattle.clos_eval.specs.Calls.{known, restoring, scoped, parameters_run, body_run, applied_to, called_defined, dispatched, called_generic, called_function, method_run, combined, system, called_setter, setter_value};
 ghost use Rattle.clos_eval.specs.Control.{sequence};
 ghost use Rattle.clos_eval.specs.Fault.{answered};
-ghost use Rattle.clos_eval.specs.Machine.{Leads, Grows, at, inside, given_to};
+ghost use Rattle.clos_eval.specs.Machine.{Leads, Grows, at, inside, given_to, under};
 ghost use Rattle.clos_eval.specs.Meaning.{meaning, alone, acted, collect, collected, function_value, is_plain_function, other_function};
 ghost use Rattle.clos_eval.specs.Outcome.{Run, then_do};
+ghost use Rattle.clos_eval.specs.Parameters.{required_sources, sources};
 ghost use Rattle.clos_eval.specs.declared.machine.Action.TheVariants.{Call};
-ghost use Rattle.clos_eval.specs.declared.machine.Frame.TheVariants.{Body};
+ghost use Rattle.clos_eval.specs.declared.machine.Frame.TheVariants.{Bind, Body};
 ghost use Rattle.clos_eval.specs.declared.machine.Task.TheVariants.{Plain};
 
 use crate::arguments::{Arguments, Context};
 use crate::control::{begin, done};
 use crate::effective::{EffectiveForm, EffectiveNode, combined};
 use crate::fault::of_function;
-use crate::locals::{Locals, bind};
+use crate::locals::{Locals, bind, settle};
 use crate::machine::{Action, Doing, Frame, Level, Machine, SystemCall, Task};
+use crate::parameters::{ParameterPlan, fits, plan_for, requires_only};
 use crate::truth::nil;
 use clos_forms::{Form, Forms, FunctionName, is_function, is_system_function, value_named};
 use clos_world::{
-    ConditionKind, Function, Generic, Method, Parameters, Stop, Values, World, about, about_call,
+    ConditionKind, Function, Generic, Method, Stop, Values, World, about, about_call,
     about_name, generic_named, method_numbered, ordered_methods, plain,
 };
 use lisp_data::{Items, MethodId, Name, Value};
@@ -222,18 +223,95 @@ fn call_function(
     ensures leads { Leads (inside machine.old (applied_to (meaning machine.old.room) values function.now)) (seen world.now) result machine.new }
     ensures small { Grows 6 machine.old.levels result machine.new }
 {
-    if values.len() != function.parameters.as_slice().len() {
+    if !fits(&function.lambda_list, values.as_slice()) {
         return Err(Stop::Refused(plain(alloc, ConditionKind::ProgramError)));
     }
     let arguments = Arguments::new(alloc, values)?;
-    run_body(
-        alloc,
-        machine,
-        world,
-        arguments,
-        &function.parameters,
-        &function.body,
-    )
+    run_function(alloc, machine, world, arguments, function)
+}
+
+/// The body of a function begins with its parameters.
+fn run_function(
+    alloc: Global,
+    machine: &mut Machine,
+    world: &World,
+    arguments: Arguments,
+    function: &Function,
+) -> Result<Doing, Stop>
+    ensures leads { Leads (inside machine.old (body_run (meaning machine.old.room) arguments (sources function.now.lambda_list arguments) function.now.body)) (seen world.now) result machine.new }
+    ensures small { Grows 6 machine.old.levels result machine.new }
+{
+    if requires_only(&function.lambda_list) {
+        let names = function.lambda_list.required.as_slice();
+        return run_body(alloc, machine, world, arguments, names, &function.body);
+    }
+    let plan = plan_for(alloc, &function.lambda_list, arguments.as_slice())?;
+    run_planned(alloc, machine, world, arguments, plan, &function.body)
+}
+
+/// A body runs in a context of its own, with these parameters and no other variables.
+fn run_planned(
+    alloc: Global,
+    machine: &mut Machine,
+    world: &World,
+    arguments: Arguments,
+    plan: ParameterPlan,
+    body: &Forms,
+) -> Result<Doing, Stop>
+    ensures leads { Leads (inside machine.old (body_run (meaning machine.old.room) arguments plan body.now)) (seen world.now) result machine.new }
+    ensures small { Grows 6 machine.old.levels result machine.new }
+{
+    let saved = mem::replace(&mut machine.context, Context { arguments });
+    let outer = mem::replace(&mut machine.locals, Locals::new(alloc));
+    bind_parameters(alloc, machine, world, plan, body, saved, outer)
+}
+
+/// The parameters are bound up to the next that has an init form, or all of them, and the body begins.
+fn bind_parameters(
+    alloc: Global,
+    machine: &mut Machine,
+    world: &World,
+    mut plan: ParameterPlan,
+    body: &Forms,
+    saved: Context,
+    outer: Locals,
+) -> Result<Doing, Stop>
+    ensures leads { Leads (under machine.old saved outer (parameters_run (meaning machine.old.room) machine.old.context plan body.now)) (seen world.now) result machine.new }
+    ensures small { Grows 6 machine.old.levels result machine.new }
+{
+    match settle(alloc, world, &mut machine.locals, &mut plan) {
+        Err(stop) => Err(stop),
+        Ok(None) => next_of_body(machine, world, body, saved, outer, nil()),
+        Ok(Some((name, form))) => {
+            let room = machine.room;
+            let body = body.copy()?;
+            let frame = Frame::Bind(name, plan, body, saved, outer);
+            machine.levels.push(Level { frame, room })?;
+            Ok(Doing::Start(Task::Plain(form)))
+        }
+    }
+}
+
+/// The value of a parameter is there.
+pub fn next_parameter(
+    alloc: Global,
+    machine: &mut Machine,
+    world: &World,
+    name: Name,
+    plan: ParameterPlan,
+    body: &Forms,
+    saved: Context,
+    outer: Locals,
+    value: Value,
+) -> Result<Doing, Stop>
+    ensures leads { Leads (given_to machine.old (Bind name plan body.now saved outer) (value_of value)) (seen world.now) result machine.new }
+    ensures small { Grows 6 machine.old.levels result machine.new }
+{
+    if world.globals.has(&name) {
+        return Err(Stop::Refused(plain(alloc, ConditionKind::Unsupported)));
+    }
+    machine.locals.push(name, value)?;
+    bind_parameters(alloc, machine, world, plan, body, saved, outer)
 }
 
 /// A call of a generic function: its applicable methods are worked out and combined (HyperSpec 7.6.6).
@@ -353,53 +431,29 @@ fn run_method(
                 machine,
                 world,
                 arguments,
-                &method.parameters,
+                method.parameters.as_slice(),
                 &method.body,
             )
         }
     }
 }
 
-/// The body of a function or a method begins, with its parameters bound to the arguments.
-#[tactic(auto, using(crate::proofs::Turns::stopped_through))]
+/// A body runs in a context of its own, with these parameters bound to the arguments and no other variables.
 fn run_body(
     alloc: Global,
     machine: &mut Machine,
     world: &World,
     arguments: Arguments,
-    parameters: &Parameters,
+    names: &[Name],
     body: &Forms,
 ) -> Result<Doing, Stop>
-    ensures leads { Leads (inside machine.old (body_run (meaning machine.old.room) arguments parameters.now body.now)) (seen world.now) result machine.new }
+    ensures leads { Leads (inside machine.old (body_run (meaning machine.old.room) arguments (required_sources names.now arguments) body.now)) (seen world.now) result machine.new }
     ensures small { Grows 6 machine.old.levels result machine.new }
 {
-    if any_global(world, parameters.as_slice()) {
-        return Err(Stop::Refused(plain(alloc, ConditionKind::Unsupported)));
+    match bind(alloc, world, names, arguments.as_slice()) {
+        Err(stop) => Err(stop),
+        Ok(locals) => run_scoped(machine, Context { arguments }, locals, body),
     }
-    run_bound(alloc, machine, arguments, parameters, body)
-}
-
-/// Whether one of these names is a global variable's.
-fn any_global(world: &World, names: &[Name]) -> bool
-    ensures { result ≡ any_global (seen world.now).globals names.now }
-{
-    names.iter().any(|name| world.globals.has(name))
-}
-
-fn run_bound(
-    alloc: Global,
-    machine: &mut Machine,
-    arguments: Arguments,
-    parameters: &Parameters,
-    body: &Forms,
-) -> Result<Doing, Stop>
-    ensures leads { (run : Run) (w : State)
-        → ((t : ℕ) → scoped (sequence (meaning machine.old.room) (known arguments) body.now (list nil)) (bound_to parameters.now arguments []) (at machine.old w) t ≡ run (at machine.old w) t)
-        → Leads (inside machine.old run) w result machine.new }
-    ensures small { Grows 6 machine.old.levels result machine.new }
-{
-    let locals = bind(alloc, parameters.as_slice(), arguments.as_slice())?;
-    run_scoped(machine, Context { arguments }, locals, body)
 }
 
 /// These forms are evaluated in a context of their own and with these variables.

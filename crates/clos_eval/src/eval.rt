@@ -17,8 +17,8 @@ use crate::binding::{
 };
 use crate::callee::{Callee, callee_named};
 use crate::calls::{
-    call, call_setter, compute, function_named, new_value, next_of_body, next_value, start_call,
-    start_effective, start_system,
+    call, call_setter, compute, function_named, new_value, next_of_body, next_parameter, next_value,
+    start_call, start_effective, start_system,
 };
 use crate::control::{clause_tested, follow, go_on, keep, next_clause};
 use crate::locals::{Locals, Plan};
@@ -178,6 +178,11 @@ fn give(
         Frame::Collect(action, rest, values) => next_value(machine, action, &rest, values, value),
         Frame::Body(rest, saved, outer) => {
             next_of_body(machine, world, &rest, saved, outer, value)
+        }
+        Frame::Bind(name, plan, body, saved, outer) => {
+            next_parameter(
+                alloc, machine, world, name, plan, &body, saved, outer, value,
+            )
         }
         Frame::Scope(outer, rest) => continue_within(machine, outer, &rest, value),
         Frame::InOrder(outer, name, plan, rest) => {

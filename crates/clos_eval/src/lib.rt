@@ -15,6 +15,7 @@ mod locals;
 mod machine;
 mod objects;
 mod output;
+pub mod parameters;
 mod truth;
 
 pub use calls::setter_value;

@@ -3,13 +3,15 @@ ghost use Rattle.std.specs.Prelude.{◌≡◌, ◌∷◌, ◌++◌, [], IfOk, On
 ghost use Rattle.lisp_data.specs.ValueView.{value_of};
 ghost use Rattle.clos_forms.specs.BoundView.{bound};
 ghost use Rattle.clos_world.specs.Globals.{any_global};
-ghost use Rattle.clos_world.specs.World.{seen, local_named, outermost, bound_to};
+ghost use Rattle.clos_world.specs.World.{seen, local_named, outermost};
 ghost use Rattle.clos_eval.specs.Assignment.{with_local};
-ghost use Rattle.clos_eval.specs.Machine.{with_next, unset, unset_aside, Skips};
+ghost use Rattle.clos_eval.specs.Machine.{Binds, Settles, Skips, settled, unset, unset_aside, with_next};
+ghost use Rattle.clos_eval.specs.Parameters.{required_sources};
 ghost use Rattle.clos_eval.specs.Variables.{name_in};
 
+use crate::parameters::{Origin, Parameter, ParameterPlan};
 use crate::truth::nil;
-use clos_forms::Binding;
+use clos_forms::{Binding, Form};
 use clos_world::{ConditionKind, Stop, World, plain};
 use lisp_data::{Name, Value};
 use std::alloc::{AllocError, Global};
@@ -135,9 +137,14 @@ impl Locals {
     }
 }
 
-/// These names bound to the values in turn.
-pub fn bind(alloc: Global, names: &[Name], values: &[Value]) -> Result<Locals, AllocError>
-    ensures { IfOk result (λ r. r ≡ bound_to names.now (map value_of values.now) []) }
+/// These names bound to the values in turn, unless one of them is a global variable's.
+pub fn bind(
+    alloc: Global,
+    world: &World,
+    names: &[Name],
+    values: &[Value],
+) -> Result<Locals, Stop>
+    ensures { Binds (settled (seen world.now).globals (required_sources names.now (map value_of values.now)) []) result }
 {
     let mut locals = Locals::new(alloc);
     let mut names_left = names;
@@ -146,11 +153,39 @@ pub fn bind(alloc: Global, names: &[Name], values: &[Value]) -> Result<Locals, A
         let Some((value, other_values)) = values_left.split_first() else {
             return Ok(locals);
         };
+        if world.globals.has(name) {
+            return Err(Stop::Refused(plain(alloc, ConditionKind::Unsupported)));
+        }
         locals.push(name.copy()?, value.copy()?)?;
         names_left = other_names;
         values_left = other_values;
     }
     Ok(locals)
+}
+
+/// Binds the parameters whose values are there, up to the next that has an init form, which is taken off.
+pub fn settle(
+    alloc: Global,
+    world: &World,
+    locals: &mut Locals,
+    plan: &mut ParameterPlan,
+) -> Result<Option<(Name, Form)>, Stop>
+    ensures { Settles (settled (seen world.now).globals plan.old locals.old) result locals.new plan.new }
+{
+    while let Some(parameter) = plan.pop() {
+        let Parameter { name, origin } = parameter;
+        match origin {
+            Origin::Init(form) => return Ok(Some((name, form))),
+            Origin::Refused(condition) => return Err(Stop::Refused(condition)),
+            Origin::Argument(value) => {
+                if world.globals.has(&name) {
+                    return Err(Stop::Refused(plain(alloc, ConditionKind::Unsupported)));
+                }
+                locals.push(name, value)?;
+            }
+        }
+    }
+    Ok(None)
 }
 
 /// The variables that are still to be bound, in order. Contracts see the list.

@@ -5,6 +5,7 @@ use crate::arguments::{Arguments, Context};
 use crate::counter::Counter;
 use crate::effective::EffectiveForm;
 use crate::locals::{Locals, Plan};
+use crate::parameters::ParameterPlan;
 use clos_forms::{Form, Forms};
 use clos_world::Values;
 use lisp_data::{InstanceId, Name, Value};
@@ -99,6 +100,9 @@ pub enum Frame {
     Collect(Action, Forms, Values),
     /// The rest of a method's body follows; the context and the variables go back to the caller's.
     Body(Forms, Context, Locals),
+    /// It is the value of the parameter of this name, before these and the body; the context and the variables go back to
+    /// the caller's.
+    Bind(Name, ParameterPlan, Forms, Context, Locals),
     /// The rest of a body follows; of the variables only so many of the outermost stay.
     Scope(usize, Forms),
     /// It is the value of the variable of this name, before these variables, with the forms left for them and the body.

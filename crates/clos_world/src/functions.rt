@@ -2,17 +2,17 @@
 ghost use Rattle.std.specs.Prelude.{◌≡◌, [], OnOk, OnErr, option_copied, length};
 ghost use Rattle.clos_world.specs.Functions.{function_in, with_function};
 
-use crate::generic::Parameters;
 use clos_forms::Forms;
+use clos_lambda::LambdaList;
 use indexmap::IndexMap;
 use lisp_data::Name;
 use std::alloc::{AllocError, Global};
 use std::marker::Model;
 
-/// A function: the names of its parameters, and its body.
+/// A function: its lambda list, and its body.
 #[derive(Drop)]
 pub struct Function {
-    pub parameters: Parameters,
+    pub lambda_list: LambdaList,
     pub body: Forms,
 }
 

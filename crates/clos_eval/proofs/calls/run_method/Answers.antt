@@ -1,6 +1,7 @@
 use Rattle.std.proofs.Common.{◌∙◌, ap, subst, Some, slice_get}
 use Rattle.clos_world.specs.World.{seen}
-use Rattle.clos_eval.specs.Calls.{method_run}
+use Rattle.clos_eval.specs.Calls.{body_run, method_run}
+use Rattle.clos_eval.specs.Parameters.{required_sources}
 use Rattle.clos_eval.specs.Machine.{Leads, inside}
 use Rattle.clos_eval.specs.Meaning.{meaning}
 use Rattle.clos_eval.proofs.Turns.{no_method}
@@ -18,4 +19,7 @@ returns-in_ok-arguments-in-Some-clause-leads c =
     (seen c.args.world.now) c.run_body.result c.run_body.new.machine)
     (c.in-Some.ensures ∙ ap (λ xs. slice_get xs c.args.id.0) c.deref.ensures.value)
     (subst (λ us. Leads (inside c.args.machine.now (method_run (meaning c.args.machine.now.room) us (Some c.in-Some.method.now)))
-    (seen c.args.world.now) c.run_body.result c.run_body.new.machine) c.in_ok-arguments-in-Some.ensures c.run_body.ensures.leads)
+    (seen c.args.world.now) c.run_body.result c.run_body.new.machine) c.in_ok-arguments-in-Some.ensures
+    (subst (λ ns. Leads (inside c.args.machine.now (body_run (meaning c.args.machine.now.room) c.in_ok-arguments-in-Some.arguments
+    (required_sources ns c.in_ok-arguments-in-Some.arguments) c.in-Some.method.now.body)) (seen c.args.world.now) c.run_body.result c.run_body.new.machine)
+    c.as_slice.ensures c.run_body.ensures.leads))
