@@ -17,16 +17,20 @@ use Rattle.clos_forms.specs.declared.operator.FunctionName.{FunctionName}
 use Rattle.clos_forms.specs.declared.part.Context.{Context}
 use Rattle.clos_forms.specs.declared.part.Context.TheVariants.{Plain, Method}
 use Rattle.clos_forms.proofs.WellFormed.{form_is_well_formed, forms_are_well_formed}
+use Rattle.clos_lambda.specs.LambdaList.{all_variables, allowing, bare, generic_lambda_list_in, given_in, has_inits, if_distinct, key_in, key_with, keyed, keyword_of, keys_from, lambda_list_in, listed_key, listed_optional, named_key, optional_in, optional_with, optionals_in, ordinary, parameter_in, plain_key, rest_in, with_keys, with_optionals, with_rest}
+use Rattle.clos_lambda.specs.Lists.{list_in, or_none, single}
+use Rattle.clos_lambda.specs.Sections.{after, back, front, is_symbol_called, past}
+use Rattle.clos_lambda.specs.PlainForm.{form_in}
+use Rattle.clos_lambda.specs.declared.lambda_list.Key.{Key}
+use Rattle.clos_lambda.specs.declared.lambda_list.Keys.{Keys}
+use Rattle.clos_lambda.specs.declared.lambda_list.LambdaList.{LambdaList}
+use Rattle.clos_lambda.specs.declared.lambda_list.Optional.{Optional}
 use Rattle.clos_syntax.specs.Class.{class_in, class_option_in, class_options_in, class_with, default_names, default_with, defaults_from, defaults_in, documentation_option_in, if_distinct_defaults, if_distinct_slots, metaclass_in, new_class_in, slot_names, slots_in, superclasses_in}
 use Rattle.clos_syntax.specs.Function.{function_in, function_with}
 use Rattle.clos_syntax.specs.FunctionName.{method_function_in, new_function_in}
 use Rattle.clos_syntax.specs.Generic.{combination_in, fits, generic, generic_in, generic_option_in, generic_options_in, generic_with, method_option_in, symbols_in}
-use Rattle.clos_lambda.specs.LambdaList.{all_variables, allowing, bare, generic_lambda_list_in, given_in, has_inits, if_distinct, key_in, key_with, keyed, keyword_of, keys_from, lambda_list_in, listed_key, listed_optional, named_key, optional_in, optional_with, optionals_in, ordinary, parameter_in, plain_key, rest_in, with_keys, with_optionals, with_rest}
-use Rattle.clos_lambda.specs.Lists.{list_in, or_none, single}
 use Rattle.clos_syntax.specs.Method.{eql_specializer, listed_specializer, method_in, method_with, past_qualifiers, qualified, qualifiers_in, required_in, specialized, specializer_in, specializer_named, specializers_in}
 use Rattle.clos_syntax.specs.Property.{arguments_in, option_in, options_of, value_in, values_of}
-use Rattle.clos_lambda.specs.Sections.{after, back, front, is_symbol_called, past}
-use Rattle.clos_lambda.specs.PlainForm.{form_in}
 use Rattle.clos_syntax.specs.Slot.{accessors_in, allocation_in, anything, are_slot_options, documentation_in, listed_slot, or_instance, slot_from, slot_in, slot_with}
 use Rattle.clos_syntax.specs.Top.{defmethod_in, two_forms_in}
 use Rattle.clos_syntax.specs.Variable.{documented, init_in, is_documentation, variable_definition_in}
@@ -37,10 +41,6 @@ use Rattle.clos_syntax.specs.declared.function.FunctionDefinition.{FunctionDefin
 use Rattle.clos_syntax.specs.declared.generic.CombinationUse.{CombinationUse}
 use Rattle.clos_syntax.specs.declared.generic.GenericDefinition.{GenericDefinition}
 use Rattle.clos_syntax.specs.declared.generic.GenericOptions.{GenericOptions}
-use Rattle.clos_lambda.specs.declared.lambda_list.Key.{Key}
-use Rattle.clos_lambda.specs.declared.lambda_list.Keys.{Keys}
-use Rattle.clos_lambda.specs.declared.lambda_list.LambdaList.{LambdaList}
-use Rattle.clos_lambda.specs.declared.lambda_list.Optional.{Optional}
 use Rattle.clos_syntax.specs.declared.method.MethodDefinition.{MethodDefinition}
 use Rattle.clos_syntax.specs.declared.method.ParameterSpecializer.{ParameterSpecializer}
 use Rattle.clos_syntax.specs.declared.method.ParameterSpecializer.TheVariants.{Class, Eql}

@@ -10,11 +10,11 @@ use Rattle.clos_forms.specs.Fault.{◌>>=◌, Gives}
 use Rattle.clos_forms.specs.Names.{is_called}
 use Rattle.clos_forms.specs.Part.{only_in}
 use Rattle.clos_forms.specs.declared.fault.SyntaxFault.{SyntaxFault}
+use Rattle.clos_lambda.specs.Lists.{single}
+use Rattle.clos_lambda.specs.PlainForm.{form_in}
 use Rattle.clos_syntax.specs.Class.{class_in}
 use Rattle.clos_syntax.specs.Function.{function_in}
 use Rattle.clos_syntax.specs.Generic.{generic_in}
-use Rattle.clos_lambda.specs.Lists.{single}
-use Rattle.clos_lambda.specs.PlainForm.{form_in}
 use Rattle.clos_syntax.specs.Top.{any_top, defmethod_in, expression, headed_top, in_package, listed_top, named_top, other_top, two_forms_in}
 use Rattle.clos_syntax.specs.Variable.{variable_definition_in}
 use Rattle.clos_syntax.specs.declared.top.Top.{Top}

@@ -4,8 +4,8 @@ use Rattle.lisp_data.specs.Datum.{Dat, Dats, nil, cons}
 use Rattle.clos_forms.specs.Fault.{◌>>=◌}
 use Rattle.clos_forms.specs.Grammar.{body_forms_of}
 use Rattle.clos_forms.specs.declared.part.Context.TheVariants.{Plain}
-use Rattle.clos_syntax.specs.FunctionName.{new_function_in}
 use Rattle.clos_lambda.specs.LambdaList.{lambda_list_in}
+use Rattle.clos_syntax.specs.FunctionName.{new_function_in}
 use Rattle.clos_syntax.specs.declared.function.FunctionDefinition.{FunctionDefinition}
 
 abbrev pub function_with : Dat → Dat → Dats → Option FunctionDefinition

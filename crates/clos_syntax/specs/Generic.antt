@@ -8,15 +8,15 @@ use Rattle.clos_forms.specs.Body.{is_declaration}
 use Rattle.clos_forms.specs.Fault.{◌>>=◌}
 use Rattle.clos_forms.specs.FunctionName.{symbol_in}
 use Rattle.clos_forms.specs.declared.operator.FunctionName.{FunctionName}
+use Rattle.clos_lambda.specs.LambdaList.{generic_lambda_list_in}
+use Rattle.clos_lambda.specs.declared.lambda_list.LambdaList.{LambdaList}
 use Rattle.clos_syntax.specs.Class.{documentation_option_in}
 use Rattle.clos_syntax.specs.FunctionName.{new_function_in}
-use Rattle.clos_lambda.specs.LambdaList.{generic_lambda_list_in}
 use Rattle.clos_syntax.specs.Method.{method_in}
 use Rattle.clos_syntax.specs.Property.{is_option, options_of, option_in, arguments_in}
 use Rattle.clos_syntax.specs.declared.generic.CombinationUse.{CombinationUse}
 use Rattle.clos_syntax.specs.declared.generic.GenericDefinition.{GenericDefinition}
 use Rattle.clos_syntax.specs.declared.generic.GenericOptions.{GenericOptions}
-use Rattle.clos_lambda.specs.declared.lambda_list.LambdaList.{LambdaList}
 use Rattle.clos_syntax.specs.declared.method.MethodDefinition.{MethodDefinition}
 
 abbrev pub generic_option_in : Dat → Option (Unit {0})

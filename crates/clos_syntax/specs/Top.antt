@@ -6,12 +6,12 @@ use Rattle.clos_forms.specs.Fault.{◌>>=◌}
 use Rattle.clos_forms.specs.Form.{Frm}
 use Rattle.clos_forms.specs.Names.{is_called}
 use Rattle.clos_forms.specs.Part.{only_in}
+use Rattle.clos_lambda.specs.PlainForm.{form_in}
 use Rattle.clos_syntax.specs.Class.{class_in}
 use Rattle.clos_syntax.specs.Function.{function_in}
 use Rattle.clos_syntax.specs.FunctionName.{method_function_in}
 use Rattle.clos_syntax.specs.Generic.{generic_in}
 use Rattle.clos_syntax.specs.Method.{method_in}
-use Rattle.clos_lambda.specs.PlainForm.{form_in}
 use Rattle.clos_syntax.specs.Variable.{variable_definition_in}
 use Rattle.clos_syntax.specs.declared.top.Top.{Top}
 use Rattle.clos_syntax.specs.declared.top.Top.TheVariants.{DefClass, DefGeneric, DefMethod, Defun, DefVar, RemoveMethod, AddDependent, RemoveDependent, InPackage, Expr}

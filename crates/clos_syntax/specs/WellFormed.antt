@@ -4,14 +4,14 @@ use Rattle.std.specs.Prelude.{◌≡◌, true, All, Option, Some, None, IfSome, 
 use Rattle.clos_forms.specs.Form.{Frm}
 use Rattle.clos_forms.specs.WellFormed.{is_well_formed, are_well_formed}
 use Rattle.clos_forms.specs.declared.part.Context.TheVariants.{Plain, Method}
-use Rattle.clos_syntax.specs.declared.class.ClassDefinition.{ClassDefinition}
-use Rattle.clos_syntax.specs.declared.class.DefaultInitarg.{DefaultInitarg}
-use Rattle.clos_syntax.specs.declared.function.FunctionDefinition.{FunctionDefinition}
-use Rattle.clos_syntax.specs.declared.generic.GenericDefinition.{GenericDefinition}
 use Rattle.clos_lambda.specs.declared.lambda_list.Key.{Key}
 use Rattle.clos_lambda.specs.declared.lambda_list.Keys.{Keys}
 use Rattle.clos_lambda.specs.declared.lambda_list.LambdaList.{LambdaList}
 use Rattle.clos_lambda.specs.declared.lambda_list.Optional.{Optional}
+use Rattle.clos_syntax.specs.declared.class.ClassDefinition.{ClassDefinition}
+use Rattle.clos_syntax.specs.declared.class.DefaultInitarg.{DefaultInitarg}
+use Rattle.clos_syntax.specs.declared.function.FunctionDefinition.{FunctionDefinition}
+use Rattle.clos_syntax.specs.declared.generic.GenericDefinition.{GenericDefinition}
 use Rattle.clos_syntax.specs.declared.method.MethodDefinition.{MethodDefinition}
 use Rattle.clos_syntax.specs.declared.method.ParameterSpecializer.{ParameterSpecializer}
 use Rattle.clos_syntax.specs.declared.method.ParameterSpecializer.TheVariants.{Class, Eql}

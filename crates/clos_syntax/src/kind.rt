@@ -4,8 +4,8 @@ ghost use Rattle.lisp_data.specs.DatumView.{datum_of};
 ghost use Rattle.clos_forms.specs.Binding.{each};
 ghost use Rattle.clos_forms.specs.Fault.{Gives};
 ghost use Rattle.clos_forms.specs.FunctionName.{symbol_in};
-ghost use Rattle.clos_syntax.specs.Property.{options_of, option_in, values_of, value_in};
 ghost use Rattle.clos_lambda.specs.PlainForm.{form_in};
+ghost use Rattle.clos_syntax.specs.Property.{options_of, option_in, values_of, value_in};
 
 use crate::property::{is_key, is_option};
 use clos_forms::{Form, SyntaxFault};

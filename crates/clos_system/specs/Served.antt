@@ -7,11 +7,11 @@ use Rattle.lisp_data.specs.Datum as datum
 use Rattle.clos_forms.specs.Fault.{◌>>=◌}
 use Rattle.clos_forms.specs.declared.operator.FunctionName.{FunctionName}
 use Rattle.clos_forms.specs.declared.operator.FunctionName.TheVariants.{Symbol, Setf}
+use Rattle.clos_lambda.specs.declared.lambda_list.LambdaList.{LambdaList}
 use Rattle.clos_syntax.specs.Method.{t_name}
 use Rattle.clos_syntax.specs.declared.class.ClassDefinition.{ClassDefinition}
 use Rattle.clos_syntax.specs.declared.function.FunctionDefinition.{FunctionDefinition}
 use Rattle.clos_syntax.specs.declared.variable.VariableDefinition.{VariableDefinition}
-use Rattle.clos_lambda.specs.declared.lambda_list.LambdaList.{LambdaList}
 use Rattle.clos_syntax.specs.declared.method.MethodDefinition.{MethodDefinition}
 use Rattle.clos_syntax.specs.declared.method.ParameterSpecializer.{ParameterSpecializer}
 use Rattle.clos_syntax.specs.declared.method.ParameterSpecializer.TheVariants.{Class, Eql}

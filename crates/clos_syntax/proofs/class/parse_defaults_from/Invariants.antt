@@ -1,7 +1,7 @@
 use Rattle.std.proofs.Common.{◌≡◌}
 use Rattle.lisp_data.specs.Datum.{size_of_data}
-use Rattle.clos_syntax.specs.Class.{defaults_from}
 use Rattle.clos_lambda.specs.Lists.{before}
+use Rattle.clos_syntax.specs.Class.{defaults_from}
 use Rattle.clos_syntax.proofs.class.parse_defaults_from.Given as goal
 
 abbrev pub invariant-loop-name : goal.invariant-loop-name

@@ -3,8 +3,8 @@ use Rattle.lisp_data.specs.Datum.{cons}
 use Rattle.lisp_data.specs.DatumView.{datum_of}
 use Rattle.clos_forms.specs.Fault.{◌>>=◌}
 use Rattle.clos_lambda.specs.Lists.{before}
-use Rattle.clos_syntax.specs.Slot.{accessors_in}
 use Rattle.clos_lambda.proofs.Lists.{some_more}
+use Rattle.clos_syntax.specs.Slot.{accessors_in}
 use Rattle.clos_syntax.proofs.slot.parse_accessors.Goals as goal
 
 pub loop-key-preserved : goal.loop-key-preserved
