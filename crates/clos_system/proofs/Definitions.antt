@@ -10,8 +10,8 @@ use Rattle.clos_world.specs.Class.{named}
 use Rattle.clos_world.specs.Definitions.{Same}
 use Rattle.clos_world.specs.Generic.{function_named}
 use Rattle.clos_world.specs.World.{State}
-use Rattle.clos_eval.specs.Meaning.{evaluation}
-use Rattle.clos_eval.specs.Outcome.{Out, Gave, Stopped, Run, then_do, step_then, stopped}
+use Rattle.clos_machine.specs.Meaning.{evaluation}
+use Rattle.clos_machine.specs.Outcome.{Out, Gave, Stopped, Run, then_do, step_then, stopped}
 use Rattle.clos_world.specs.declared.condition.ConditionKind.TheVariants.{TableLimit}
 use Rattle.clos_world.specs.Functions.{function_in}
 use Rattle.clos_world.specs.Globals.{is_global}
@@ -24,7 +24,7 @@ use Rattle.clos_system.specs.Function.{has_room, function_defined, setter_define
 use Rattle.clos_system.specs.Variable.{room_below, keeps_value, named as defined_name, declared, value_given, new_value, variable_defined}
 use Rattle.clos_world.specs.declared.condition.Condition.{Condition}
 use Rattle.clos_world.specs.declared.generic.Generic.{Generic}
-use Rattle.clos_eval.proofs.Kept.{same, same_then, Kept, evaluation_kept}
+use Rattle.clos_machine.proofs.Kept.{same, same_then, Kept, evaluation_kept}
 use Rattle.clos_system.specs.Definitions.{DefinesNothing}
 use Rattle.clos_system.specs.Served.{is_combination, served_of}
 use Rattle.clos_system.specs.Session.{Replies}

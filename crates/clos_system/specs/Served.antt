@@ -24,9 +24,9 @@ use Rattle.clos_forms.specs.Names.{is_called, is_one_of, functions, system_funct
 use Rattle.clos_forms.specs.Operator.{Opr, Plc, variable_place, slot_value_place, call_place}
 use Rattle.lisp_data.specs.Print.{Called, by_symbol, by_setf}
 use Rattle.clos_forms.specs.Operator as of
-use Rattle.clos_eval.specs.Callee.{callee_of}
-use Rattle.clos_eval.specs.declared.callee.Callee.{Callee}
-use Rattle.clos_eval.specs.declared.callee.Callee.TheVariants.{Output, Terpri, Primitive, MakeInstance, Defined}
+use Rattle.clos_machine.specs.Callee.{callee_of}
+use Rattle.clos_machine.specs.declared.callee.Callee.{Callee}
+use Rattle.clos_machine.specs.declared.callee.Callee.TheVariants.{Output, Terpri, Primitive, MakeInstance, Defined}
 
 abbrev pub is_one : Frms → Bool
 is_one nil = false

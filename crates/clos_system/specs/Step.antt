@@ -12,8 +12,8 @@ use Rattle.clos_syntax.specs.Top.{top_of}
 use Rattle.clos_syntax.specs.declared.top.Top.{Top}
 use Rattle.clos_system.specs.Served.{is_combination, served_of}
 use Rattle.clos_world.specs.World.{State}
-use Rattle.clos_eval.specs.Meaning.{evaluation}
-use Rattle.clos_eval.specs.Outcome.{Gave, Stopped, Run, stopped, step_then}
+use Rattle.clos_machine.specs.Meaning.{evaluation}
+use Rattle.clos_machine.specs.Outcome.{Gave, Stopped, Run, stopped, step_then}
 use Rattle.clos_forms.specs.OperatorView.{called_of}
 use Rattle.clos_world.specs.Functions.{function_in}
 use Rattle.clos_system.specs.Function.{define_function}

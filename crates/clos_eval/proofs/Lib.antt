@@ -1,6 +1,0 @@
-pub mod Lists
-pub mod Turns
-pub mod Quiet
-pub mod Running
-pub mod Kept
-pub mod Unset
