@@ -16,9 +16,9 @@ ghost use Rattle.clos_machine.specs.declared.machine.Action.TheVariants.{NewValu
 
 use crate::binding::value_of_variable;
 use crate::control::{begin, begin_under, done};
+use clos_forms::{Form, Forms, Operator, Place};
 use clos_machine::fault::of_function;
 use clos_machine::machine::{Action, Doing, Frame, Machine, Task};
-use clos_forms::{Form, Forms, Operator, Place};
 use clos_world::{ConditionKind, Stop, Values, World, about_name, plain};
 use lisp_data::{Name, Value};
 use lisp_prims::Primitive;

@@ -10,11 +10,11 @@ ghost use Rattle.clos_machine.specs.Outcome.{Run, Gave, then_do};
 ghost use Rattle.clos_machine.specs.Variables.{found_value, variable_value, in_order, binding, within, leaving, aside, together, dotimes, repeated, turns, result_value, body_of, counted, with_count};
 
 use crate::control::begin;
+use clos_forms::Forms;
 use clos_machine::counter::Counter;
 use clos_machine::locals::{Locals, Plan, bind_unset, put_unset_aside};
 use clos_machine::machine::{Doing, Frame, Machine, Repetition, Task};
 use clos_machine::truth::nil;
-use clos_forms::Forms;
 use clos_world::{ConditionKind, Stop, World, about, about_name, plain};
 use lisp_data::{Name, Value};
 use std::alloc::{AllocError, Global};

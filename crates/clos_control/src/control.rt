@@ -7,9 +7,9 @@ ghost use Rattle.clos_machine.specs.Machine.{Leads, Grows, at, inside, below, af
 ghost use Rattle.clos_machine.specs.Meaning.{meaning};
 ghost use Rattle.clos_machine.specs.Outcome.{Run, Gave, then_do};
 
+use clos_forms::Forms;
 use clos_machine::machine::{Control, Doing, Frame, Level, Machine, Task};
 use clos_machine::truth::{is_true, nil};
-use clos_forms::Forms;
 use clos_world::Stop;
 use lisp_data::Value;
 

@@ -9,24 +9,24 @@ ghost use Rattle.clos_machine.specs.Machine.{Answers, Grows, Leads, Takes, Turns
 ghost use Rattle.clos_machine.specs.Meaning.{acted, begun, body, evaluation, meaning, operated};
 ghost use Rattle.clos_machine.specs.declared.machine.Doing.TheVariants.{Start};
 
-use clos_machine::arguments::{Arguments, Context};
+use crate::calls::{
+    call, call_setter, compute, function_named, new_value, next_of_body, next_value, start_call,
+    start_effective, start_system,
+};
+use crate::objects::make_instance;
+use crate::output::{end_line, print};
 use clos_control::assignment::{change, change_only, set_next, set_next_place, store_only};
 use clos_control::binding::{
     bind_in_order, continue_turn, continue_within, next_aside, next_variable, repeat, set_aside,
     start_loop, turn, variable,
 };
-use clos_machine::callee::{Callee, callee_named};
-use crate::calls::{
-    call, call_setter, compute, function_named, new_value, next_of_body, next_value, start_call,
-    start_effective, start_system,
-};
 use clos_control::control::{clause_tested, follow, go_on, keep, next_clause};
+use clos_forms::{Form, Forms, Operator};
+use clos_machine::arguments::{Arguments, Context};
+use clos_machine::callee::{Callee, callee_named};
 use clos_machine::locals::{Locals, Plan};
 use clos_machine::machine::{Action, Control, Doing, Frame, Level, Levels, Machine, Task};
-use crate::objects::make_instance;
-use crate::output::{end_line, print};
 use clos_machine::truth::{nil, t};
-use clos_forms::{Form, Forms, Operator};
 use clos_world::{ConditionKind, Stop, Values, World, plain};
 use lisp_data::{Name, Value};
 use lisp_prims::Primitive;

@@ -7,10 +7,10 @@ ghost use Rattle.clos_forms.specs.Form.{Frm, Frms};
 ghost use Rattle.clos_forms.specs.OperatorView.{called_of, operator_of, place_of};
 ghost use Rattle.clos_system.specs.Served.{are_served, at_most_one_name, calls, class_name, classes_named, is_combination, is_empty, is_eql, is_one, is_plain, is_served, requires_only, served_class, served_function, served_method, served_name, served_of, served_variable, serves, names_served, is_served_as, is_served_if_any, is_set, is_changed, changes_variable};
 
-use clos_machine::callee::{Callee, callee_named};
 use clos_forms::{
     Form, Forms, FunctionName, Operator, Place, is_function, is_system_function, is_the,
 };
+use clos_machine::callee::{Callee, callee_named};
 use clos_syntax::{
     ClassDefinition, FunctionDefinition, LambdaList, MethodDefinition, ParameterSpecializer,
     Sequence, Top, VariableDefinition,
