@@ -1,7 +1,1 @@
-pub mod Lists
-pub mod Turns
-pub mod Quiet
-pub mod Running
-pub mod Kept
-pub mod Unset
 pub mod Settled

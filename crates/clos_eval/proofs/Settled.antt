@@ -15,20 +15,20 @@ use Rattle.clos_world.specs.declared.condition.Condition.{Condition}
 use Rattle.clos_world.specs.declared.condition.ConditionKind.TheVariants.{Unsupported}
 use Rattle.clos_world.specs.declared.condition.Stop.{Stop}
 use Rattle.clos_world.specs.declared.condition.Stop.TheVariants.{Refused, Storage}
-use Rattle.clos_eval.specs.Calls.{known, body_run, parameters_run, restoring, scoped}
-use Rattle.clos_eval.specs.Control.{sequence}
-use Rattle.clos_eval.specs.Machine.{Binds, Leads, Settles, at, given_to, inside, resume, settled, under}
-use Rattle.clos_eval.specs.Meaning.{closed, meaning}
-use Rattle.clos_eval.specs.Outcome.{Out, Gave, Stopped, Run, Eval, then_do, stopped}
-use Rattle.clos_eval.specs.Parameters.{Sources, argument, refused, init, is_empty, key_sources, optional_sources, required_sources, requires_only, rest_sources, sources}
-use Rattle.clos_eval.specs.Variables.{inner}
-use Rattle.clos_eval.specs.declared.arguments.Context.{Context}
-use Rattle.clos_eval.specs.declared.machine.Doing.{Doing}
-use Rattle.clos_eval.specs.declared.machine.Frame.TheVariants.{Bind}
-use Rattle.clos_eval.specs.declared.machine.Level.{Level}
-use Rattle.clos_eval.specs.declared.machine.Machine.{Machine}
-use Rattle.clos_eval.specs.declared.machine.Task.TheVariants.{Plain}
-use Rattle.clos_eval.proofs.Turns.{leads_same, stopped_through}
+use Rattle.clos_machine.specs.Calls.{known, body_run, parameters_run, restoring, scoped}
+use Rattle.clos_machine.specs.Control.{sequence}
+use Rattle.clos_machine.specs.Machine.{Binds, Leads, Settles, at, given_to, inside, resume, settled, under}
+use Rattle.clos_machine.specs.Meaning.{closed, meaning}
+use Rattle.clos_machine.specs.Outcome.{Out, Gave, Stopped, Run, Eval, then_do, stopped}
+use Rattle.clos_machine.specs.Parameters.{Sources, argument, refused, init, is_empty, key_sources, optional_sources, required_sources, requires_only, rest_sources, sources}
+use Rattle.clos_machine.specs.Variables.{inner}
+use Rattle.clos_machine.specs.declared.arguments.Context.{Context}
+use Rattle.clos_machine.specs.declared.machine.Doing.{Doing}
+use Rattle.clos_machine.specs.declared.machine.Frame.TheVariants.{Bind}
+use Rattle.clos_machine.specs.declared.machine.Level.{Level}
+use Rattle.clos_machine.specs.declared.machine.Machine.{Machine}
+use Rattle.clos_machine.specs.declared.machine.Task.TheVariants.{Plain}
+use Rattle.clos_machine.proofs.Turns.{leads_same, stopped_through}
 
 module _ (ls : List Level) (saved : Context) (outer : List Local) (ev : Eval) (env : Context) (fs : Frms) (w : State) (t : ℕ) where
   -- how the run goes on from there

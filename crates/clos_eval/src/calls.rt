@@ -9,25 +9,25 @@ ghost use Rattle.clos_forms.specs.Quotation.{name_value};
 ghost use Rattle.clos_world.specs.Functions.{function_in};
 ghost use Rattle.clos_world.specs.Generic.{function_named, ordered};
 ghost use Rattle.clos_world.specs.World.{State, seen, bound_as, lists_of};
-ghost use Rattle.clos_eval.specs.Calls.{known, restoring, scoped, parameters_run, body_run, applied_to, called_defined, dispatched, called_generic, called_function, method_run, combined, system, called_setter, setter_value};
-ghost use Rattle.clos_eval.specs.Control.{sequence};
-ghost use Rattle.clos_eval.specs.Fault.{answered};
-ghost use Rattle.clos_eval.specs.Machine.{Leads, Grows, at, inside, given_to, under};
-ghost use Rattle.clos_eval.specs.Meaning.{meaning, alone, acted, collect, collected, function_value, is_plain_function, other_function};
-ghost use Rattle.clos_eval.specs.Outcome.{Run, then_do};
-ghost use Rattle.clos_eval.specs.Parameters.{required_sources, sources};
-ghost use Rattle.clos_eval.specs.declared.machine.Action.TheVariants.{Call};
-ghost use Rattle.clos_eval.specs.declared.machine.Frame.TheVariants.{Bind, Body};
-ghost use Rattle.clos_eval.specs.declared.machine.Task.TheVariants.{Plain};
+ghost use Rattle.clos_machine.specs.Calls.{known, restoring, scoped, parameters_run, body_run, applied_to, called_defined, dispatched, called_generic, called_function, method_run, combined, system, called_setter, setter_value};
+ghost use Rattle.clos_machine.specs.Control.{sequence};
+ghost use Rattle.clos_machine.specs.Fault.{answered};
+ghost use Rattle.clos_machine.specs.Machine.{Leads, Grows, at, inside, given_to, under};
+ghost use Rattle.clos_machine.specs.Meaning.{meaning, alone, acted, collect, collected, function_value, is_plain_function, other_function};
+ghost use Rattle.clos_machine.specs.Outcome.{Run, then_do};
+ghost use Rattle.clos_machine.specs.Parameters.{required_sources, sources};
+ghost use Rattle.clos_machine.specs.declared.machine.Action.TheVariants.{Call};
+ghost use Rattle.clos_machine.specs.declared.machine.Frame.TheVariants.{Bind, Body};
+ghost use Rattle.clos_machine.specs.declared.machine.Task.TheVariants.{Plain};
 
-use crate::arguments::{Arguments, Context};
-use crate::control::{begin, done};
-use crate::effective::{EffectiveForm, EffectiveNode, combined};
-use crate::fault::of_function;
-use crate::locals::{Locals, bind, settle};
-use crate::machine::{Action, Doing, Frame, Level, Machine, SystemCall, Task};
-use crate::parameters::{ParameterPlan, fits, plan_for, requires_only};
-use crate::truth::nil;
+use clos_machine::arguments::{Arguments, Context};
+use clos_control::control::{begin, done};
+use clos_machine::effective::{EffectiveForm, EffectiveNode, combined};
+use clos_machine::fault::of_function;
+use clos_machine::locals::{Locals, bind, settle};
+use clos_machine::machine::{Action, Doing, Frame, Level, Machine, SystemCall, Task};
+use clos_machine::parameters::{ParameterPlan, fits, plan_for, requires_only};
+use clos_machine::truth::nil;
 use clos_forms::{Form, Forms, FunctionName, is_function, is_system_function, value_named};
 use clos_world::{
     ConditionKind, Function, Generic, Method, Stop, Values, World, about, about_call,
@@ -114,7 +114,7 @@ pub fn new_value(
 }
 
 /// A function of values.
-#[tactic(auto, using(crate::proofs::Turns::stopped_through))]
+#[tactic(auto, using(clos_machine::proofs::Turns::stopped_through))]
 pub fn compute(
     alloc: Global,
     machine: &mut Machine,
@@ -133,7 +133,7 @@ pub fn compute(
 }
 
 /// A call of the function of the program's of this name.
-#[tactic(auto, using(crate::proofs::Turns::stopped_through))]
+#[tactic(auto, using(clos_machine::proofs::Turns::stopped_through))]
 pub fn call(
     alloc: Global,
     machine: &mut Machine,
@@ -154,7 +154,7 @@ pub fn call(
 }
 
 /// A call of the function that a `defun` gave this name.
-#[tactic(auto, using(crate::proofs::Turns::stopped_through))]
+#[tactic(auto, using(clos_machine::proofs::Turns::stopped_through))]
 fn call_named(
     alloc: Global,
     machine: &mut Machine,
@@ -175,7 +175,7 @@ fn call_named(
 }
 
 /// A call of the function `(setf name)`, whose first argument is the last of the values.
-#[tactic(auto, using(crate::proofs::Turns::stopped_through))]
+#[tactic(auto, using(clos_machine::proofs::Turns::stopped_through))]
 pub fn call_setter(
     alloc: Global,
     machine: &mut Machine,
@@ -212,7 +212,7 @@ pub fn setter_value(alloc: Global, name: &Name) -> Result<Value, AllocError>
 }
 
 /// A call of a function of the program's.
-#[tactic(auto, using(crate::proofs::Turns::stopped_through))]
+#[tactic(auto, using(clos_machine::proofs::Turns::stopped_through))]
 fn call_function(
     alloc: Global,
     machine: &mut Machine,
@@ -315,7 +315,7 @@ pub fn next_parameter(
 }
 
 /// A call of a generic function: its applicable methods are worked out and combined (HyperSpec 7.6.6).
-#[tactic(auto, using(crate::proofs::Turns::stopped_through))]
+#[tactic(auto, using(clos_machine::proofs::Turns::stopped_through))]
 fn call_generic(
     alloc: Global,
     machine: &mut Machine,
@@ -373,7 +373,7 @@ fn dispatch(
 }
 
 /// Evaluates this next in a context of its own; the machine's comes back after it.
-#[tactic(auto, using(crate::proofs::Turns::stopped_through, crate::proofs::Turns::then_gave))]
+#[tactic(auto, using(clos_machine::proofs::Turns::stopped_through, clos_machine::proofs::Turns::then_gave))]
 fn enter_effect(machine: &mut Machine, context: Context, next: Task) -> Result<Doing, Stop>
     ensures leads { (run : Run) (w : State)
         → ((t : ℕ) → meaning machine.old.room context next (at machine.old w) t ≡ run (at machine.old w) t)
@@ -388,7 +388,7 @@ fn enter_effect(machine: &mut Machine, context: Context, next: Task) -> Result<D
 }
 
 /// An effective form begins.
-#[tactic(auto, using(crate::proofs::Turns::stopped_through, crate::proofs::Turns::then_gave))]
+#[tactic(auto, using(clos_machine::proofs::Turns::stopped_through, clos_machine::proofs::Turns::then_gave))]
 pub fn start_effective(
     alloc: Global,
     machine: &mut Machine,
@@ -412,7 +412,7 @@ pub fn start_effective(
 }
 
 /// A method runs on the arguments of its effective form.
-#[tactic(auto, using(crate::proofs::Turns::stopped_through))]
+#[tactic(auto, using(clos_machine::proofs::Turns::stopped_through))]
 fn run_method(
     alloc: Global,
     machine: &mut Machine,
@@ -530,7 +530,7 @@ pub fn next_of_body(
 }
 
 /// The effective form of a system generic function begins.
-#[tactic(auto, using(crate::proofs::Turns::stopped_through, crate::proofs::Turns::then_gave))]
+#[tactic(auto, using(clos_machine::proofs::Turns::stopped_through, clos_machine::proofs::Turns::then_gave))]
 pub fn start_system(
     alloc: Global,
     machine: &mut Machine,
@@ -556,7 +556,7 @@ pub fn start_system(
 }
 
 /// What a `function` form names: a generic function.
-#[tactic(auto, using(crate::proofs::Turns::stopped_through))]
+#[tactic(auto, using(clos_machine::proofs::Turns::stopped_through))]
 pub fn function_named(
     alloc: Global,
     machine: &mut Machine,
@@ -589,7 +589,7 @@ fn is_plain_function(world: &World, name: &Name) -> bool
 }
 
 /// A function that is no object here, or none at all.
-#[tactic(auto, using(crate::proofs::Turns::stopped_through))]
+#[tactic(auto, using(clos_machine::proofs::Turns::stopped_through))]
 fn no_object(
     alloc: Global,
     machine: &Machine,

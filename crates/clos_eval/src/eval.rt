@@ -4,29 +4,29 @@ ghost use Rattle.lisp_data.specs.ValueView.{value_of};
 ghost use Rattle.clos_forms.specs.Form.{operator_in};
 ghost use Rattle.clos_forms.specs.OperatorView.{operator_of};
 ghost use Rattle.clos_world.specs.World.{seen};
-ghost use Rattle.clos_eval.specs.Calls.{called};
-ghost use Rattle.clos_eval.specs.Machine.{Answers, Grows, Leads, Takes, Turns, denote, given_to, inside, weight_of};
-ghost use Rattle.clos_eval.specs.Meaning.{acted, begun, body, evaluation, meaning, operated};
-ghost use Rattle.clos_eval.specs.declared.machine.Doing.TheVariants.{Start};
+ghost use Rattle.clos_machine.specs.Calls.{called};
+ghost use Rattle.clos_machine.specs.Machine.{Answers, Grows, Leads, Takes, Turns, denote, given_to, inside, weight_of};
+ghost use Rattle.clos_machine.specs.Meaning.{acted, begun, body, evaluation, meaning, operated};
+ghost use Rattle.clos_machine.specs.declared.machine.Doing.TheVariants.{Start};
 
-use crate::arguments::{Arguments, Context};
-use crate::assignment::{change, change_only, set_next, set_next_place, store_only};
-use crate::binding::{
-    bind_in_order, continue_turn, continue_within, next_aside, next_variable, repeat, set_aside,
-    start_loop, turn, variable,
-};
-use crate::callee::{Callee, callee_named};
 use crate::calls::{
     call, call_setter, compute, function_named, new_value, next_of_body, next_parameter, next_value,
     start_call, start_effective, start_system,
 };
-use crate::control::{clause_tested, follow, go_on, keep, next_clause};
-use crate::locals::{Locals, Plan};
-use crate::machine::{Action, Control, Doing, Frame, Level, Levels, Machine, Task};
 use crate::objects::make_instance;
 use crate::output::{end_line, print};
-use crate::truth::{nil, t};
+use clos_control::assignment::{change, change_only, set_next, set_next_place, store_only};
+use clos_control::binding::{
+    bind_in_order, continue_turn, continue_within, next_aside, next_variable, repeat, set_aside,
+    start_loop, turn, variable,
+};
+use clos_control::control::{clause_tested, follow, go_on, keep, next_clause};
 use clos_forms::{Form, Forms, Operator};
+use clos_machine::arguments::{Arguments, Context};
+use clos_machine::callee::{Callee, callee_named};
+use clos_machine::locals::{Locals, Plan};
+use clos_machine::machine::{Action, Control, Doing, Frame, Level, Levels, Machine, Task};
+use clos_machine::truth::{nil, t};
 use clos_world::{ConditionKind, Stop, Values, World, plain};
 use lisp_data::{Name, Value};
 use lisp_prims::Primitive;
@@ -47,7 +47,7 @@ fn start_form(
 }
 
 /// An operator begins with its parts.
-#[tactic(auto, using(crate::proofs::Turns::stopped_through, crate::proofs::Turns::grows_6_8))]
+#[tactic(auto, using(clos_machine::proofs::Turns::stopped_through, clos_machine::proofs::Turns::grows_6_8))]
 fn operate(
     alloc: Global,
     machine: &mut Machine,
@@ -135,7 +135,7 @@ fn apply(
 }
 
 /// An action is done with its values.
-#[tactic(auto, using(crate::proofs::Running::turns_of_leads, crate::proofs::Turns::grows_5_7, crate::proofs::Turns::grows_6_7))]
+#[tactic(auto, using(clos_machine::proofs::Running::turns_of_leads, clos_machine::proofs::Turns::grows_5_7, clos_machine::proofs::Turns::grows_6_7))]
 fn act(
     alloc: Global,
     machine: &mut Machine,
@@ -160,7 +160,7 @@ fn act(
 }
 
 /// A frame goes on with the value that it waited for.
-#[tactic(auto, using(crate::proofs::Turns::grows_6_8))]
+#[tactic(auto, using(clos_machine::proofs::Turns::grows_6_8))]
 fn give(
     alloc: Global,
     machine: &mut Machine,
@@ -208,7 +208,7 @@ fn give(
 }
 
 /// A task begins, with less room.
-#[tactic(auto, using(crate::proofs::Turns::grows_6_8))]
+#[tactic(auto, using(clos_machine::proofs::Turns::grows_6_8))]
 fn start(alloc: Global, machine: &mut Machine, world: &World, task: Task) -> Result<Doing, Stop>
     ensures leads { Leads (inside machine.old (begun (meaning machine.old.room) machine.old.context task)) (seen world.now) result machine.new }
     ensures small { Grows 8 machine.old.levels result machine.new }

@@ -1,22 +1,10 @@
-//! The meaning of forms, and the machine that evaluates them.
+//! Calls, objects, output, and the machine that evaluates forms.
 #![tactic(auto)]
 
-pub mod arguments;
-mod assignment;
-mod binding;
-pub mod callee;
 mod calls;
-mod control;
-mod counter;
-mod effective;
 pub mod eval;
-mod fault;
-mod locals;
-mod machine;
 mod objects;
 mod output;
-pub mod parameters;
-mod truth;
 
 pub use calls::setter_value;
 pub use eval::evaluate;

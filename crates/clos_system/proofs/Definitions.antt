@@ -10,8 +10,8 @@ use Rattle.clos_world.specs.Class.{named}
 use Rattle.clos_world.specs.Definitions.{Same}
 use Rattle.clos_world.specs.Generic.{function_named}
 use Rattle.clos_world.specs.World.{State}
-use Rattle.clos_eval.specs.Meaning.{evaluation}
-use Rattle.clos_eval.specs.Outcome.{Out, Gave, Stopped, Run, then_do, step_then, stopped}
+use Rattle.clos_machine.specs.Meaning.{evaluation}
+use Rattle.clos_machine.specs.Outcome.{Out, Gave, Stopped, Run, then_do, step_then, stopped}
 use Rattle.clos_world.specs.declared.condition.ConditionKind.TheVariants.{TableLimit}
 use Rattle.clos_world.specs.Functions.{function_in}
 use Rattle.clos_world.specs.Globals.{is_global}
@@ -24,7 +24,7 @@ use Rattle.clos_system.specs.Function.{has_room, function_defined, setter_define
 use Rattle.clos_system.specs.Variable.{room_below, keeps_value, named as defined_name, declared, value_given, new_value, variable_defined}
 use Rattle.clos_world.specs.declared.condition.Condition.{Condition}
 use Rattle.clos_world.specs.declared.generic.Generic.{Generic}
-use Rattle.clos_eval.proofs.Kept.{same, same_then, Kept, evaluation_kept}
+use Rattle.clos_machine.proofs.Kept.{same, same_then, Kept, evaluation_kept}
 use Rattle.clos_system.specs.Definitions.{DefinesNothing}
 use Rattle.clos_system.specs.Served.{is_combination, served_of}
 use Rattle.clos_system.specs.Session.{Replies}
@@ -114,7 +114,7 @@ performed_refuses : (served : Served) (w : State) (k : ℕ) → Refuses w (perfo
 performed_refuses (DefineClass name super) w k = class_refuses name super (named w.classes name) w k
 performed_refuses (DefineMethod name parameters classes body) w k =
     choice_refuses (is_some (function_in w.functions name)) w _ _ (same w) (method_refuses name parameters body (specializer_numbers w classes) w k)
-performed_refuses (DefineFunction name parameters body) w k = defun_refuses (called_of name) (record { parameters = parameters; body = body }) w k
+performed_refuses (DefineFunction name function) w k = defun_refuses (called_of name) function w k
 performed_refuses (DefineVariable d) w k = variable_refuses d w k
 performed_refuses Nothing w k = tt
 performed_refuses (Expression f) w k = kept_refuses w (evaluation (room_of w) f w k) (evaluation_kept (room_of w) f w k)

@@ -8,9 +8,9 @@ use Rattle.clos_world.specs.Class.{named}
 use Rattle.clos_world.specs.Generic.{function_named}
 use Rattle.clos_world.specs.World.{State, seen}
 use Rattle.clos_world.specs.declared.world.World.{World}
-use Rattle.clos_eval.specs.Calls.{known}
-use Rattle.clos_eval.specs.Meaning.{evaluation}
-use Rattle.clos_eval.specs.Outcome.{Out, Gave, Stopped, Run, then_do, step_then}
+use Rattle.clos_machine.specs.Calls.{known}
+use Rattle.clos_machine.specs.Meaning.{evaluation}
+use Rattle.clos_machine.specs.Outcome.{Out, Gave, Stopped, Run, then_do, step_then}
 use Rattle.clos_world.specs.Functions.{function_in}
 use Rattle.clos_world.specs.Globals.{is_global}
 use Rattle.clos_world.specs.declared.functions.Function.{Function}
@@ -20,7 +20,7 @@ use Rattle.lisp_data.specs.Value.{Val}
 use Rattle.clos_syntax.specs.declared.variable.VariableDefinition.{VariableDefinition}
 use Rattle.clos_system.specs.Function.{has_room, function_defined, setter_defined, new_function_defined, new_setter_defined, define_function}
 use Rattle.clos_system.specs.Variable.{room_below, keeps_value, named as defined_name, declared, value_given, given_value, new_value, variable_defined}
-use Rattle.clos_eval.specs.Machine.{Answers, leaves}
+use Rattle.clos_machine.specs.Machine.{Answers, leaves}
 use Rattle.clos_world.specs.declared.condition.Stop.{Stop}
 use Rattle.clos_world.specs.declared.condition.Stop.TheVariants.{Refused, Storage}
 use Rattle.clos_system.specs.Step.{define_class, new_class, superclass_number, define_method, on_function, new_method, specializer_numbers, performed, served_run, checked, step, room_of}
@@ -29,10 +29,10 @@ use Rattle.clos_syntax.specs.declared.top.Top.{Top}
 use Rattle.clos_system.specs.Served.{is_combination, served_of}
 use Rattle.clos_world.specs.declared.condition.Condition.{Condition}
 use Rattle.clos_world.specs.declared.generic.Generic.{Generic}
-use Rattle.clos_eval.specs.declared.machine.Task.TheVariants.{Plain}
+use Rattle.clos_machine.specs.declared.machine.Task.TheVariants.{Plain}
 use Rattle.clos_system.specs.declared.served.Served.{Served}
 use Rattle.clos_system.specs.declared.served.Served.TheVariants.{DefineClass, DefineMethod, DefineFunction, DefineVariable, Nothing, Expression}
-use Rattle.clos_eval.proofs.Quiet.{evaluation_quiet}
+use Rattle.clos_machine.proofs.Quiet.{evaluation_quiet}
 
 either : (b : Bool) (x y : Out) (w : State) → leaves x w 0 → leaves y w 0 → leaves (if b then x else y) w 0
 either true x y w p q = p
@@ -87,7 +87,7 @@ performed_quiet : (served : Served) (w : World) → leaves (performed served (se
 performed_quiet (DefineClass name super) w = define_class_quiet name super (named (seen w).classes name) (seen w)
 performed_quiet (DefineMethod name ps cs body) w =
     either (is_some (function_in (seen w).functions name)) _ _ (seen w) (refl, refl) (define_method_quiet name ps body (specializer_numbers (seen w) cs) (seen w))
-performed_quiet (DefineFunction name ps body) w = function_defined_quiet (called_of name) (record { parameters = ps; body = body }) (seen w)
+performed_quiet (DefineFunction name function) w = function_defined_quiet (called_of name) function (seen w)
 performed_quiet (DefineVariable d) w = variable_quiet d w
 performed_quiet Nothing w = (refl, refl)
 performed_quiet (Expression f) w = evaluation_quiet (room_of (seen w)) (known []) (Plain f) (seen w)

@@ -6,8 +6,8 @@ use Rattle.lisp_data.specs.Name.{Nam}
 use Rattle.clos_forms.specs.Form.{Frms}
 use Rattle.clos_world.specs.Class.{named}
 use Rattle.clos_world.specs.World.{State}
-use Rattle.clos_eval.specs.Outcome.{step_then, stopped}
-use Rattle.clos_eval.specs.Machine.{Designates}
+use Rattle.clos_machine.specs.Outcome.{step_then, stopped}
+use Rattle.clos_machine.specs.Machine.{Designates}
 use Rattle.clos_system.specs.Step.{specializer_number, specializer_numbers, found_after, if_found, FindsSpecializers, new_method, method_added, Ready}
 use Rattle.clos_forms.specs.Quotation.{name_value}
 use Rattle.clos_world.specs.declared.condition.ConditionKind.TheVariants.{LambdaListCongruence, TableLimit}

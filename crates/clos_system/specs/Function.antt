@@ -8,8 +8,8 @@ use Rattle.clos_world.specs.Generic.{function_named}
 use Rattle.clos_world.specs.World.{State}
 use Rattle.clos_world.specs.declared.condition.ConditionKind.TheVariants.{ProgramError, TableLimit}
 use Rattle.clos_world.specs.declared.functions.Function.{Function}
-use Rattle.clos_eval.specs.Calls.{setter_value}
-use Rattle.clos_eval.specs.Outcome.{Gave, Run, stopped, step_then}
+use Rattle.clos_machine.specs.Calls.{setter_value}
+use Rattle.clos_machine.specs.Outcome.{Gave, Run, stopped, step_then}
 
 -- one more function may be defined
 abbrev pub has_room : State → Bool

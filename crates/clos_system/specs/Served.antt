@@ -1,5 +1,5 @@
 -- Which forms are served.
-use Rattle.std.specs.Prelude.{Bool, true, false, not, ◌&&◌, List, [], ◌∷◌, Option, Some, None, map, is_none, codes, if◌then◌else◌}
+use Rattle.std.specs.Prelude.{Bool, true, false, not, ◌&&◌, ◌||◌, List, [], ◌∷◌, Option, Some, None, map, codes, if◌then◌else◌}
 use Rattle.std.specs.List.{list_any}
 use Rattle.lisp_data.specs.Name.{Nam}
 use Rattle.lisp_data.specs.Datum.{Dat, integer, symbol, string, list, dotted, method, Dats}
@@ -7,7 +7,9 @@ use Rattle.lisp_data.specs.Datum as datum
 use Rattle.clos_forms.specs.Fault.{◌>>=◌}
 use Rattle.clos_forms.specs.declared.operator.FunctionName.{FunctionName}
 use Rattle.clos_forms.specs.declared.operator.FunctionName.TheVariants.{Symbol, Setf}
+use Rattle.clos_lambda.specs.LambdaList.{entries_of}
 use Rattle.clos_lambda.specs.declared.lambda_list.LambdaList.{LambdaList}
+use Rattle.clos_lambda.specs.declared.lambda_list.Optional.{Optional}
 use Rattle.clos_syntax.specs.Method.{t_name}
 use Rattle.clos_syntax.specs.declared.class.ClassDefinition.{ClassDefinition}
 use Rattle.clos_syntax.specs.declared.function.FunctionDefinition.{FunctionDefinition}
@@ -24,9 +26,10 @@ use Rattle.clos_forms.specs.Names.{is_called, is_one_of, functions, system_funct
 use Rattle.clos_forms.specs.Operator.{Opr, Plc, variable_place, slot_value_place, call_place}
 use Rattle.lisp_data.specs.Print.{Called, by_symbol, by_setf}
 use Rattle.clos_forms.specs.Operator as of
-use Rattle.clos_eval.specs.Callee.{callee_of}
-use Rattle.clos_eval.specs.declared.callee.Callee.{Callee}
-use Rattle.clos_eval.specs.declared.callee.Callee.TheVariants.{Output, Terpri, Primitive, MakeInstance, Defined}
+use Rattle.clos_machine.specs.Callee.{callee_of}
+use Rattle.clos_machine.specs.Parameters.{requires_only}
+use Rattle.clos_machine.specs.declared.callee.Callee.{Callee}
+use Rattle.clos_machine.specs.declared.callee.Callee.TheVariants.{Output, Terpri, Primitive, MakeInstance, Defined}
 
 abbrev pub is_one : Frms → Bool
 is_one nil = false
@@ -123,9 +126,6 @@ abbrev pub served_class : ClassDefinition → Option Served
 served_class c =
     if is_empty c.slots && is_empty c.defaults then (at_most_one_name c.superclasses >>= λ super. Some (DefineClass c.name super)) else None
 
-abbrev pub requires_only : LambdaList → Bool
-requires_only l = is_empty l.optional && is_none l.rest && is_none l.keys
-
 abbrev pub is_no_data : Dats → Bool
 is_no_data datum.nil = true
 is_no_data (datum.cons d l) = false
@@ -158,14 +158,21 @@ served_method f m =
     then (served_name f >>= λ n. classes_named m.specializers >>= λ cs. Some (DefineMethod n m.lambda_list.required cs m.body))
     else None
 
--- a function of required parameters alone, with a body that is served
-abbrev pub served_function : FunctionDefinition → Option Served
-served_function f =
-    if requires_only f.lambda_list && are_served f.body then Some (DefineFunction f.name f.lambda_list.required f.body) else None
-
 abbrev pub is_served_if_any : Option Frm → Bool
 is_served_if_any None = true
 is_served_if_any (Some f) = is_served f
+
+-- an init form that is not served
+abbrev pub is_unserved : Optional → Bool
+is_unserved o = not (is_served_if_any o.init)
+
+abbrev pub are_inits_served : LambdaList → Bool
+are_inits_served l = not (list_any is_unserved l.optional || list_any (λ k. is_unserved k.variable) (entries_of l.keys))
+
+-- a function whose init forms and body are served
+abbrev pub served_function : FunctionDefinition → Option Served
+served_function f =
+    if are_inits_served f.lambda_list && are_served f.body then Some (DefineFunction f.name (record { lambda_list = f.lambda_list; body = f.body })) else None
 
 abbrev pub served_variable : VariableDefinition → Option Served
 served_variable v = if is_served_if_any v.form then Some (DefineVariable v) else None

@@ -2,8 +2,8 @@
 use Rattle.std.specs.Prelude.{◌≡◌, ℕ, ◌≤◌}
 use Rattle.lisp_data.specs.ValueView.{value_of}
 use Rattle.clos_world.specs.World.{State, seen}
-use Rattle.clos_eval.specs.Outcome.{Run, Gave, Stopped}
-use Rattle.clos_eval.specs.Machine.{leaves}
+use Rattle.clos_machine.specs.Outcome.{Run, Gave, Stopped}
+use Rattle.clos_machine.specs.Machine.{leaves}
 use Rattle.clos_world.specs.Condition.{number_of}
 use Rattle.clos_world.specs.declared.condition.ConditionKind.{ConditionKind}
 use Rattle.clos_system.specs.declared.session.Session.{Session}

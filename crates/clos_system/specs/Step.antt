@@ -12,8 +12,8 @@ use Rattle.clos_syntax.specs.Top.{top_of}
 use Rattle.clos_syntax.specs.declared.top.Top.{Top}
 use Rattle.clos_system.specs.Served.{is_combination, served_of}
 use Rattle.clos_world.specs.World.{State}
-use Rattle.clos_eval.specs.Meaning.{evaluation}
-use Rattle.clos_eval.specs.Outcome.{Gave, Stopped, Run, stopped, step_then}
+use Rattle.clos_machine.specs.Meaning.{evaluation}
+use Rattle.clos_machine.specs.Outcome.{Gave, Stopped, Run, stopped, step_then}
 use Rattle.clos_forms.specs.OperatorView.{called_of}
 use Rattle.clos_world.specs.Functions.{function_in}
 use Rattle.clos_system.specs.Function.{define_function}
@@ -136,7 +136,7 @@ room_of w = min w.limits.depth 4_000
 abbrev pub performed : Served → Run
 performed (DefineClass name super) w k = define_class name super (named w.classes name) w k
 performed (DefineMethod name parameters classes body) w k = unless_function name (define_method name parameters body (specializer_numbers w classes)) w k
-performed (DefineFunction name parameters body) w k = define_function (called_of name) (record { parameters = parameters; body = body }) w k
+performed (DefineFunction name function) w k = define_function (called_of name) function w k
 performed (DefineVariable d) w k = variable_defined d w k
 performed Nothing w k = Gave (list nil) w k
 performed (Expression f) w k = evaluation (room_of w) f w k

@@ -12,8 +12,8 @@ use Rattle.lisp_reader.specs.Fault.{OnFault, offset_of}
 use Rattle.lisp_reader.specs.Gaps.{Gaps}
 use Rattle.clos_world.specs.Condition.{number_of, condition_name}
 use Rattle.clos_world.specs.World.{State, names_of}
-use Rattle.clos_eval.specs.Outcome.{Out, Gave, Stopped}
-use Rattle.clos_eval.specs.Machine.{Answers, leaves}
+use Rattle.clos_machine.specs.Outcome.{Out, Gave, Stopped}
+use Rattle.clos_machine.specs.Machine.{Answers, leaves}
 use Rattle.clos_system.specs.Step.{step}
 use Rattle.clos_world.specs.declared.condition.Condition.{Condition}
 use Rattle.clos_world.specs.declared.condition.Stop.{Stop}

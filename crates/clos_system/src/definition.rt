@@ -6,8 +6,8 @@ ghost use Rattle.lisp_data.specs.ValueView.{value_of};
 ghost use Rattle.clos_world.specs.Class.{named};
 ghost use Rattle.clos_world.specs.Generic.{specializers_of, function_named};
 ghost use Rattle.clos_world.specs.World.{State, seen};
-ghost use Rattle.clos_eval.specs.Outcome.{Run, Gave, Stopped, step_then};
-ghost use Rattle.clos_eval.specs.Machine.{Answers, Designates};
+ghost use Rattle.clos_machine.specs.Outcome.{Run, Gave, Stopped, step_then};
+ghost use Rattle.clos_machine.specs.Machine.{Answers, Designates};
 ghost use Rattle.clos_system.specs.Step.{superclass_number, class_added, new_class, define_class, specializer_number, specializer_numbers, found_after, without_same, function_added, new_function, method_added, new_method, on_function, define_method, unless_function, FindsSpecializers, Prepares};
 
 use clos_forms::Forms;

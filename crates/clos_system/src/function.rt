@@ -4,8 +4,8 @@ ghost use Rattle.lisp_data.specs.ValueView.{value_of};
 ghost use Rattle.clos_forms.specs.OperatorView.{called_of};
 ghost use Rattle.clos_forms.specs.Quotation.{name_value};
 ghost use Rattle.clos_world.specs.World.{seen};
-ghost use Rattle.clos_eval.specs.Calls.{setter_value};
-ghost use Rattle.clos_eval.specs.Machine.{Answers};
+ghost use Rattle.clos_machine.specs.Calls.{setter_value};
+ghost use Rattle.clos_machine.specs.Machine.{Answers};
 ghost use Rattle.clos_system.specs.Function.{define_function, new_function_defined, new_setter_defined, has_room};
 
 use clos_eval::setter_value;

@@ -5,17 +5,19 @@ ghost use Rattle.lisp_data.specs.Datum.{Dats, nil};
 ghost use Rattle.lisp_data.specs.DatumView.{datum_of};
 ghost use Rattle.clos_forms.specs.Form.{Frm, Frms};
 ghost use Rattle.clos_forms.specs.OperatorView.{called_of, operator_of, place_of};
-ghost use Rattle.clos_system.specs.Served.{are_served, at_most_one_name, calls, class_name, classes_named, is_combination, is_empty, is_eql, is_one, is_plain, is_served, requires_only, served_class, served_function, served_method, served_name, served_of, served_variable, serves, names_served, is_served_as, is_served_if_any, is_set, is_changed, changes_variable};
+ghost use Rattle.clos_lambda.specs.LambdaList.{entries_of};
+ghost use Rattle.clos_system.specs.Served.{are_served, at_most_one_name, calls, class_name, classes_named, is_combination, is_empty, is_eql, is_one, is_plain, is_served, is_unserved, are_inits_served, served_class, served_function, served_method, served_name, served_of, served_variable, serves, names_served, is_served_as, is_served_if_any, is_set, is_changed, changes_variable};
 
-use clos_eval::callee::{Callee, callee_named};
 use clos_forms::{
     Form, Forms, FunctionName, Operator, Place, is_function, is_system_function, is_the,
 };
+use clos_machine::callee::{Callee, callee_named};
+use clos_machine::parameters::requires_only;
 use clos_syntax::{
-    ClassDefinition, FunctionDefinition, LambdaList, MethodDefinition, ParameterSpecializer,
-    Sequence, Top, VariableDefinition,
+    ClassDefinition, FunctionDefinition, Key, Keys, LambdaList, MethodDefinition, Optional,
+    ParameterSpecializer, Sequence, Top, VariableDefinition,
 };
-use clos_world::Parameters;
+use clos_world::{Function, Parameters};
 use lisp_data::{Data, Datum, Name};
 use std::alloc::{AllocError, Global};
 
@@ -26,8 +28,8 @@ pub enum Served {
     DefineClass(Name, Option<Name>),
     /// A method of the function of this name: its parameters, the names of their classes, and its body.
     DefineMethod(Name, Parameters, Parameters, Forms),
-    /// A function of this name: its parameters, and its body.
-    DefineFunction(FunctionName, Parameters, Forms),
+    /// A function of this name.
+    DefineFunction(FunctionName, Function),
     /// A global variable.
     DefineVariable(VariableDefinition),
     /// A form without an effect.
@@ -49,7 +51,7 @@ pub fn serve(alloc: Global, top: Top) -> Result<Option<Served>, AllocError>
             Ok(None)
         }
         Top::DefGeneric(_) => Ok(None),
-        Top::Defun(function) => serve_function(alloc, function),
+        Top::Defun(function) => Ok(serve_function(function)),
         Top::DefVar(variable) => Ok(serve_variable(variable)),
         Top::RemoveMethod(_, _) => Ok(None),
         Top::AddDependent(_, _) => Ok(None),
@@ -138,20 +140,55 @@ fn is_plain(qualifiers: &Data, lambda_list: &LambdaList, body: &Forms) -> bool
     qualifiers.split_first().is_none() && requires_only(lambda_list) && are_served(body)
 }
 
-/// A function of required parameters alone, with a body that is served.
-fn serve_function(alloc: Global, function: FunctionDefinition) -> Result<Option<Served>, AllocError>
-    ensures { IfOk result (λ r. r ≡ served_function function) }
+/// A function whose init forms and body are served.
+fn serve_function(function: FunctionDefinition) -> Option<Served>
+    ensures { result ≡ served_function function }
 {
     let FunctionDefinition {
         name,
         lambda_list,
         body,
     } = function;
-    if !(requires_only(&lambda_list) && are_served(&body)) {
-        return Ok(None);
+    if !(are_inits_served(&lambda_list) && are_served(&body)) {
+        return None;
     }
-    let parameters = Parameters::new(alloc, lambda_list.required.into_items())?;
-    Ok(Some(Served::DefineFunction(name, parameters, body)))
+    let function = Function { lambda_list, body };
+    Some(Served::DefineFunction(name, function))
+}
+
+/// Whether all init forms are served.
+fn are_inits_served(list: &LambdaList) -> bool
+    ensures { result ≡ are_inits_served list.now }
+{
+    !(any_optional_unserved(list.optional.as_slice()) || any_key_unserved(&list.keys))
+}
+
+/// Whether an init form is not served.
+fn is_unserved(variable: &Optional) -> bool
+    ensures { result ≡ is_unserved variable.now }
+{
+    !is_served_if_any(&variable.init)
+}
+
+fn any_optional_unserved(variables: &[Optional]) -> bool
+    ensures { result ≡ list_any is_unserved variables.now }
+{
+    variables.iter().any(|variable| is_unserved(variable))
+}
+
+fn any_key_unserved(keys: &Option<Keys>) -> bool
+    ensures { result ≡ list_any (λ k. is_unserved k.variable) (entries_of keys.now) }
+{
+    match keys {
+        None => false,
+        Some(keys) => any_entry_unserved(keys.entries.as_slice()),
+    }
+}
+
+fn any_entry_unserved(entries: &[Key]) -> bool
+    ensures { result ≡ list_any (λ k. is_unserved k.variable) entries.now }
+{
+    entries.iter().any(|entry| is_unserved(&entry.variable))
 }
 
 /// A global variable whose form, where there is one, is served.
@@ -171,13 +208,6 @@ fn is_served_if_any(form: &Option<Form>) -> bool
         None => true,
         Some(form) => is_served(form),
     }
-}
-
-/// Whether all parameters are required ones.
-fn requires_only(lambda_list: &LambdaList) -> bool
-    ensures { result ≡ requires_only lambda_list.now }
-{
-    lambda_list.optional.len() == 0 && lambda_list.rest.is_none() && lambda_list.keys.is_none()
 }
 
 /// A symbol that names no function of the system.

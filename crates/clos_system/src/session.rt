@@ -3,8 +3,8 @@ ghost use Rattle.std.specs.Prelude.{◌≡◌, ℕ, IfOk, Some};
 ghost use Rattle.lisp_data.specs.ValueView.{value_of};
 ghost use Rattle.lisp_data.specs.DatumView.{datum_of};
 ghost use Rattle.clos_world.specs.World.{State, seen};
-ghost use Rattle.clos_eval.specs.Outcome.{Run};
-ghost use Rattle.clos_eval.specs.Machine.{Answers};
+ghost use Rattle.clos_machine.specs.Outcome.{Run};
+ghost use Rattle.clos_machine.specs.Machine.{Answers};
 ghost use Rattle.clos_system.specs.Step.{checked, performed, step};
 ghost use Rattle.clos_world.specs.Initial.{initial};
 ghost use Rattle.clos_system.specs.Definitions.{DefinesNothing};
@@ -130,9 +130,7 @@ fn perform_served(
         Served::DefineMethod(name, parameters, classes, body) => {
             defmethod(alloc, world, name, parameters, &classes, body, steps)
         }
-        Served::DefineFunction(name, parameters, body) => {
-            defun(alloc, world, name, Function { parameters, body }, steps)
-        }
+        Served::DefineFunction(name, function) => defun(alloc, world, name, function, steps),
         Served::DefineVariable(variable) => define_variable(alloc, world, variable, steps),
         Served::Nothing => Ok(Value::List(Items::new())),
         Served::Expression(form) => {

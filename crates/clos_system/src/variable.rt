@@ -4,9 +4,9 @@ ghost use Rattle.lisp_data.specs.Value.{Val};
 ghost use Rattle.lisp_data.specs.ValueView.{value_of};
 ghost use Rattle.clos_forms.specs.Quotation.{name_value};
 ghost use Rattle.clos_world.specs.World.{State, seen};
-ghost use Rattle.clos_eval.specs.Machine.{Answers};
-ghost use Rattle.clos_eval.specs.Meaning.{evaluation};
-ghost use Rattle.clos_eval.specs.Outcome.{Run, Gave, step_then, then_do};
+ghost use Rattle.clos_machine.specs.Machine.{Answers};
+ghost use Rattle.clos_machine.specs.Meaning.{evaluation};
+ghost use Rattle.clos_machine.specs.Outcome.{Run, Gave, step_then, then_do};
 ghost use Rattle.clos_system.specs.Variable.{variable_defined, keeps_value, declared, given_value, value_given, room_below};
 
 use clos_eval::evaluate;

@@ -1,12 +1,12 @@
 use Rattle.std.proofs.Common.{◌≡◌, [], ◌∷◌, Ok, sym, ap, subst, ◌∙◌}
 use Rattle.lisp_data.specs.Value as value
 use Rattle.clos_world.specs.World.{seen, bound_as}
-use Rattle.clos_eval.specs.Machine.{Leads, given_to, resume, with_init}
-use Rattle.clos_eval.specs.Meaning.{closed, meaning}
-use Rattle.clos_eval.specs.Parameters.{init}
-use Rattle.clos_eval.specs.declared.machine.Doing.TheVariants.{Start}
-use Rattle.clos_eval.specs.declared.machine.Frame.TheVariants.{Bind, Body}
-use Rattle.clos_eval.specs.declared.machine.Task.TheVariants.{Plain}
+use Rattle.clos_machine.specs.Machine.{Leads, given_to, resume, with_init}
+use Rattle.clos_machine.specs.Meaning.{closed, meaning}
+use Rattle.clos_machine.specs.Parameters.{init}
+use Rattle.clos_machine.specs.declared.machine.Doing.TheVariants.{Start}
+use Rattle.clos_machine.specs.declared.machine.Frame.TheVariants.{Bind, Body}
+use Rattle.clos_machine.specs.declared.machine.Task.TheVariants.{Plain}
 use Rattle.clos_eval.proofs.Settled.{settled_stops, settled_goes, init_begins}
 use Rattle.clos_eval.proofs.calls.bind_parameters.Goals as goal
 

@@ -1,8 +1,8 @@
 use Rattle.std.proofs.Common.{◌≡◌, sym, ap, ◌∙◌}
 use Rattle.clos_world.specs.World.{seen}
-use Rattle.clos_eval.specs.Meaning.{meaning}
-use Rattle.clos_eval.specs.Parameters.{fits}
-use Rattle.clos_eval.proofs.Running.{applied_runs}
+use Rattle.clos_machine.specs.Meaning.{meaning}
+use Rattle.clos_machine.specs.Parameters.{fits}
+use Rattle.clos_machine.proofs.Running.{applied_runs}
 use Rattle.clos_eval.proofs.calls.call_function.Goals as goal
 
 pub returns-clause-leads : goal.returns-clause-leads

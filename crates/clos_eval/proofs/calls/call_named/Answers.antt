@@ -2,10 +2,10 @@ use Rattle.std.proofs.Common.{ap}
 use Rattle.clos_forms.specs.Quotation.{name_value}
 use Rattle.clos_world.specs.Functions.{function_in}
 use Rattle.clos_world.specs.World.{seen}
-use Rattle.clos_eval.specs.Calls.{called_defined, applied_to}
-use Rattle.clos_eval.specs.Machine.{inside}
-use Rattle.clos_eval.specs.Meaning.{meaning}
-use Rattle.clos_eval.proofs.Turns.{leads_same}
+use Rattle.clos_machine.specs.Calls.{called_defined, applied_to}
+use Rattle.clos_machine.specs.Machine.{inside}
+use Rattle.clos_machine.specs.Meaning.{meaning}
+use Rattle.clos_machine.proofs.Turns.{leads_same}
 use Rattle.clos_eval.proofs.calls.call_named.Goals as goal
 
 pub returns-in-Some-clause-leads : goal.returns-in-Some-clause-leads

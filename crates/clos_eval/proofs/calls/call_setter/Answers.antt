@@ -1,10 +1,10 @@
 use Rattle.std.proofs.Common.{Some, ap, ◌∙◌}
 use Rattle.clos_world.specs.Values.{last_first}
 use Rattle.clos_world.specs.World.{seen}
-use Rattle.clos_eval.specs.Calls.{called_defined, called_setter, setter_value, applied_to}
-use Rattle.clos_eval.specs.Machine.{inside}
-use Rattle.clos_eval.specs.Meaning.{meaning}
-use Rattle.clos_eval.proofs.Turns.{leads_same}
+use Rattle.clos_machine.specs.Calls.{called_defined, called_setter, setter_value, applied_to}
+use Rattle.clos_machine.specs.Machine.{inside}
+use Rattle.clos_machine.specs.Meaning.{meaning}
+use Rattle.clos_machine.proofs.Turns.{leads_same}
 use Rattle.clos_eval.proofs.calls.call_setter.Goals as goal
 
 pub returns-in_ok-put_last_first-in-Some-clause-leads : goal.returns-in_ok-put_last_first-in-Some-clause-leads

@@ -1,9 +1,9 @@
 use Rattle.std.proofs.Common.{◌≡◌, ◌∷◌, sym, ap, subst, ◌∙◌}
 use Rattle.lisp_data.specs.ValueView.{value_of}
 use Rattle.clos_world.specs.World.{seen}
-use Rattle.clos_eval.specs.Calls.{parameters_run}
-use Rattle.clos_eval.specs.Machine.{Leads, under}
-use Rattle.clos_eval.specs.Meaning.{meaning}
+use Rattle.clos_machine.specs.Calls.{parameters_run}
+use Rattle.clos_machine.specs.Machine.{Leads, under}
+use Rattle.clos_machine.specs.Meaning.{meaning}
 use Rattle.clos_eval.proofs.Settled.{parameter_stops, parameter_bound}
 use Rattle.clos_eval.proofs.calls.next_parameter.Goals as goal
 

@@ -1,6 +1,6 @@
 use Rattle.std.proofs.Common.{ap, ◌∙◌}
-use Rattle.clos_eval.specs.Machine.{at}
-use Rattle.clos_eval.specs.Meaning.{acted, collect, meaning}
+use Rattle.clos_machine.specs.Machine.{at}
+use Rattle.clos_machine.specs.Meaning.{acted, collect, meaning}
 use Rattle.clos_eval.proofs.calls.next_value.Goals as goal
 
 pub returns-clause-leads : goal.returns-clause-leads

@@ -1,9 +1,9 @@
 use Rattle.std.proofs.Common.{◌≡◌, sym, ap, subst, ◌∙◌}
 use Rattle.clos_world.specs.World.{seen}
-use Rattle.clos_eval.specs.Calls.{body_run}
-use Rattle.clos_eval.specs.Machine.{Leads, inside}
-use Rattle.clos_eval.specs.Meaning.{meaning}
-use Rattle.clos_eval.specs.Parameters.{required_sources, sources}
+use Rattle.clos_machine.specs.Calls.{body_run}
+use Rattle.clos_machine.specs.Machine.{Leads, inside}
+use Rattle.clos_machine.specs.Meaning.{meaning}
+use Rattle.clos_machine.specs.Parameters.{required_sources, sources}
 use Rattle.clos_eval.proofs.Settled.{plain_sources}
 use Rattle.clos_eval.proofs.calls.run_function.Goals as goal
 

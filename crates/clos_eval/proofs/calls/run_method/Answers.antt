@@ -1,10 +1,10 @@
 use Rattle.std.proofs.Common.{◌∙◌, ap, subst, Some, slice_get}
 use Rattle.clos_world.specs.World.{seen}
-use Rattle.clos_eval.specs.Calls.{body_run, method_run}
-use Rattle.clos_eval.specs.Parameters.{required_sources}
-use Rattle.clos_eval.specs.Machine.{Leads, inside}
-use Rattle.clos_eval.specs.Meaning.{meaning}
-use Rattle.clos_eval.proofs.Turns.{no_method}
+use Rattle.clos_machine.specs.Calls.{body_run, method_run}
+use Rattle.clos_machine.specs.Parameters.{required_sources}
+use Rattle.clos_machine.specs.Machine.{Leads, inside}
+use Rattle.clos_machine.specs.Meaning.{meaning}
+use Rattle.clos_machine.proofs.Turns.{no_method}
 use Rattle.clos_eval.proofs.calls.run_method.Goals as goal
 
 pub returns-in-None-clause-leads : goal.returns-in-None-clause-leads

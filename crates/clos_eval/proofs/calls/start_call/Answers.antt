@@ -1,7 +1,7 @@
 use Rattle.std.proofs.Common.{ap, ◌∙◌}
-use Rattle.clos_eval.specs.Machine.{at}
-use Rattle.clos_eval.specs.Meaning.{acted, collect, meaning}
-use Rattle.clos_eval.specs.declared.machine.Action.TheVariants.{Call}
+use Rattle.clos_machine.specs.Machine.{at}
+use Rattle.clos_machine.specs.Meaning.{acted, collect, meaning}
+use Rattle.clos_machine.specs.declared.machine.Action.TheVariants.{Call}
 use Rattle.clos_eval.proofs.calls.start_call.Goals as goal
 
 pub returns-clause-leads : goal.returns-clause-leads

@@ -2,11 +2,11 @@ use Rattle.std.proofs.Common.{sym, subst, ◌∙◌}
 use Rattle.lisp_prims.specs.Primitive.{answer}
 use Rattle.clos_world.specs.Generic.{function_named}
 use Rattle.clos_world.specs.World.{seen}
-use Rattle.clos_eval.specs.Calls.{applied, called_function}
-use Rattle.clos_eval.specs.Fault.{answered}
-use Rattle.clos_eval.specs.Meaning.{meaning}
-use Rattle.clos_eval.specs.Machine.{Turns, inside}
-use Rattle.clos_eval.proofs.Running.{turns_of_leads}
+use Rattle.clos_machine.specs.Calls.{applied, called_function}
+use Rattle.clos_machine.specs.Fault.{answered}
+use Rattle.clos_machine.specs.Meaning.{meaning}
+use Rattle.clos_machine.specs.Machine.{Turns, inside}
+use Rattle.clos_machine.proofs.Running.{turns_of_leads}
 use Rattle.clos_eval.proofs.eval.apply.Goals as goal
 
 pub returns-in-Primitive-clause-turns : goal.returns-in-Primitive-clause-turns

@@ -1,16 +1,16 @@
 use Rattle.std.proofs.Common.{[], subst, arith, Ok, Err}
 use Rattle.lisp_data.specs.ValueView.{value_of}
 use Rattle.clos_world.specs.World.{seen}
-use Rattle.clos_eval.specs.Calls.{known}
-use Rattle.clos_eval.specs.Meaning.{evaluation}
-use Rattle.clos_eval.specs.Outcome.{Run}
-use Rattle.clos_eval.specs.Machine.{at, Reached, denote, given_to, below}
-use Rattle.clos_eval.specs.declared.machine.Doing.TheVariants.{Start, Act, Give}
-use Rattle.clos_eval.specs.declared.machine.Doing.TheVariants as doing
-use Rattle.clos_eval.specs.declared.machine.Machine.{Machine}
-use Rattle.clos_eval.specs.declared.machine.Task.TheVariants.{Plain}
-use Rattle.clos_eval.proofs.Quiet.{evaluation_quiet, start_quiet, act_quiet, loop_quiet, frame_quiet}
-use Rattle.clos_eval.proofs.Running.{turns_of_leads, reached_on, reached_same, ended, popped}
+use Rattle.clos_machine.specs.Calls.{known}
+use Rattle.clos_machine.specs.Meaning.{evaluation}
+use Rattle.clos_machine.specs.Outcome.{Run}
+use Rattle.clos_machine.specs.Machine.{at, Reached, denote, given_to, below}
+use Rattle.clos_machine.specs.declared.machine.Doing.TheVariants.{Start, Act, Give}
+use Rattle.clos_machine.specs.declared.machine.Doing.TheVariants as doing
+use Rattle.clos_machine.specs.declared.machine.Machine.{Machine}
+use Rattle.clos_machine.specs.declared.machine.Task.TheVariants.{Plain}
+use Rattle.clos_machine.proofs.Quiet.{evaluation_quiet, start_quiet, act_quiet, loop_quiet, frame_quiet}
+use Rattle.clos_machine.proofs.Running.{turns_of_leads, reached_on, reached_same, ended, popped}
 use Rattle.clos_eval.proofs.eval.evaluate.Goals as goal
 
 pub returns-in_default-clause-answer : goal.returns-in_default-clause-answer

@@ -1,6 +1,6 @@
 use Rattle.clos_world.specs.World.{seen}
-use Rattle.clos_eval.specs.Meaning.{evaluation}
-use Rattle.clos_eval.specs.Machine.{Reached, denote, weight}
+use Rattle.clos_machine.specs.Meaning.{evaluation}
+use Rattle.clos_machine.specs.Machine.{Reached, denote, weight}
 use Rattle.clos_eval.proofs.eval.evaluate.Given as goal
 
 abbrev pub invariant-loop-doing : goal.invariant-loop-doing

@@ -1,5 +1,5 @@
 use Rattle.clos_world.specs.World.{seen}
-use Rattle.clos_eval.proofs.Running.{nil_designates}
+use Rattle.clos_machine.proofs.Running.{nil_designates}
 use Rattle.clos_eval.proofs.objects.designate_list.Goals as goal
 
 pub returns-in-None : goal.returns-in-None

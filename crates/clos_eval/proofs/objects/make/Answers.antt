@@ -1,7 +1,7 @@
 use Rattle.lisp_data.specs.ValueView.{value_of}
 use Rattle.clos_world.specs.World.{seen}
-use Rattle.clos_eval.specs.Meaning.{meaning}
-use Rattle.clos_eval.proofs.Running.{not_designated}
+use Rattle.clos_machine.specs.Meaning.{meaning}
+use Rattle.clos_machine.proofs.Running.{not_designated}
 use Rattle.clos_eval.proofs.objects.make.Goals as goal
 
 pub returns-in-Err-clause-turns : goal.returns-in-Err-clause-turns

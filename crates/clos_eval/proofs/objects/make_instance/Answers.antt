@@ -1,7 +1,7 @@
 use Rattle.clos_world.specs.Values.{only_value}
 use Rattle.clos_world.specs.World.{seen}
-use Rattle.clos_eval.specs.Meaning.{meaning}
-use Rattle.clos_eval.proofs.Running.{nothing_made}
+use Rattle.clos_machine.specs.Meaning.{meaning}
+use Rattle.clos_machine.proofs.Running.{nothing_made}
 use Rattle.clos_eval.proofs.objects.make_instance.Goals as goal
 
 pub returns-in-None-clause-turns : goal.returns-in-None-clause-turns

@@ -1,12 +1,12 @@
 use Rattle.std.proofs.Common.{◌+◌, ◌++◌, ◌∷◌, [], ◌<◌, ◌≤◌, length, arith, ap, sym, ◌∙◌, refl}
 use Rattle.clos_world.specs.World.{State, seen}
-use Rattle.clos_eval.specs.Meaning.{closed, meaning}
-use Rattle.clos_eval.specs.Outcome.{Stopped}
-use Rattle.clos_eval.specs.Machine.{at, resume}
-use Rattle.clos_eval.specs.declared.machine.SystemCall.TheVariants.{Initialize}
-use Rattle.clos_eval.specs.declared.machine.Task.TheVariants.{System}
-use Rattle.clos_eval.proofs.Turns.{then_gave}
-use Rattle.clos_eval.proofs.Running.{made_full, made_no_step, made_next}
+use Rattle.clos_machine.specs.Meaning.{closed, meaning}
+use Rattle.clos_machine.specs.Outcome.{Stopped}
+use Rattle.clos_machine.specs.Machine.{at, resume}
+use Rattle.clos_machine.specs.declared.machine.SystemCall.TheVariants.{Initialize}
+use Rattle.clos_machine.specs.declared.machine.Task.TheVariants.{System}
+use Rattle.clos_machine.proofs.Turns.{then_gave}
+use Rattle.clos_machine.proofs.Running.{made_full, made_no_step, made_next}
 use Rattle.clos_eval.proofs.objects.make_of.Goals as goal
 
 pub returns-then-count-world-clause-turns : goal.returns-then-count-world-clause-turns

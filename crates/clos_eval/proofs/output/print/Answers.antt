@@ -1,6 +1,6 @@
 use Rattle.clos_world.specs.Values.{only_value}
 use Rattle.clos_world.specs.World.{seen}
-use Rattle.clos_eval.proofs.Running.{nothing_printed}
+use Rattle.clos_machine.proofs.Running.{nothing_printed}
 use Rattle.clos_eval.proofs.output.print.Goals as goal
 
 pub returns-in_default-clause-turns : goal.returns-in_default-clause-turns

@@ -1,7 +1,7 @@
 use Rattle.std.proofs.Common.{◌-◌, ap, ◌∙◌}
 use Rattle.clos_world.specs.World.{seen}
-use Rattle.clos_eval.specs.Meaning.{evaluation}
-use Rattle.clos_eval.specs.Outcome.{step_then, then_do}
+use Rattle.clos_machine.specs.Meaning.{evaluation}
+use Rattle.clos_machine.specs.Outcome.{step_then, then_do}
 use Rattle.clos_system.specs.Variable.{given_value, value_given}
 use Rattle.clos_system.proofs.Evaluations.{answers_same, changed_after}
 use Rattle.clos_system.proofs.variable.give_value.Goals as goal

@@ -1,0 +1,16 @@
+use Rattle.std.proofs.Common.{ap, ◌∙◌}
+use Rattle.clos_forms.specs.Form.{cons}
+use Rattle.clos_machine.specs.Machine.{at}
+use Rattle.clos_machine.specs.Meaning.{collected, meaning, setf}
+use Rattle.clos_machine.specs.Outcome.{then_do}
+use Rattle.clos_machine.specs.declared.machine.Action.TheVariants.{NewValue}
+use Rattle.clos_control.proofs.assignment.set_after.Goals as goal
+
+pub returns-clause-leads : goal.returns-clause-leads
+returns-clause-leads c = λ run w h.
+    c.set_by.ensures.leads run w (λ t.
+    ap (λ x. then_do (collected (meaning c.args.machine.now.room) c.args.machine.now.context (cons c.args.first.now c.args.rest.now) (NewValue x c.in_ok-copy-2.field-0) (at c.args.machine.now w) t)
+    (λ u. setf (meaning c.args.machine.now.room) c.args.machine.now.context c.args.others.now u)) c.in_ok-copy.ensures
+    ∙ ap (λ x. then_do (collected (meaning c.args.machine.now.room) c.args.machine.now.context (cons c.args.first.now c.args.rest.now) (NewValue c.args.name.now x) (at c.args.machine.now w) t)
+    (λ u. setf (meaning c.args.machine.now.room) c.args.machine.now.context c.args.others.now u)) c.in_ok-copy-2.ensures
+    ∙ h t)

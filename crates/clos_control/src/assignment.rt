@@ -1,0 +1,522 @@
+//! Assignment (HyperSpec 5.3 `setq`, `setf`, 12.2 `incf`, `decf`).
+ghost use Rattle.std.specs.Prelude.{◌≡◌, ◌∷◌, [], ℕ, ◌+◌, ◌≤◌, drop, MatchOption, option_map, Some};
+ghost use Rattle.lisp_data.specs.Value.{Val};
+ghost use Rattle.lisp_data.specs.ValueView.{value_of};
+ghost use Rattle.lisp_prims.specs.Primitive.{answer};
+ghost use Rattle.clos_forms.specs.Form.{operator_in, parts_in, cons, nil};
+ghost use Rattle.clos_forms.specs.OperatorView.{operator_of, place_of};
+ghost use Rattle.clos_world.specs.Values.{only_value};
+ghost use Rattle.clos_world.specs.World.{State, seen};
+ghost use Rattle.clos_machine.specs.Assignment.{stored, stored_globally, stored_only, made_of, changed, changed_only};
+ghost use Rattle.clos_machine.specs.Fault.{answered};
+ghost use Rattle.clos_machine.specs.Machine.{Leads, Turns, Grows, Becomes, at, inside, targets};
+ghost use Rattle.clos_machine.specs.Meaning.{meaning, acted, alone, collect, collected, setq, setf, assigned, by_amount, changing, changed_place, place_in};
+ghost use Rattle.clos_machine.specs.Outcome.{Run, then_do};
+ghost use Rattle.clos_machine.specs.declared.machine.Action.TheVariants.{NewValue, Store};
+
+use crate::binding::value_of_variable;
+use crate::control::{begin, begin_under, done};
+use clos_forms::{Form, Forms, Operator, Place};
+use clos_machine::fault::of_function;
+use clos_machine::machine::{Action, Doing, Frame, Machine, Task};
+use clos_world::{ConditionKind, Stop, Values, World, about_name, plain};
+use lisp_data::{Name, Value};
+use lisp_prims::Primitive;
+use std::alloc::Global;
+
+/// The variable of a `setq` form at this place, and the next place.
+fn target(form: &Form, place: usize) -> Option<(&Name, usize)>
+    ensures { MatchOption result (drop place (targets (operator_in form.now)) ≡ []) (λ p. drop place (targets (operator_in form.now)) ≡ p.0.now ∷ drop p.1 (targets (operator_in form.now))) }
+{
+    match form.operator() {
+        Operator::Setq(names) => next_of(names.as_slice(), place),
+        _ => None,
+    }
+}
+
+fn next_of(names: &[Name], place: usize) -> Option<(&Name, usize)>
+    ensures { MatchOption result (drop place names.now ≡ []) (λ p. drop place names.now ≡ p.0.now ∷ drop p.1 names.now) }
+{
+    if place >= names.len() {
+        return None;
+    }
+    Some((&names[place], place + 1))
+}
+
+/// The next variable of a `setq` form gets its value.
+pub fn set_next(
+    alloc: Global,
+    machine: &mut Machine,
+    form: &Form,
+    place: usize,
+    forms: &Forms,
+    value: Value,
+) -> Result<Doing, Stop>
+    ensures leads { (run : Run) (w : State)
+        → ((t : ℕ) → setq (meaning machine.old.room) machine.old.context (drop place (targets (operator_in form.now))) forms.now (value_of value) (at machine.old w) t ≡ run (at machine.old w) t)
+        → Leads (inside machine.old run) w result machine.new }
+    ensures small { Grows 6 machine.old.levels result machine.new }
+{
+    match target(form, place) {
+        None => Ok(done(machine, value)),
+        Some((name, next)) => set_target(alloc, machine, form, name, next, forms),
+    }
+}
+
+/// This variable of a `setq` form gets its value.
+#[tactic(auto, using(clos_machine::proofs::Turns::stopped_through))]
+fn set_target(
+    alloc: Global,
+    machine: &mut Machine,
+    form: &Form,
+    name: &Name,
+    next: usize,
+    forms: &Forms,
+) -> Result<Doing, Stop>
+    ensures leads { (run : Run) (w : State) (v : Val)
+        → ((t : ℕ) → setq (meaning machine.old.room) machine.old.context (name.now ∷ drop next (targets (operator_in form.now))) forms.now v (at machine.old w) t ≡ run (at machine.old w) t)
+        → Leads (inside machine.old run) w result machine.new }
+    ensures small { Grows 6 machine.old.levels result machine.new }
+{
+    match forms.split_first() {
+        None => Err(Stop::Refused(plain(alloc, ConditionKind::ProgramError))),
+        Some((first, others)) => {
+            let value = Task::Plain(first.copy()?);
+            let action = Action::Store(name.copy()?);
+            let outer = Frame::Setq(form.copy()?, next, others.copy()?);
+            let frame = Frame::Collect(action, Forms::new(), Values::new(alloc));
+            begin_under(machine, value, frame, outer)
+        }
+    }
+}
+
+/// The next place of a `setf` form gets its value.
+pub fn set_next_place(
+    alloc: Global,
+    machine: &mut Machine,
+    forms: &Forms,
+    value: Value,
+) -> Result<Doing, Stop>
+    ensures leads { (run : Run) (w : State)
+        → ((t : ℕ) → setf (meaning machine.old.room) machine.old.context forms.now (value_of value) (at machine.old w) t ≡ run (at machine.old w) t)
+        → Leads (inside machine.old run) w result machine.new }
+    ensures small { Grows 6 machine.old.levels result machine.new }
+{
+    match forms.split_first() {
+        None => Ok(done(machine, value)),
+        Some((place, rest)) => set_pair(alloc, machine, place, rest),
+    }
+}
+
+/// A place gets the value of the first of these forms, and then the next place its own.
+#[tactic(auto, using(clos_machine::proofs::Turns::stopped_through))]
+fn set_pair(alloc: Global, machine: &mut Machine, place: &Form, rest: &Forms) -> Result<Doing, Stop>
+    ensures leads { (run : Run) (w : State) (v : Val)
+        → ((t : ℕ) → setf (meaning machine.old.room) machine.old.context (cons place.now rest.now) v (at machine.old w) t ≡ run (at machine.old w) t)
+        → Leads (inside machine.old run) w result machine.new }
+    ensures small { Grows 6 machine.old.levels result machine.new }
+{
+    match rest.split_first() {
+        None => Err(Stop::Refused(plain(alloc, ConditionKind::ProgramError))),
+        Some((form, others)) => set_place(alloc, machine, place, form, others),
+    }
+}
+
+/// The place that an operator stands for.
+fn place_named(operator: &Operator) -> Option<&Place>
+    ensures { option_map (λ p. place_of p.now) result ≡ place_in (operator_of operator.now) }
+{
+    match operator {
+        Operator::Place(place) => Some(place),
+        _ => None,
+    }
+}
+
+/// A place gets the value of a form; then the next one of these.
+#[tactic(auto, using(clos_machine::proofs::Turns::stopped_through))]
+fn set_place(
+    alloc: Global,
+    machine: &mut Machine,
+    place: &Form,
+    form: &Form,
+    others: &Forms,
+) -> Result<Doing, Stop>
+    ensures leads { (run : Run) (w : State)
+        → ((t : ℕ) → then_do (assigned (meaning machine.old.room) machine.old.context (place_in (operator_in place.now)) (parts_in place.now) form.now (at machine.old w) t) (λ u. setf (meaning machine.old.room) machine.old.context others.now u) ≡ run (at machine.old w) t)
+        → Leads (inside machine.old run) w result machine.new }
+    ensures small { Grows 6 machine.old.levels result machine.new }
+{
+    match place_named(place.operator()) {
+        None => Err(Stop::Refused(plain(alloc, ConditionKind::ProgramError))),
+        Some(named) => set_to(alloc, machine, named, place.parts(), form, others),
+    }
+}
+
+#[tactic(auto, using(clos_machine::proofs::Turns::stopped_through))]
+fn set_to(
+    alloc: Global,
+    machine: &mut Machine,
+    place: &Place,
+    parts: &Forms,
+    form: &Form,
+    others: &Forms,
+) -> Result<Doing, Stop>
+    ensures leads { (run : Run) (w : State)
+        → ((t : ℕ) → then_do (assigned (meaning machine.old.room) machine.old.context (Some (place_of place.now)) parts.now form.now (at machine.old w) t) (λ u. setf (meaning machine.old.room) machine.old.context others.now u) ≡ run (at machine.old w) t)
+        → Leads (inside machine.old run) w result machine.new }
+    ensures small { Grows 6 machine.old.levels result machine.new }
+{
+    match place {
+        Place::Variable(name) => set_variable(alloc, machine, name, form, others),
+        Place::SlotValue => Err(Stop::Refused(plain(alloc, ConditionKind::Unsupported))),
+        Place::Call(name) => set_through(alloc, machine, name, parts, form, others),
+    }
+}
+
+/// A variable gets the value of a form; then the next one of these places its own.
+fn set_variable(
+    alloc: Global,
+    machine: &mut Machine,
+    name: &Name,
+    form: &Form,
+    others: &Forms,
+) -> Result<Doing, Stop>
+    ensures leads { (run : Run) (w : State)
+        → ((t : ℕ) → then_do (collected (meaning machine.old.room) machine.old.context (alone form.now) (Store name.now) (at machine.old w) t) (λ u. setf (meaning machine.old.room) machine.old.context others.now u) ≡ run (at machine.old w) t)
+        → Leads (inside machine.old run) w result machine.new }
+    ensures small { Grows 6 machine.old.levels result machine.new }
+{
+    let value = Task::Plain(form.copy()?);
+    let action = Action::Store(name.copy()?);
+    let outer = Frame::Setf(others.copy()?);
+    let inner = Frame::Collect(action, Forms::new(), Values::new(alloc));
+    begin_under(machine, value, inner, outer)
+}
+
+/// What a call is set by gets the call's arguments and the value of a form; then the next one of these places its own.
+fn set_through(
+    alloc: Global,
+    machine: &mut Machine,
+    name: &Name,
+    parts: &Forms,
+    form: &Form,
+    others: &Forms,
+) -> Result<Doing, Stop>
+    ensures leads { (run : Run) (w : State)
+        → ((t : ℕ) → then_do (collected (meaning machine.old.room) machine.old.context parts.now (NewValue name.now form.now) (at machine.old w) t) (λ u. setf (meaning machine.old.room) machine.old.context others.now u) ≡ run (at machine.old w) t)
+        → Leads (inside machine.old run) w result machine.new }
+    ensures small { Grows 6 machine.old.levels result machine.new }
+{
+    match parts.split_first() {
+        None => set_alone(alloc, machine, name, form, others),
+        Some((first, rest)) => set_after(alloc, machine, name, first, rest, form, others),
+    }
+}
+
+fn set_alone(
+    alloc: Global,
+    machine: &mut Machine,
+    name: &Name,
+    form: &Form,
+    others: &Forms,
+) -> Result<Doing, Stop>
+    ensures leads { (run : Run) (w : State)
+        → ((t : ℕ) → then_do (collected (meaning machine.old.room) machine.old.context nil (NewValue name.now form.now) (at machine.old w) t) (λ u. setf (meaning machine.old.room) machine.old.context others.now u) ≡ run (at machine.old w) t)
+        → Leads (inside machine.old run) w result machine.new }
+    ensures small { Grows 6 machine.old.levels result machine.new }
+{
+    let value = Task::Plain(form.copy()?);
+    let action = Action::CallSetter(name.copy()?);
+    let outer = Frame::Setf(others.copy()?);
+    let inner = Frame::Collect(action, Forms::new(), Values::new(alloc));
+    begin_under(machine, value, inner, outer)
+}
+
+fn set_after(
+    alloc: Global,
+    machine: &mut Machine,
+    name: &Name,
+    first: &Form,
+    rest: &Forms,
+    form: &Form,
+    others: &Forms,
+) -> Result<Doing, Stop>
+    ensures leads { (run : Run) (w : State)
+        → ((t : ℕ) → then_do (collected (meaning machine.old.room) machine.old.context (cons first.now rest.now) (NewValue name.now form.now) (at machine.old w) t) (λ u. setf (meaning machine.old.room) machine.old.context others.now u) ≡ run (at machine.old w) t)
+        → Leads (inside machine.old run) w result machine.new }
+    ensures small { Grows 6 machine.old.levels result machine.new }
+{
+    let action = Action::NewValue(name.copy()?, form.copy()?);
+    set_by(alloc, machine, action, first, rest, others)
+}
+
+/// An action is done with the values of these forms; then the next one of these places gets its own.
+fn set_by(
+    alloc: Global,
+    machine: &mut Machine,
+    action: Action,
+    first: &Form,
+    rest: &Forms,
+    others: &Forms,
+) -> Result<Doing, Stop>
+    ensures leads { (run : Run) (w : State)
+        → ((t : ℕ) → then_do (collected (meaning machine.old.room) machine.old.context (cons first.now rest.now) action (at machine.old w) t) (λ u. setf (meaning machine.old.room) machine.old.context others.now u) ≡ run (at machine.old w) t)
+        → Leads (inside machine.old run) w result machine.new }
+    ensures small { Grows 6 machine.old.levels result machine.new }
+{
+    let next = Task::Plain(first.copy()?);
+    let outer = Frame::Setf(others.copy()?);
+    let inner = Frame::Collect(action, rest.copy()?, Values::new(alloc));
+    begin_under(machine, next, inner, outer)
+}
+
+/// A variable is changed by an amount.
+#[tactic(auto, using(clos_machine::proofs::Turns::stopped_through))]
+pub fn change(
+    alloc: Global,
+    machine: &mut Machine,
+    primitive: Primitive,
+    parts: &Forms,
+) -> Result<Doing, Stop>
+    ensures leads { (run : Run) (w : State)
+        → ((t : ℕ) → changing (meaning machine.old.room) machine.old.context primitive parts.now (at machine.old w) t ≡ run (at machine.old w) t)
+        → Leads (inside machine.old run) w result machine.new }
+    ensures small { Grows 8 machine.old.levels result machine.new }
+{
+    match parts.split_first() {
+        None => Err(Stop::Refused(plain(alloc, ConditionKind::ProgramError))),
+        Some((place, amount)) => change_place(alloc, machine, primitive, place.operator(), amount),
+    }
+}
+
+#[tactic(auto, using(clos_machine::proofs::Turns::stopped_through))]
+fn change_place(
+    alloc: Global,
+    machine: &mut Machine,
+    primitive: Primitive,
+    operator: &Operator,
+    amount: &Forms,
+) -> Result<Doing, Stop>
+    ensures leads { (run : Run) (w : State)
+        → ((t : ℕ) → changed_place (meaning machine.old.room) machine.old.context primitive (place_in (operator_of operator.now)) amount.now (at machine.old w) t ≡ run (at machine.old w) t)
+        → Leads (inside machine.old run) w result machine.new }
+    ensures small { Grows 8 machine.old.levels result machine.new }
+{
+    match place_named(operator) {
+        None => Err(Stop::Refused(plain(alloc, ConditionKind::ProgramError))),
+        Some(place) => change_named(alloc, machine, primitive, place, amount),
+    }
+}
+
+#[tactic(auto, using(clos_machine::proofs::Turns::stopped_through))]
+fn change_named(
+    alloc: Global,
+    machine: &mut Machine,
+    primitive: Primitive,
+    place: &Place,
+    amount: &Forms,
+) -> Result<Doing, Stop>
+    ensures leads { (run : Run) (w : State)
+        → ((t : ℕ) → changed_place (meaning machine.old.room) machine.old.context primitive (Some (place_of place.now)) amount.now (at machine.old w) t ≡ run (at machine.old w) t)
+        → Leads (inside machine.old run) w result machine.new }
+    ensures small { Grows 8 machine.old.levels result machine.new }
+{
+    match place {
+        Place::Variable(name) => {
+            let action = Action::Change(primitive, name.copy()?);
+            change_by(alloc, machine, action, amount)
+        }
+        Place::SlotValue => Err(Stop::Refused(plain(alloc, ConditionKind::Unsupported))),
+        Place::Call(_) => Err(Stop::Refused(plain(alloc, ConditionKind::Unsupported))),
+    }
+}
+
+/// The amount is 1 where none is written.
+fn change_by(
+    alloc: Global,
+    machine: &mut Machine,
+    action: Action,
+    amount: &Forms,
+) -> Result<Doing, Stop>
+    ensures leads { (run : Run) (w : State)
+        → ((t : ℕ) → by_amount (meaning machine.old.room) machine.old.context amount.now action (at machine.old w) t ≡ run (at machine.old w) t)
+        → Leads (inside machine.old run) w result machine.new }
+    ensures small { Grows 8 machine.old.levels result machine.new }
+{
+    let mut values = Values::new(alloc);
+    match amount.split_first() {
+        None => {
+            values.push(Value::Int(1))?;
+            Ok(Doing::Act(action, values))
+        }
+        Some((first, others)) => begin_values(machine, action, first, others, values),
+    }
+}
+
+/// The first of the values that an action is done with.
+fn begin_values(
+    machine: &mut Machine,
+    action: Action,
+    first: &Form,
+    others: &Forms,
+    values: Values,
+) -> Result<Doing, Stop>
+    ensures leads { (run : Run) (w : State)
+        → ((t : ℕ) → collect (meaning machine.old.room) machine.old.context (cons first.now others.now) values (acted (meaning machine.old.room) machine.old.context action) (at machine.old w) t ≡ run (at machine.old w) t)
+        → Leads (inside machine.old run) w result machine.new }
+    ensures small { Grows 4 machine.old.levels result machine.new }
+{
+    let next = Task::Plain(first.copy()?);
+    let rest = others.copy()?;
+    begin(machine, next, Frame::Collect(action, rest, values))
+}
+
+/// The value goes to the variable of this name.
+fn store(
+    alloc: Global,
+    machine: &mut Machine,
+    world: &mut World,
+    name: &Name,
+    value: Value,
+    steps: &mut u64,
+) -> Result<Doing, Stop>
+    ensures turns { Turns (inside machine.old (stored name.now (value_of value))) (seen world.old) steps.old result machine.new (seen world.new) steps.new }
+    ensures small { Grows 5 machine.old.levels result machine.new }
+    ensures fewer { steps.new ≤ steps.old }
+{
+    let given = value.copy()?;
+    match machine.locals.set(name, value) {
+        None => Ok(Doing::Give(given)),
+        Some(value) => store_globally(alloc, machine, world, name, value, given, steps),
+    }
+}
+
+/// The value goes to the global variable of this name, which takes a step.
+fn store_globally(
+    alloc: Global,
+    machine: &Machine,
+    world: &mut World,
+    name: &Name,
+    value: Value,
+    given: Value,
+    steps: &mut u64,
+) -> Result<Doing, Stop>
+    requires { value_of given ≡ value_of value }
+    ensures turns { Turns (inside machine.now (stored_globally name.now (value_of value))) (seen world.old) steps.old result machine.now (seen world.new) steps.new }
+    ensures small { Grows 5 machine.now.levels result machine.now }
+    ensures fewer { steps.new ≤ steps.old }
+{
+    let _ = machine;
+    if !world.globals.has(name) {
+        let condition = about_name(alloc, ConditionKind::UnboundVariable, name)?;
+        return Err(Stop::Refused(condition));
+    }
+    if *steps == 0 {
+        return Err(Stop::Refused(plain(alloc, ConditionKind::StepLimit)));
+    }
+    let name = name.copy()?;
+    let Ok(()) = world.globals.set(name, Some(value)) else {
+        return Err(Stop::Storage);
+    };
+    *steps -= 1;
+    Ok(Doing::Give(given))
+}
+
+/// The one value goes to the variable of this name.
+pub fn store_only(
+    alloc: Global,
+    machine: &mut Machine,
+    world: &mut World,
+    name: &Name,
+    values: &Values,
+    steps: &mut u64,
+) -> Result<Doing, Stop>
+    ensures turns { Turns (inside machine.old (stored_only name.now (only_value values.now))) (seen world.old) steps.old result machine.new (seen world.new) steps.new }
+    ensures small { Grows 5 machine.old.levels result machine.new }
+    ensures fewer { steps.new ≤ steps.old }
+{
+    match values.only() {
+        None => Err(Stop::Refused(plain(alloc, ConditionKind::ProgramError))),
+        Some(value) => store(alloc, machine, world, name, value.copy()?, steps),
+    }
+}
+
+/// What the function makes of a variable's value and of this one goes to the variable.
+pub fn change_only(
+    alloc: Global,
+    machine: &mut Machine,
+    world: &mut World,
+    primitive: Primitive,
+    name: &Name,
+    values: &Values,
+    steps: &mut u64,
+) -> Result<Doing, Stop>
+    ensures turns { Turns (inside machine.old (changed_only primitive name.now (only_value values.now))) (seen world.old) steps.old result machine.new (seen world.new) steps.new }
+    ensures small { Grows 5 machine.old.levels result machine.new }
+    ensures fewer { steps.new ≤ steps.old }
+{
+    match values.only() {
+        None => Err(Stop::Refused(plain(alloc, ConditionKind::ProgramError))),
+        Some(amount) => change_by_value(
+            alloc,
+            machine,
+            world,
+            primitive,
+            name,
+            amount.copy()?,
+            steps,
+        ),
+    }
+}
+
+fn change_by_value(
+    alloc: Global,
+    machine: &mut Machine,
+    world: &mut World,
+    primitive: Primitive,
+    name: &Name,
+    amount: Value,
+    steps: &mut u64,
+) -> Result<Doing, Stop>
+    ensures turns { Turns (inside machine.old (changed primitive name.now (value_of amount))) (seen world.old) steps.old result machine.new (seen world.new) steps.new }
+    ensures small { Grows 5 machine.old.levels result machine.new }
+    ensures fewer { steps.new ≤ steps.old }
+{
+    match new_value_of(alloc, machine, world, primitive, name, amount) {
+        Ok(value) => store(alloc, machine, world, name, value, steps),
+        Err(stop) => Err(stop),
+    }
+}
+
+/// What the function makes of a variable's value and of this one.
+fn new_value_of(
+    alloc: Global,
+    machine: &Machine,
+    world: &World,
+    primitive: Primitive,
+    name: &Name,
+    amount: Value,
+) -> Result<Value, Stop>
+    ensures { Becomes (made_of primitive name.now (value_of amount)) (at machine.now (seen world.now)) result }
+{
+    match value_of_variable(machine, world, name) {
+        None => {
+            let condition = about_name(alloc, ConditionKind::UnboundVariable, name)?;
+            Err(Stop::Refused(condition))
+        }
+        Some(old) => combine(alloc, primitive, old, amount),
+    }
+}
+
+/// What the function makes of these values.
+fn combine(alloc: Global, primitive: Primitive, old: &Value, amount: Value) -> Result<Value, Stop>
+    ensures { (w : State) → Becomes (answered (answer primitive (value_of old.now ∷ value_of amount ∷ []))) w result }
+{
+    let mut values = Values::new(alloc);
+    values.push(old.copy()?)?;
+    values.push(amount)?;
+    match primitive.call(alloc, values.as_slice()) {
+        Ok(value) => Ok(value),
+        Err(fault) => Err(of_function(alloc, fault)),
+    }
+}

@@ -1,0 +1,216 @@
+//! Forms one after another, and conditionals (HyperSpec 5.3).
+ghost use Rattle.std.specs.Prelude.{◌≡◌, ℕ, ◌+◌};
+ghost use Rattle.lisp_data.specs.ValueView.{value_of};
+ghost use Rattle.clos_world.specs.World.{State};
+ghost use Rattle.clos_machine.specs.Control.{going, followed, branch, keeping, clauses, clause, tested};
+ghost use Rattle.clos_machine.specs.Machine.{Leads, Grows, at, inside, below, after, weight_of};
+ghost use Rattle.clos_machine.specs.Meaning.{meaning};
+ghost use Rattle.clos_machine.specs.Outcome.{Run, Gave, then_do};
+
+use clos_forms::Forms;
+use clos_machine::machine::{Control, Doing, Frame, Level, Machine, Task};
+use clos_machine::truth::{is_true, nil};
+use clos_world::Stop;
+use lisp_data::Value;
+
+/// Evaluates this next, and then does what the frame does with its value.
+pub fn begin(machine: &mut Machine, next: Task, frame: Frame) -> Result<Doing, Stop>
+    ensures leads { (run : Run) (w : State) → below machine.old.context frame ≡ machine.old.context
+        → ((t : ℕ) → then_do (meaning machine.old.room machine.old.context next (at machine.old w) t) (after (meaning machine.old.room) machine.old.context frame) ≡ run (at machine.old w) t)
+        → Leads (inside machine.old run) w result machine.new }
+    ensures small { Grows (weight_of frame) machine.old.levels result machine.new }
+{
+    let room = machine.room;
+    machine.levels.push(Level { frame, room })?;
+    Ok(Doing::Start(next))
+}
+
+/// The same, and after the frame what another does with its value.
+pub fn begin_under(
+    machine: &mut Machine,
+    next: Task,
+    frame: Frame,
+    outer: Frame,
+) -> Result<Doing, Stop>
+    ensures leads { (run : Run) (w : State) → below machine.old.context frame ≡ machine.old.context → below machine.old.context outer ≡ machine.old.context
+        → ((t : ℕ) → then_do (then_do (meaning machine.old.room machine.old.context next (at machine.old w) t) (after (meaning machine.old.room) machine.old.context frame)) (after (meaning machine.old.room) machine.old.context outer) ≡ run (at machine.old w) t)
+        → Leads (inside machine.old run) w result machine.new }
+    ensures small { Grows (weight_of frame + weight_of outer) machine.old.levels result machine.new }
+{
+    let room = machine.room;
+    machine.levels.push(Level { frame: outer, room })?;
+    machine.levels.push(Level { frame, room })?;
+    Ok(Doing::Start(next))
+}
+
+/// Gives this value.
+pub fn done(machine: &Machine, value: Value) -> Doing
+    ensures leads { (run : Run) (w : State) → ((t : ℕ) → run (at machine.now w) t ≡ Gave (value_of value) (at machine.now w) t)
+        → Leads (inside machine.now run) w (Ok result) machine.now }
+    ensures small { Grows 6 machine.now.levels (Ok result) machine.now }
+{
+    let _ = machine;
+    Doing::Give(value)
+}
+
+/// Evaluates this next, whose value is the machine's.
+pub fn turn_to(machine: &Machine, next: Task) -> Doing
+    ensures leads { (run : Run) (w : State) → ((t : ℕ) → meaning machine.now.room machine.now.context next (at machine.now w) t ≡ run (at machine.now w) t)
+        → Leads (inside machine.now run) w (Ok result) machine.now }
+    ensures small { Grows 6 machine.now.levels (Ok result) machine.now }
+{
+    let _ = machine;
+    Doing::Start(next)
+}
+
+/// The next of these forms, or this value where there is none.
+pub fn go_on(
+    machine: &mut Machine,
+    control: Control,
+    forms: &Forms,
+    value: Value,
+) -> Result<Doing, Stop>
+    ensures leads { (run : Run) (w : State)
+        → ((t : ℕ) → going (meaning machine.old.room) machine.old.context control forms.now (value_of value) (at machine.old w) t ≡ run (at machine.old w) t)
+        → Leads (inside machine.old run) w result machine.new }
+    ensures small { Grows 6 machine.old.levels result machine.new }
+{
+    match forms.split_first() {
+        None => Ok(done(machine, value)),
+        Some((first, others)) => {
+            let next = Task::Plain(first.copy()?);
+            let rest = others.copy()?;
+            begin(machine, next, Frame::Rest(control, rest))
+        }
+    }
+}
+
+/// What follows the value of a form, with these forms left.
+#[tactic(auto, using(clos_machine::proofs::Turns::going_progn, clos_machine::proofs::Turns::going_and, clos_machine::proofs::Turns::going_or))]
+pub fn follow(
+    machine: &mut Machine,
+    control: Control,
+    rest: &Forms,
+    value: Value,
+) -> Result<Doing, Stop>
+    ensures leads { (run : Run) (w : State)
+        → ((t : ℕ) → followed (meaning machine.old.room) machine.old.context control rest.now (value_of value) (at machine.old w) t ≡ run (at machine.old w) t)
+        → Leads (inside machine.old run) w result machine.new }
+    ensures small { Grows 6 machine.old.levels result machine.new }
+{
+    match control {
+        Control::Progn => go_on(machine, Control::Progn, rest, value),
+        Control::Prog1 => keep(machine, rest, value),
+        Control::If => branch(machine, is_true(&value), rest),
+        Control::When => {
+            if is_true(&value) {
+                return go_on(machine, Control::Progn, rest, nil());
+            }
+            Ok(done(machine, nil()))
+        }
+        Control::Unless => {
+            if is_true(&value) {
+                return Ok(done(machine, nil()));
+            }
+            go_on(machine, Control::Progn, rest, nil())
+        }
+        Control::And => {
+            if is_true(&value) {
+                return go_on(machine, Control::And, rest, value);
+            }
+            Ok(done(machine, value))
+        }
+        Control::Or => {
+            if is_true(&value) {
+                return Ok(done(machine, value));
+            }
+            go_on(machine, Control::Or, rest, value)
+        }
+    }
+}
+
+/// Of an if form, the form where its test holds, or the one where it does not.
+#[tactic(auto, using(clos_machine::proofs::Turns::going_progn))]
+fn branch(machine: &mut Machine, holds: bool, forms: &Forms) -> Result<Doing, Stop>
+    ensures leads { (run : Run) (w : State)
+        → ((t : ℕ) → branch (meaning machine.old.room) machine.old.context holds forms.now (at machine.old w) t ≡ run (at machine.old w) t)
+        → Leads (inside machine.old run) w result machine.new }
+    ensures small { Grows 6 machine.old.levels result machine.new }
+{
+    match forms.split_first() {
+        None => Ok(done(machine, nil())),
+        Some((first, others)) => {
+            if holds {
+                return Ok(turn_to(machine, Task::Plain(first.copy()?)));
+            }
+            go_on(machine, Control::Progn, others, nil())
+        }
+    }
+}
+
+/// This value, after these forms.
+pub fn keep(machine: &mut Machine, forms: &Forms, value: Value) -> Result<Doing, Stop>
+    ensures leads { (run : Run) (w : State)
+        → ((t : ℕ) → keeping (meaning machine.old.room) machine.old.context forms.now (value_of value) (at machine.old w) t ≡ run (at machine.old w) t)
+        → Leads (inside machine.old run) w result machine.new }
+    ensures small { Grows 6 machine.old.levels result machine.new }
+{
+    match forms.split_first() {
+        None => Ok(done(machine, value)),
+        Some((first, others)) => {
+            let next = Task::Plain(first.copy()?);
+            let rest = others.copy()?;
+            begin(machine, next, Frame::Keep(rest, value))
+        }
+    }
+}
+
+/// The next clause of a cond form, or NIL.
+pub fn next_clause(machine: &mut Machine, forms: &Forms) -> Result<Doing, Stop>
+    ensures leads { (run : Run) (w : State)
+        → ((t : ℕ) → clauses (meaning machine.old.room) machine.old.context forms.now (at machine.old w) t ≡ run (at machine.old w) t)
+        → Leads (inside machine.old run) w result machine.new }
+    ensures small { Grows 6 machine.old.levels result machine.new }
+{
+    match forms.split_first() {
+        None => Ok(done(machine, nil())),
+        Some((first, others)) => test_clause(machine, first.parts(), others),
+    }
+}
+
+/// The test of a clause, before these clauses.
+fn test_clause(machine: &mut Machine, forms: &Forms, others: &Forms) -> Result<Doing, Stop>
+    ensures leads { (run : Run) (w : State)
+        → ((t : ℕ) → clause (meaning machine.old.room) machine.old.context forms.now (clauses (meaning machine.old.room) machine.old.context others.now) (at machine.old w) t ≡ run (at machine.old w) t)
+        → Leads (inside machine.old run) w result machine.new }
+    ensures small { Grows 6 machine.old.levels result machine.new }
+{
+    match forms.split_first() {
+        None => Ok(done(machine, nil())),
+        Some((test, body)) => {
+            let next = Task::Plain(test.copy()?);
+            let body = body.copy()?;
+            let others = others.copy()?;
+            begin(machine, next, Frame::Clause(body, others))
+        }
+    }
+}
+
+/// A clause whose test has this value, or the next one.
+#[tactic(auto, using(clos_machine::proofs::Turns::going_progn))]
+pub fn clause_tested(
+    machine: &mut Machine,
+    forms: &Forms,
+    others: &Forms,
+    value: Value,
+) -> Result<Doing, Stop>
+    ensures leads { (run : Run) (w : State)
+        → ((t : ℕ) → tested (meaning machine.old.room) machine.old.context forms.now (clauses (meaning machine.old.room) machine.old.context others.now) (value_of value) (at machine.old w) t ≡ run (at machine.old w) t)
+        → Leads (inside machine.old run) w result machine.new }
+    ensures small { Grows 6 machine.old.levels result machine.new }
+{
+    if is_true(&value) {
+        return go_on(machine, Control::Progn, forms, value);
+    }
+    next_clause(machine, others)
+}

@@ -1,0 +1,6 @@
+//! Forms one after another, conditionals, variables and assignment.
+#![tactic(auto)]
+
+pub mod assignment;
+pub mod binding;
+pub mod control;

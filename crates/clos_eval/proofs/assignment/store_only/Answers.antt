@@ -1,8 +1,0 @@
-use Rattle.clos_world.specs.Values.{only_value}
-use Rattle.clos_world.specs.World.{seen}
-use Rattle.clos_eval.proofs.Running.{nothing_stored}
-use Rattle.clos_eval.proofs.assignment.store_only.Goals as goal
-
-pub returns-in-None-clause-turns : goal.returns-in-None-clause-turns
-returns-in-None-clause-turns c =
-    nothing_stored c.args.machine.now c.args.name.now (only_value c.args.values.now) c.plain.result (seen c.args.world.now) c.args.steps.now c.in-None.ensures c.plain.ensures

@@ -1,0 +1,420 @@
+-- Evaluation defines nothing.
+use Rattle.std.proofs.Common.{◌≡◌, ℕ, zero, suc, ◌==◌, List, [], ◌∷◌, ◌++◌, map, Option, Some, None, Result, Ok, Err, Bool, true, false, length, slice_get, refl, ◌∙◌}
+use Rattle.std.specs.Prelude.{pos, is_some, nat_lt, if◌then◌else◌}
+use Rattle.lisp_data.specs.Name.{Nam}
+use Rattle.lisp_data.specs.Print.{Called, by_symbol, by_setf}
+use Rattle.lisp_data.specs.Value.{Val}
+use Rattle.lisp_data.specs.Value as value
+use Rattle.lisp_prims.specs.Fault as prims
+use Rattle.lisp_prims.specs.Primitive.{answer}
+use Rattle.lisp_prims.specs.declared.arithmetic.Arithmetic.TheVariants.{Sum, Difference}
+use Rattle.lisp_prims.specs.declared.primitive.Primitive as of_values
+use Rattle.lisp_prims.specs.declared.primitive.Primitive.TheVariants.{Number}
+use Rattle.clos_forms.specs.Form.{Frm, Frms, nil, cons, parts_in, operator_in}
+use Rattle.clos_forms.specs.Operator as of
+use Rattle.clos_forms.specs.Operator.{Opr, Bound, Plc, variable_place, slot_value_place, call_place}
+use Rattle.clos_forms.specs.Quotation.{name_value}
+use Rattle.clos_world.specs.Definitions.{Same}
+use Rattle.clos_world.specs.Functions.{function_in}
+use Rattle.clos_world.specs.Generic.{function_named, ordered}
+use Rattle.clos_world.specs.Globals.{is_global, any_global}
+use Rattle.clos_world.specs.Values.{only_value, last_first}
+use Rattle.clos_world.specs.World.{State, Local, bound_as, unbound, local_named, names_of, lists_of}
+use Rattle.clos_world.specs.declared.condition.Condition.{Condition}
+use Rattle.clos_world.specs.declared.condition.ConditionKind.TheVariants.{DepthLimit}
+use Rattle.clos_world.specs.declared.functions.Function.{Function}
+use Rattle.clos_world.specs.declared.generic.Generic.{Generic}
+use Rattle.clos_world.specs.declared.generic.Method.{Method}
+use Rattle.clos_machine.specs.Assignment.{stored, stored_globally, stored_only, made_of, changed_only, global_set}
+use Rattle.clos_machine.specs.Callee.{callee_of}
+use Rattle.clos_machine.specs.Calls.{known, restoring, parameters_run, body_run, applied_to, called_defined, called_setter, setter_value, dispatched, called_generic, called_function, method_run, combined, system, applied}
+use Rattle.clos_machine.specs.Control.{keeping, sequence, while_true, until_true, branch, followed, going, tested, clause, clauses}
+use Rattle.clos_machine.specs.Effective.{Effective, call_method, progn, prog1}
+use Rattle.clos_machine.specs.Fault.{answered}
+use Rattle.clos_machine.specs.Meaning.{acted, collect, collected, alone, setq, setf, assigned, place_in, by_amount, changing, changed_place, other_function, is_plain_function, symbol_function, function_value, operated, begun, meaning, closed, evaluation}
+use Rattle.clos_machine.specs.Objects.{made, designated, allocated, instance_made}
+use Rattle.clos_machine.specs.Outcome.{Out, Gave, Stopped, Run, Eval, then_do, step_then, stopped, is_true}
+use Rattle.clos_machine.specs.Output.{output_of, text_by, written, line_ended}
+use Rattle.clos_machine.specs.Parameters.{Sources, argument, refused, init, fits, required_sources, sources}
+use Rattle.clos_machine.specs.Variables.{Loop, found_value, variable_value, inner, leaving, init_form, within, binding, in_order, together, aside, name_in, counted, body_of, result_value, turns, turns_in, repeated, dotimes}
+use Rattle.clos_machine.specs.declared.arguments.Context.{Context}
+use Rattle.clos_machine.specs.declared.callee.Callee.{Callee}
+use Rattle.clos_machine.specs.declared.callee.Callee.TheVariants.{Output, Terpri, Primitive, MakeInstance, Defined}
+use Rattle.clos_machine.specs.declared.callee.Output as output
+use Rattle.clos_machine.specs.declared.machine.Action.{Action}
+use Rattle.clos_machine.specs.declared.machine.Action.TheVariants.{Call, CallSetter, Store, Change, NewValue}
+use Rattle.clos_machine.specs.declared.machine.Control.{Control}
+use Rattle.clos_machine.specs.declared.machine.Control.TheVariants.{Progn, Prog1, If, When, Unless, And, Or}
+use Rattle.clos_machine.specs.declared.machine.SystemCall.{SystemCall}
+use Rattle.clos_machine.specs.declared.machine.SystemCall.TheVariants.{SignalNoApplicable, Initialize, InitializeShared}
+use Rattle.clos_machine.specs.declared.machine.Task.{Task}
+use Rattle.clos_machine.specs.declared.machine.Task.TheVariants.{Plain, Effect, System}
+
+pub same : (w : State) → Same w w
+same w = (refl, refl, refl, refl, refl)
+
+pub same_then : (w u t : State) → Same w u → Same u t → Same w t
+same_then w u t h g = (g.0 ∙ h.0, g.1 ∙ h.1, g.2 ∙ h.2, g.3 ∙ h.3, g.4 ∙ h.4)
+
+-- the definitions after it are those before
+abbrev pub Kept : State → Out → Type 0
+Kept w (Gave v u k) = Same w u
+Kept w (Stopped c u k) = Same w u
+
+abbrev Keeps : Eval → Type 0
+Keeps ev = (env : Context) (task : Task) (w : State) (k : ℕ) → Kept w (ev env task w k)
+
+shifted : (w u : State) (o : Out) → Same w u → Kept u o → Kept w o
+shifted w u (Gave v t k) h g = same_then w u t h g
+shifted w u (Stopped c t k) h g = same_then w u t h g
+
+then_kept : (w : State) (o : Out) (go : Val → Run) → Kept w o → ((v : Val) (u : State) (k : ℕ) → Kept u (go v u k)) → Kept w (then_do o go)
+then_kept w (Gave v u k) go h g = shifted w u (go v u k) h (g v u k)
+then_kept w (Stopped c u k) go h g = h
+
+choice_kept : (b : Bool) (w : State) (x y : Out) → Kept w x → Kept w y → Kept w (if b then x else y)
+choice_kept true w x y h g = h
+choice_kept false w x y h g = g
+
+step_kept : (run : Run) (w : State) (k : ℕ) → ((j : ℕ) → Kept w (run w j)) → Kept w (step_then run w k)
+step_kept run w zero h = same w
+step_kept run w (suc k) h = h k
+
+-- ---- forms one after another
+
+keeping_kept : (ev : Eval) → Keeps ev → (env : Context) (fs : Frms) (v : Val) (w : State) (k : ℕ) → Kept w (keeping ev env fs v w k)
+keeping_kept ev h env nil v w k = same w
+keeping_kept ev h env (cons f fs) v w k =
+    then_kept w (ev env (Plain f) w k) (λ u. keeping ev env fs v) (h env (Plain f) w k) (λ x u j. keeping_kept ev h env fs v u j)
+
+sequence_kept : (ev : Eval) → Keeps ev → (env : Context) (fs : Frms) (v : Val) (w : State) (k : ℕ) → Kept w (sequence ev env fs v w k)
+sequence_kept ev h env nil v w k = same w
+sequence_kept ev h env (cons f fs) v w k =
+    then_kept w (ev env (Plain f) w k) (λ u. sequence ev env fs u) (h env (Plain f) w k) (λ x u j. sequence_kept ev h env fs x u j)
+
+while_kept : (ev : Eval) → Keeps ev → (env : Context) (fs : Frms) (v : Val) (w : State) (k : ℕ) → Kept w (while_true ev env fs v w k)
+while_kept ev h env nil v w k = same w
+while_kept ev h env (cons f fs) v w k =
+    then_kept w (ev env (Plain f) w k) (λ u t j. if is_true u then while_true ev env fs u t j else Gave u t j) (h env (Plain f) w k)
+    (λ x u j. choice_kept (is_true x) u (while_true ev env fs x u j) (Gave x u j) (while_kept ev h env fs x u j) (same u))
+
+until_kept : (ev : Eval) → Keeps ev → (env : Context) (fs : Frms) (v : Val) (w : State) (k : ℕ) → Kept w (until_true ev env fs v w k)
+until_kept ev h env nil v w k = same w
+until_kept ev h env (cons f fs) v w k =
+    then_kept w (ev env (Plain f) w k) (λ u t j. if is_true u then Gave u t j else until_true ev env fs u t j) (h env (Plain f) w k)
+    (λ x u j. choice_kept (is_true x) u (Gave x u j) (until_true ev env fs x u j) (same u) (until_kept ev h env fs x u j))
+
+abbrev none : Val
+none = value.list value.nil
+
+branch_kept : (ev : Eval) → Keeps ev → (env : Context) (b : Bool) (fs : Frms) (w : State) (k : ℕ) → Kept w (branch ev env b fs w k)
+branch_kept ev h env b nil w k = same w
+branch_kept ev h env b (cons f fs) w k =
+    choice_kept b w (ev env (Plain f) w k) (sequence ev env fs none w k) (h env (Plain f) w k) (sequence_kept ev h env fs none w k)
+
+followed_kept : (ev : Eval) → Keeps ev → (env : Context) (c : Control) (fs : Frms) (v : Val) (w : State) (k : ℕ) → Kept w (followed ev env c fs v w k)
+followed_kept ev h env Progn fs v w k = sequence_kept ev h env fs v w k
+followed_kept ev h env Prog1 fs v w k = keeping_kept ev h env fs v w k
+followed_kept ev h env If fs v w k = branch_kept ev h env (is_true v) fs w k
+followed_kept ev h env When fs v w k =
+    choice_kept (is_true v) w (sequence ev env fs none w k) (Gave none w k) (sequence_kept ev h env fs none w k) (same w)
+followed_kept ev h env Unless fs v w k =
+    choice_kept (is_true v) w (Gave none w k) (sequence ev env fs none w k) (same w) (sequence_kept ev h env fs none w k)
+followed_kept ev h env And fs v w k = choice_kept (is_true v) w (while_true ev env fs v w k) (Gave v w k) (while_kept ev h env fs v w k) (same w)
+followed_kept ev h env Or fs v w k = choice_kept (is_true v) w (Gave v w k) (until_true ev env fs v w k) (same w) (until_kept ev h env fs v w k)
+
+going_kept : (ev : Eval) → Keeps ev → (env : Context) (c : Control) (fs : Frms) (v : Val) (w : State) (k : ℕ) → Kept w (going ev env c fs v w k)
+going_kept ev h env c nil v w k = same w
+going_kept ev h env c (cons f fs) v w k =
+    then_kept w (ev env (Plain f) w k) (λ u. followed ev env c fs u) (h env (Plain f) w k) (λ x u j. followed_kept ev h env c fs x u j)
+
+-- ---- the clauses of a cond form
+
+clause_kept : (ev : Eval) → Keeps ev → (env : Context) (fs : Frms) (rest : Run) → ((u : State) (j : ℕ) → Kept u (rest u j)) → (w : State) (k : ℕ) → Kept w (clause ev env fs rest w k)
+clause_kept ev h env nil rest g w k = same w
+clause_kept ev h env (cons f fs) rest g w k =
+    then_kept w (ev env (Plain f) w k) (λ v. tested ev env fs rest v) (h env (Plain f) w k)
+    (λ v u j. choice_kept (is_true v) u (sequence ev env fs v u j) (rest u j) (sequence_kept ev h env fs v u j) (g u j))
+
+clauses_kept : (ev : Eval) → Keeps ev → (env : Context) (cs : Frms) (w : State) (k : ℕ) → Kept w (clauses ev env cs w k)
+clauses_kept ev h env nil w k = same w
+clauses_kept ev h env (cons c cs) w k =
+    clause_kept ev h env (parts_in c) (λ t j. clauses ev env cs t j) (λ u j. clauses_kept ev h env cs u j) w k
+
+-- ---- calls
+
+collect_kept : (ev : Eval) → Keeps ev → (env : Context) (fs : Frms) (vs : List Val) (go : List Val → Run) → ((us : List Val) (u : State) (j : ℕ) → Kept u (go us u j)) → (w : State) (k : ℕ) → Kept w (collect ev env fs vs go w k)
+collect_kept ev h env nil vs go g w k = g vs w k
+collect_kept ev h env (cons f fs) vs go g w k =
+    then_kept w (ev env (Plain f) w k) (λ v. collect ev env fs (vs ++ v ∷ []) go) (h env (Plain f) w k)
+    (λ v u j. collect_kept ev h env fs (vs ++ v ∷ []) go g u j)
+
+generic_kept : (ev : Eval) → Keeps ev → (vs : List Val) (o : Option Generic) (w : State) (k : ℕ) → Kept w (called_generic ev vs o w k)
+generic_kept ev h vs None w k = same w
+generic_kept ev h vs (Some g) w k =
+    elim (length vs == g.required)
+    as (λ b. Kept w (if b then ev (known vs) (dispatched g.name vs (ordered w.methods (lists_of w vs) g.methods)) w k else called_generic ev vs None w k))
+    [ true ↦ h (known vs) (dispatched g.name vs (ordered w.methods (lists_of w vs) g.methods)) w k | false ↦ same w ]
+
+restored : (l : List Local) (w : State) (o : Out) → Kept w o → Kept w (then_do o (restoring l))
+restored l w (Gave v u k) h = h
+restored l w (Stopped c u k) h = h
+
+binding_kept : (name : Nam) (v : Val) (go : Run) → ((u : State) (j : ℕ) → Kept u (go u j)) → (w : State) (k : ℕ) → Kept w (binding name v go w k)
+binding_kept name v go h w k = choice_kept (is_global w.globals name) w _ (go (inner name v w) k) (same w) (h (inner name v w) k)
+
+parameters_kept : (ev : Eval) → Keeps ev → (env : Context) (ps : Sources) (fs : Frms) (w : State) (k : ℕ) → Kept w (parameters_run ev env ps fs w k)
+parameters_kept ev h env [] fs w k = sequence_kept ev h env fs none w k
+parameters_kept ev h env ((x, argument v) ∷ ps) fs w k =
+    binding_kept x v (parameters_run ev env ps fs) (λ u j. parameters_kept ev h env ps fs u j) w k
+parameters_kept ev h env ((x, refused c) ∷ ps) fs w k = same w
+parameters_kept ev h env ((x, init f) ∷ ps) fs w k =
+    then_kept w (ev env (Plain f) w k) (λ v. binding x v (parameters_run ev env ps fs)) (h env (Plain f) w k)
+    (λ v u j. binding_kept x v (parameters_run ev env ps fs) (λ t i. parameters_kept ev h env ps fs t i) u j)
+
+body_kept : (ev : Eval) → Keeps ev → (vs : List Val) (ps : Sources) (fs : Frms) (w : State) (k : ℕ) → Kept w (body_run ev vs ps fs w k)
+body_kept ev h vs ps fs w k =
+    restored w.locals w (parameters_run ev (known vs) ps fs (bound_as [] w) k) (parameters_kept ev h (known vs) ps fs (bound_as [] w) k)
+
+defined_kept : (ev : Eval) → Keeps ev → (vs : List Val) (name : Val) (o : Option Function) (w : State) (k : ℕ) → Kept w (called_defined ev vs name o w k)
+defined_kept ev h vs name None w k = same w
+defined_kept ev h vs name (Some f) w k =
+    choice_kept (fits f.lambda_list vs) w (body_run ev vs (sources f.lambda_list vs) f.body w k) _ (body_kept ev h vs (sources f.lambda_list vs) f.body w k) (same w)
+
+function_kept : (ev : Eval) → Keeps ev → (name : Nam) (vs : List Val) (o : Option ℕ) (w : State) (k : ℕ) → Kept w (called_function ev name vs o w k)
+function_kept ev h name vs None w k = defined_kept ev h vs (name_value name) (function_in w.functions name) w k
+function_kept ev h name vs (Some g) w k = generic_kept ev h vs (slice_get w.generics g) w k
+
+method_kept : (ev : Eval) → Keeps ev → (vs : List Val) (o : Option Method) (w : State) (k : ℕ) → Kept w (method_run ev vs o w k)
+method_kept ev h vs None w k = same w
+method_kept ev h vs (Some m) w k = body_kept ev h vs (required_sources m.parameters vs) m.body w k
+
+combined_kept : (ev : Eval) → Keeps ev → (env : Context) (e : Effective) (w : State) (k : ℕ) → Kept w (combined ev env e w k)
+combined_kept ev h env (call_method m ns) w k = method_kept ev h env.arguments (slice_get w.methods m) w k
+combined_kept ev h env (progn e) w k = h env (Effect e) w k
+combined_kept ev h env (prog1 e) w k = h env (Effect e) w k
+
+made_kept : (ev : Eval) → Keeps ev → (env : Context) (d : Result ℕ Condition) (w : State) (k : ℕ) → Kept w (made ev env d w k)
+made_kept ev h env (Err c) w k = same w
+made_kept ev h env (Ok c) w k =
+    choice_kept (nat_lt (length w.instances) w.limits.instances) w (step_then (allocated ev env c) w k) _
+    (step_kept (allocated ev env c) w k
+    (λ j. h env (System (Initialize _)) (record w { instances = w.instances ++ c ∷ [] }) j)) (same w)
+
+output_kept : (o : output.Output) (x : Option Val) (w : State) (k : ℕ) → Kept w (output_of o x w k)
+output_kept o None w k = same w
+output_kept o (Some v) w k = step_kept (written (text_by o (names_of w) v) v) w k (λ j. same w)
+
+line_kept : (vs : List Val) (w : State) (k : ℕ) → Kept w (line_ended vs w k)
+line_kept [] w k = step_kept (written _ none) w k (λ j. same w)
+line_kept (v ∷ vs) w k = same w
+
+answered_kept : (x : Result Val prims.Condition) (w : State) (k : ℕ) → Kept w (answered x w k)
+answered_kept (Ok v) w k = same w
+answered_kept (Err c) w k = same w
+
+instance_kept : (ev : Eval) → Keeps ev → (env : Context) (x : Option Val) (w : State) (k : ℕ) → Kept w (instance_made ev env x w k)
+instance_kept ev h env None w k = same w
+instance_kept ev h env (Some v) w k = made_kept ev h env (designated w.classes v) w k
+
+applied_kept : (ev : Eval) → Keeps ev → (env : Context) (c : Callee) (name : Nam) (vs : List Val) (w : State) (k : ℕ) → Kept w (applied ev env c name vs w k)
+applied_kept ev h env (Output o) name vs w k = output_kept o (only_value vs) w k
+applied_kept ev h env Terpri name vs w k = line_kept vs w k
+applied_kept ev h env (Primitive p) name vs w k = answered_kept (answer p vs) w k
+applied_kept ev h env MakeInstance name vs w k = instance_kept ev h env (only_value vs) w k
+applied_kept ev h env Defined name vs w k = function_kept ev h name vs (function_named w.generics name) w k
+
+-- ---- variables
+
+left_kept : (m : ℕ) (w : State) (o : Out) → Kept w o → Kept w (then_do o (leaving m))
+left_kept m w (Gave v u k) h = h
+left_kept m w (Stopped c u k) h = h
+
+init_kept : (ev : Eval) → Keeps ev → (env : Context) (fs : Frms) (go : Frms → Val → Run) → ((gs : Frms) (v : Val) (u : State) (j : ℕ) → Kept u (go gs v u j)) → (w : State) (k : ℕ) → Kept w (init_form ev env fs go w k)
+init_kept ev h env nil go g w k = same w
+init_kept ev h env (cons f fs) go g w k = then_kept w (ev env (Plain f) w k) (λ v. go fs v) (h env (Plain f) w k) (λ v u j. g fs v u j)
+
+within_kept : (ev : Eval) → Keeps ev → (env : Context) (m : ℕ) (fs : Frms) (v : Val) (w : State) (k : ℕ) → Kept w (within ev env m fs v w k)
+within_kept ev h env m fs v w k = left_kept m w (sequence ev env fs v w k) (sequence_kept ev h env fs v w k)
+
+order_kept : (ev : Eval) → Keeps ev → (env : Context) (m : ℕ) (bs : List Bound) (fs : Frms) (w : State) (k : ℕ) → Kept w (in_order ev env m bs fs w k)
+order_kept ev h env m [] fs w k = within_kept ev h env m fs none w k
+order_kept ev h env m (b ∷ bs) fs w k =
+    choice_kept b.has_init w (init_form ev env fs (λ rest v. binding b.name v (in_order ev env m bs rest)) w k) (binding b.name none (in_order ev env m bs fs) w k)
+    (init_kept ev h env fs (λ rest v. binding b.name v (in_order ev env m bs rest))
+    (λ gs v u j. binding_kept b.name v (in_order ev env m bs gs) (λ t i. order_kept ev h env m bs gs t i) u j) w k)
+    (binding_kept b.name none (in_order ev env m bs fs) (λ t i. order_kept ev h env m bs fs t i) w k)
+
+together_kept : (ev : Eval) → Keeps ev → (env : Context) (m : ℕ) (ls : List Local) (fs : Frms) (w : State) (k : ℕ) → Kept w (together ev env m ls fs w k)
+together_kept ev h env m ls fs w k =
+    choice_kept (any_global w.globals (map name_in ls)) w _ (within ev env m fs none (bound_as (ls ++ w.locals) w) k) (same w)
+    (within_kept ev h env m fs none (bound_as (ls ++ w.locals) w) k)
+
+aside_kept : (ev : Eval) → Keeps ev → (env : Context) (m : ℕ) (bs : List Bound) (fs : Frms) (ls : List Local) (w : State) (k : ℕ) → Kept w (aside ev env m bs fs ls w k)
+aside_kept ev h env m [] fs ls w k = together_kept ev h env m ls fs w k
+aside_kept ev h env m (b ∷ bs) fs ls w k =
+    choice_kept b.has_init w (init_form ev env fs (λ rest v. aside ev env m bs rest ((b.name, v) ∷ ls)) w k) (aside ev env m bs fs ((b.name, none) ∷ ls) w k)
+    (init_kept ev h env fs (λ rest v. aside ev env m bs rest ((b.name, v) ∷ ls)) (λ gs v u j. aside_kept ev h env m bs gs ((b.name, v) ∷ ls) u j) w k)
+    (aside_kept ev h env m bs fs ((b.name, none) ∷ ls) w k)
+
+result_kept : (ev : Eval) → Keeps ev → (env : Context) (b : Bool) (fs : Frms) (w : State) (k : ℕ) → Kept w (result_value ev env b fs w k)
+result_kept ev h env false fs w k = same w
+result_kept ev h env true nil w k = same w
+result_kept ev h env true (cons f fs) w k = h env (Plain f) w k
+
+turns_kept : (ev : Eval) → Keeps ev → (env : Context) (l : Loop) (left done : ℕ) (w : State) (k : ℕ) → Kept w (turns ev env l left done w k)
+turns_kept ev h env l zero done w k =
+    left_kept l.outer w (result_value ev env l.has_result l.forms (counted l (pos done) w) k) (result_kept ev h env l.has_result l.forms (counted l (pos done) w) k)
+turns_kept ev h env l (suc left) done w k =
+    step_kept (λ u j. then_do (sequence ev env (body_of l.has_result l.forms) none (counted l (pos done) u) j) (λ v. turns ev env l left (suc done))) w k
+    (λ j. then_kept w (sequence ev env (body_of l.has_result l.forms) none (counted l (pos done) w) j) (λ v. turns ev env l left (suc done))
+    (sequence_kept ev h env (body_of l.has_result l.forms) none (counted l (pos done) w) j) (λ v u i. turns_kept ev h env l left (suc done) u i))
+
+repeated_kept : (ev : Eval) → Keeps ev → (env : Context) (l : Loop) (v : Val) (w : State) (k : ℕ) → Kept w (repeated ev env l v w k)
+repeated_kept ev h env l (value.integer x) w k =
+    choice_kept (is_global w.globals l.name) w _ (turns ev env l (turns_in x) 0 w k) (same w) (turns_kept ev h env l (turns_in x) 0 w k)
+repeated_kept ev h env l (value.symbol x) w k = same w
+repeated_kept ev h env l (value.string x) w k = same w
+repeated_kept ev h env l (value.list x) w k = same w
+repeated_kept ev h env l (value.class x) w k = same w
+repeated_kept ev h env l (value.generic x) w k = same w
+repeated_kept ev h env l (value.method x) w k = same w
+repeated_kept ev h env l (value.instance x) w k = same w
+
+variable_kept : (name : Nam) (o : Option Val) (w : State) (k : ℕ) → Kept w (variable_value name o w k)
+variable_kept name None w k = same w
+variable_kept name (Some v) w k = same w
+
+-- ---- assignment
+
+globally_kept : (name : Nam) (v : Val) (w : State) (k : ℕ) → Kept w (stored_globally name v w k)
+globally_kept name v w k =
+    choice_kept (is_global w.globals name) w (step_then (global_set name v) w k) _ (step_kept (global_set name v) w k (λ j. same w)) (same w)
+
+stored_kept : (name : Nam) (v : Val) (w : State) (k : ℕ) → Kept w (stored name v w k)
+stored_kept name v w k = choice_kept (is_some (local_named w.locals name)) w _ (stored_globally name v w k) (same w) (globally_kept name v w k)
+
+stored_only_kept : (name : Nam) (o : Option Val) (w : State) (k : ℕ) → Kept w (stored_only name o w k)
+stored_only_kept name None w k = same w
+stored_only_kept name (Some v) w k = stored_kept name v w k
+
+made_of_kept : (p : of_values.Primitive) (name : Nam) (amount : Val) (w : State) (k : ℕ) → Kept w (made_of p name amount w k)
+made_of_kept p name amount w k =
+    then_kept w (variable_value name (found_value w name) w k) (λ old. answered (answer p (old ∷ amount ∷ []))) (variable_kept name (found_value w name) w k)
+    (λ old u j. answered_kept (answer p (old ∷ amount ∷ [])) u j)
+
+changed_kept : (p : of_values.Primitive) (name : Nam) (o : Option Val) (w : State) (k : ℕ) → Kept w (changed_only p name o w k)
+changed_kept p name None w k = same w
+changed_kept p name (Some amount) w k =
+    then_kept w (made_of p name amount w k) (λ v. stored name v) (made_of_kept p name amount w k) (λ v u j. stored_kept name v u j)
+
+acted_kept : (ev : Eval) → Keeps ev → (env : Context) (a : Action) (vs : List Val) (w : State) (k : ℕ) → Kept w (acted ev env a vs w k)
+acted_kept ev h env (Call name) vs w k = applied_kept ev h env (callee_of name) name vs w k
+acted_kept ev h env (CallSetter name) vs w k = defined_kept ev h (last_first vs) (setter_value name) (function_in w.setters name) w k
+acted_kept ev h env (Store name) vs w k = stored_only_kept name (only_value vs) w k
+acted_kept ev h env (Change p name) vs w k = changed_kept p name (only_value vs) w k
+acted_kept ev h env (NewValue name f) vs w k =
+    collect_kept ev h env (alone f) vs (λ us u j. called_setter ev name us u j)
+    (λ us u j. defined_kept ev h (last_first us) (setter_value name) (function_in u.setters name) u j) w k
+
+collected_kept : (ev : Eval) → Keeps ev → (env : Context) (fs : Frms) (a : Action) (w : State) (k : ℕ) → Kept w (collected ev env fs a w k)
+collected_kept ev h env fs a w k = collect_kept ev h env fs [] (acted ev env a) (λ us u j. acted_kept ev h env a us u j) w k
+
+setq_kept : (ev : Eval) → Keeps ev → (env : Context) (ns : List Nam) (fs : Frms) (v : Val) (w : State) (k : ℕ) → Kept w (setq ev env ns fs v w k)
+setq_kept ev h env [] fs v w k = same w
+setq_kept ev h env (n ∷ ns) nil v w k = same w
+setq_kept ev h env (n ∷ ns) (cons f fs) v w k =
+    then_kept w (collected ev env (alone f) (Store n) w k) (λ u. setq ev env ns fs u) (collected_kept ev h env (alone f) (Store n) w k)
+    (λ x u j. setq_kept ev h env ns fs x u j)
+
+assigned_kept : (ev : Eval) → Keeps ev → (env : Context) (o : Option Plc) (ps : Frms) (f : Frm) (w : State) (k : ℕ) → Kept w (assigned ev env o ps f w k)
+assigned_kept ev h env None ps f w k = same w
+assigned_kept ev h env (Some (variable_place n)) ps f w k = collected_kept ev h env (alone f) (Store n) w k
+assigned_kept ev h env (Some slot_value_place) ps f w k = same w
+assigned_kept ev h env (Some (call_place n)) ps f w k = collected_kept ev h env ps (NewValue n f) w k
+
+setf_kept : (ev : Eval) → Keeps ev → (env : Context) (fs : Frms) (v : Val) (w : State) (k : ℕ) → Kept w (setf ev env fs v w k)
+setf_kept ev h env nil v w k = same w
+setf_kept ev h env (cons p nil) v w k = same w
+setf_kept ev h env (cons p (cons f fs)) v w k =
+    then_kept w (assigned ev env (place_in (operator_in p)) (parts_in p) f w k) (λ u. setf ev env fs u)
+    (assigned_kept ev h env (place_in (operator_in p)) (parts_in p) f w k) (λ x u j. setf_kept ev h env fs x u j)
+
+amount_kept : (ev : Eval) → Keeps ev → (env : Context) (fs : Frms) (a : Action) (w : State) (k : ℕ) → Kept w (by_amount ev env fs a w k)
+amount_kept ev h env nil a w k = acted_kept ev h env a _ w k
+amount_kept ev h env (cons f fs) a w k = collected_kept ev h env (cons f fs) a w k
+
+place_kept : (ev : Eval) → Keeps ev → (env : Context) (p : of_values.Primitive) (o : Option Plc) (fs : Frms) (w : State) (k : ℕ) → Kept w (changed_place ev env p o fs w k)
+place_kept ev h env p None fs w k = same w
+place_kept ev h env p (Some (variable_place n)) fs w k = amount_kept ev h env fs (Change p n) w k
+place_kept ev h env p (Some slot_value_place) fs w k = same w
+place_kept ev h env p (Some (call_place n)) fs w k = same w
+
+changing_kept : (ev : Eval) → Keeps ev → (env : Context) (p : of_values.Primitive) (fs : Frms) (w : State) (k : ℕ) → Kept w (changing ev env p fs w k)
+changing_kept ev h env p nil w k = same w
+changing_kept ev h env p (cons f fs) w k = place_kept ev h env p (place_in (operator_in f)) fs w k
+
+-- ---- forms
+
+other_kept : (b : Bool) (name : Val) (w : State) (k : ℕ) → Kept w (other_function b name w k)
+other_kept true name w k = same w
+other_kept false name w k = same w
+
+symbol_kept : (name : Nam) (o : Option ℕ) (w : State) (k : ℕ) → Kept w (symbol_function name o w k)
+symbol_kept name None w k = other_kept (is_plain_function w name) (name_value name) w k
+symbol_kept name (Some g) w k = same w
+
+value_kept : (c : Called) (w : State) (k : ℕ) → Kept w (function_value c w k)
+value_kept (by_symbol name) w k = symbol_kept name (function_named w.generics name) w k
+value_kept (by_setf name) w k = other_kept (is_some (function_in w.setters name)) (setter_value name) w k
+
+operated_kept : (ev : Eval) → Keeps ev → (env : Context) (o : Opr) (ps : Frms) (w : State) (k : ℕ) → Kept w (operated ev env o ps w k)
+operated_kept ev h env (of.constant v) ps w k = same w
+operated_kept ev h env of.no_value ps w k = same w
+operated_kept ev h env (of.variable name) ps w k = variable_kept name (found_value w name) w k
+operated_kept ev h env (of.function c) ps w k = value_kept c w k
+operated_kept ev h env of.if_form ps w k = going_kept ev h env If ps none w k
+operated_kept ev h env of.cond ps w k = clauses_kept ev h env ps w k
+operated_kept ev h env of.clause ps w k = same w
+operated_kept ev h env of.when ps w k = going_kept ev h env When ps none w k
+operated_kept ev h env of.unless ps w k = going_kept ev h env Unless ps none w k
+operated_kept ev h env of.and_form ps w k = going_kept ev h env And ps _ w k
+operated_kept ev h env of.or_form ps w k = going_kept ev h env Or ps none w k
+operated_kept ev h env of.progn ps w k = going_kept ev h env Progn ps none w k
+operated_kept ev h env of.prog1 ps w k = going_kept ev h env Prog1 ps none w k
+operated_kept ev h env (of.let_form bs) ps w k = aside_kept ev h env (length w.locals) bs ps [] w k
+operated_kept ev h env (of.let_in_order bs) ps w k = order_kept ev h env (length w.locals) bs ps w k
+operated_kept ev h env (of.setq ns) ps w k = setq_kept ev h env ns ps none w k
+operated_kept ev h env of.setf ps w k = setf_kept ev h env ps none w k
+operated_kept ev h env of.incf ps w k = changing_kept ev h env (Number Sum) ps w k
+operated_kept ev h env of.decf ps w k = changing_kept ev h env (Number Difference) ps w k
+operated_kept ev h env (of.place p) ps w k = same w
+operated_kept ev h env (of.dotimes n b) ps w k =
+    init_kept ev h env ps (λ rest v. repeated ev env (record { outer = length w.locals; name = n; has_result = b; forms = rest }) v)
+    (λ gs v u j. repeated_kept ev h env (record { outer = length w.locals; name = n; has_result = b; forms = gs }) v u j) w k
+operated_kept ev h env (of.with_slots bs) ps w k = same w
+operated_kept ev h env of.call_next_method ps w k = same w
+operated_kept ev h env of.next_method_p ps w k = same w
+operated_kept ev h env (of.call name) ps w k = collected_kept ev h env ps (Call name) w k
+
+system_kept : (ev : Eval) → Keeps ev → (env : Context) (c : SystemCall) (w : State) (k : ℕ) → Kept w (system ev env c w k)
+system_kept ev h env (SignalNoApplicable name vs) w k = same w
+system_kept ev h env (Initialize i) w k = h env (System (InitializeShared i)) w k
+system_kept ev h env (InitializeShared i) w k = same w
+
+begun_kept : (ev : Eval) → Keeps ev → (env : Context) (task : Task) (w : State) (k : ℕ) → Kept w (begun ev env task w k)
+begun_kept ev h env (Plain f) w k = operated_kept ev h env (operator_in f) (parts_in f) w k
+begun_kept ev h env (Effect e) w k = combined_kept ev h env e w k
+begun_kept ev h env (System c) w k = system_kept ev h env c w k
+
+meaning_kept : (n : ℕ) → Keeps (meaning n)
+meaning_kept zero env task w k = step_kept (stopped DepthLimit []) w k (λ j. same w)
+meaning_kept (suc n) env task w k = step_kept (begun (meaning n) env task) w k (λ j. begun_kept (meaning n) (meaning_kept n) env task w j)
+
+closed_kept : (w : State) (o : Out) → Kept w o → Kept w (closed o)
+closed_kept w (Gave v u k) h = h
+closed_kept w (Stopped c u k) h = h
+
+pub evaluation_kept : (room : ℕ) (f : Frm) (w : State) (k : ℕ) → Kept w (evaluation room f w k)
+evaluation_kept room f w k =
+    closed_kept w (meaning room (known []) (Plain f) (unbound w) k) (meaning_kept room (known []) (Plain f) (unbound w) k)

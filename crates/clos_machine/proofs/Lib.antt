@@ -1,0 +1,5 @@
+pub mod Lists
+pub mod Turns
+pub mod Quiet
+pub mod Running
+pub mod Kept

@@ -1,0 +1,367 @@
+-- With no step left nothing changes.
+use Rattle.std.proofs.Common.{◌≡◌, ℕ, zero, suc, ◌==◌, drop, List, [], ◌∷◌, ◌++◌, map, Option, Some, None, Result, Ok, Err, Bool, true, false, length, slice_get, refl, sym, subst}
+use Rattle.std.specs.Prelude.{pos, is_some, nat_lt, if◌then◌else◌}
+use Rattle.lisp_data.specs.Name.{Nam}
+use Rattle.lisp_data.specs.Value.{Val}
+use Rattle.lisp_data.specs.Value as value
+use Rattle.lisp_data.specs.ValueView.{value_of}
+use Rattle.lisp_prims.specs.Fault as prims
+use Rattle.lisp_prims.specs.Primitive.{answer}
+use Rattle.lisp_prims.specs.declared.primitive.Primitive as of_values
+use Rattle.clos_forms.specs.Form.{Frm, Frms, nil, cons, operator_in, parts_in}
+use Rattle.clos_forms.specs.Quotation.{name_value}
+use Rattle.clos_forms.specs.Operator.{Bound, Plc, variable_place, slot_value_place, call_place}
+use Rattle.clos_world.specs.Functions.{function_in}
+use Rattle.clos_world.specs.Generic.{function_named, ordered}
+use Rattle.clos_world.specs.Globals.{is_global, any_global}
+use Rattle.clos_world.specs.Values.{only_value, last_first}
+use Rattle.clos_world.specs.World.{State, Local, unbound, bound_as, local_named, lists_of}
+use Rattle.clos_world.specs.declared.condition.Condition.{Condition}
+use Rattle.clos_world.specs.declared.condition.ConditionKind.TheVariants.{StepLimit}
+use Rattle.clos_world.specs.declared.functions.Function.{Function}
+use Rattle.clos_world.specs.declared.generic.Generic.{Generic}
+use Rattle.clos_machine.specs.Assignment.{stored, stored_globally, stored_only, made_of, changed_only, with_local}
+use Rattle.clos_machine.specs.Callee.{callee_of}
+use Rattle.clos_machine.specs.Calls.{known, restoring, parameters_run, body_run, applied_to, called_defined, called_setter, setter_value, dispatched, called_generic, called_function, applied}
+use Rattle.clos_machine.specs.Control.{keeping, sequence, while_true, until_true, branch, followed, tested, clause, clauses}
+use Rattle.clos_machine.specs.Fault.{answered}
+use Rattle.clos_machine.specs.Machine.{at, below, after, resume, leaves, denote, loop_of, targets}
+use Rattle.clos_machine.specs.Meaning.{acted, collect, collected, alone, setq, setf, assigned, place_in, meaning, closed}
+use Rattle.clos_machine.specs.Objects.{made, designated, allocated, instance_made}
+use Rattle.clos_machine.specs.Outcome.{Out, Gave, Stopped, Run, Eval, then_do, step_then, stopped, is_true}
+use Rattle.clos_machine.specs.Output.{output_of, line_ended}
+use Rattle.clos_machine.specs.Parameters.{Sources, argument, refused, init, fits, sources}
+use Rattle.clos_machine.specs.Variables.{Loop, found_value, variable_value, inner, leaving, init_form, within, binding, in_order, together, aside, name_in, counted, result_value, turns, turns_in, repeated}
+use Rattle.clos_machine.specs.declared.arguments.Context.{Context}
+use Rattle.clos_machine.specs.declared.callee.Callee.{Callee}
+use Rattle.clos_machine.specs.declared.callee.Callee.TheVariants.{Output, Terpri, Primitive, MakeInstance, Defined}
+use Rattle.clos_machine.specs.declared.callee.Output as output
+use Rattle.clos_machine.specs.declared.machine.Action.{Action}
+use Rattle.clos_machine.specs.declared.machine.Action.TheVariants.{Call, CallSetter, Store, Change, NewValue}
+use Rattle.clos_machine.specs.declared.machine.Control.{Control}
+use Rattle.clos_machine.specs.declared.machine.Control.TheVariants.{Progn, Prog1, If, When, Unless, And, Or}
+use Rattle.clos_machine.specs.declared.machine.Doing.TheVariants.{Start, Act}
+use Rattle.clos_machine.specs.declared.machine.Doing.TheVariants as doing
+use Rattle.clos_machine.specs.declared.machine.Frame.{Frame}
+use Rattle.clos_machine.specs.declared.machine.Frame.TheVariants.{Rest, Keep, Clause, Collect, Body, Bind, Scope, InOrder, Aside, Count, Turn, Setq, Setf, Known, Passing}
+use Rattle.clos_machine.specs.declared.machine.Level.{Level}
+use Rattle.clos_machine.specs.declared.machine.Machine.{Machine}
+use Rattle.clos_machine.specs.declared.machine.Repetition.{Repetition}
+use Rattle.clos_machine.specs.declared.machine.Task.{Task}
+use Rattle.clos_machine.specs.declared.machine.Task.TheVariants.{Plain}
+
+-- where the outcome leaves the world
+abbrev Quiet : Out → State → Type 0
+Quiet o w = leaves (closed o) (unbound w) 0
+
+-- no step is left for a task
+pub no_step : (n : ℕ) (env : Context) (task : Task) (w : State) → meaning n env task w 0 ≡ stopped StepLimit [] w 0
+no_step zero env task w = refl
+no_step (suc n) env task w = refl
+
+task_quiet : (n : ℕ) (env : Context) (task : Task) (w : State) → leaves (closed (meaning n env task w 0)) (unbound w) 0
+task_quiet n env task w = subst (λ o. leaves (closed o) (unbound w) 0) (sym (no_step n env task w)) (refl, refl)
+
+then_quiet : (n : ℕ) (env : Context) (task : Task) (go : Val → Run) (w : State) → leaves (closed (then_do (meaning n env task w 0) go)) (unbound w) 0
+then_quiet n env task go w = subst (λ o. leaves (closed (then_do o go)) (unbound w) 0) (sym (no_step n env task w)) (refl, refl)
+
+choice_quiet : (b : Bool) (x y : Out) (w : State) → leaves (closed x) (unbound w) 0 → leaves (closed y) (unbound w) 0 → leaves (closed (if b then x else y)) (unbound w) 0
+choice_quiet true x y w p q = p
+choice_quiet false x y w p q = q
+
+-- an outcome that stops with nothing changed
+abbrev Halts : State → Out → Type 0
+Halts w o = (c : Condition) × (o ≡ Stopped c w 0)
+
+halts : (n : ℕ) (env : Context) (task : Task) (go : Val → Run) (w : State) → Halts w (then_do (meaning n env task w 0) go)
+halts n env task go w =
+    subst (λ o. Halts w (then_do o go)) (sym (no_step n env task w)) (record { kind = StepLimit; items = [] }, refl)
+
+halted : (o : Out) (go : Val → Run) (w : State) → Halts w o → Quiet (then_do o go) w
+halted o go w h = subst (λ x. Quiet (then_do x go) w) (sym h.1) (refl, refl)
+
+-- an outcome after which the world is the same, and what follows it
+then_same : (o : Out) (go : Val → Run) (w : State) → leaves o w 0 → ((v : Val) → Quiet (go v w 0) w) → Quiet (then_do o go) w
+then_same (Stopped c u k) go w h g = subst (λ x. (unbound x ≡ unbound w) × (k ≡ 0)) (sym h.0) (refl, h.1)
+then_same (Gave v u k) go w h g = subst (λ x. Quiet (go v x k) w) (sym h.0) (subst (λ j. Quiet (go v w j) w) (sym h.1) (g v))
+
+made_quiet : (ev : Eval) (env : Context) (d : Result ℕ Condition) (w : State) → leaves (closed (made ev env d w 0)) (unbound w) 0
+made_quiet ev env (Err c) w = (refl, refl)
+made_quiet ev env (Ok c) w =
+    choice_quiet (nat_lt (length w.instances) w.limits.instances) (step_then (allocated ev env c) w 0) _ w (refl, refl) (refl, refl)
+
+generic_quiet : (n : ℕ) (vs : List Val) (o : Option Generic) (w : State) → leaves (closed (called_generic (meaning n) vs o w 0)) (unbound w) 0
+generic_quiet n vs None w = (refl, refl)
+generic_quiet n vs (Some g) w =
+    choice_quiet (length vs == g.required) (meaning n (known vs) (dispatched g.name vs (ordered w.methods (lists_of w vs) g.methods)) w 0) _ w
+    (task_quiet n (known vs) (dispatched g.name vs (ordered w.methods (lists_of w vs) g.methods)) w) (refl, refl)
+
+sequence_quiet : (n : ℕ) (env : Context) (fs : Frms) (v : Val) (w : State) → Quiet (sequence (meaning n) env fs v w 0) w
+sequence_quiet n env nil v w = (refl, refl)
+sequence_quiet n env (cons f fs) v w = then_quiet n env (Plain f) (λ u. sequence (meaning n) env fs u) w
+
+restored_quiet : (l : List Local) (o : Out) (w : State) → Quiet o w → Quiet (then_do o (restoring l)) w
+restored_quiet l (Gave v u k) w h = h
+restored_quiet l (Stopped c u k) w h = h
+
+binding_quiet : (name : Nam) (v : Val) (go : Run) (w : State) → ((u : State) → Quiet (go u 0) u) → Quiet (binding name v go w 0) w
+binding_quiet name v go w h = choice_quiet (is_global w.globals name) _ (go (inner name v w) 0) w (refl, refl) (h (inner name v w))
+
+parameters_quiet : (n : ℕ) (env : Context) (ps : Sources) (fs : Frms) (w : State) → Quiet (parameters_run (meaning n) env ps fs w 0) w
+parameters_quiet n env [] fs w = sequence_quiet n env fs (value.list value.nil) w
+parameters_quiet n env ((x, argument v) ∷ ps) fs w = binding_quiet x v (parameters_run (meaning n) env ps fs) w (λ u. parameters_quiet n env ps fs u)
+parameters_quiet n env ((x, refused c) ∷ ps) fs w = (refl, refl)
+parameters_quiet n env ((x, init f) ∷ ps) fs w = then_quiet n env (Plain f) (λ v. binding x v (parameters_run (meaning n) env ps fs)) w
+
+body_quiet : (n : ℕ) (vs : List Val) (ps : Sources) (fs : Frms) (w : State) → Quiet (body_run (meaning n) vs ps fs w 0) w
+body_quiet n vs ps fs w =
+    restored_quiet w.locals (parameters_run (meaning n) (known vs) ps fs (bound_as [] w) 0) w (parameters_quiet n (known vs) ps fs (bound_as [] w))
+
+defined_quiet : (n : ℕ) (vs : List Val) (name : Val) (o : Option Function) (w : State) → Quiet (called_defined (meaning n) vs name o w 0) w
+defined_quiet n vs name None w = (refl, refl)
+defined_quiet n vs name (Some f) w =
+    choice_quiet (fits f.lambda_list vs) (body_run (meaning n) vs (sources f.lambda_list vs) f.body w 0) _ w
+    (body_quiet n vs (sources f.lambda_list vs) f.body w) (refl, refl)
+
+function_quiet : (n : ℕ) (name : Nam) (vs : List Val) (o : Option ℕ) (w : State) → Quiet (called_function (meaning n) name vs o w 0) w
+function_quiet n name vs None w = defined_quiet n vs (name_value name) (function_in w.functions name) w
+function_quiet n name vs (Some g) w = generic_quiet n vs (slice_get w.generics g) w
+
+output_quiet : (o : output.Output) (x : Option Val) (w : State) → leaves (closed (output_of o x w 0)) (unbound w) 0
+output_quiet o None w = (refl, refl)
+output_quiet o (Some v) w = (refl, refl)
+
+line_quiet : (vs : List Val) (w : State) → leaves (closed (line_ended vs w 0)) (unbound w) 0
+line_quiet [] w = (refl, refl)
+line_quiet (v ∷ vs) w = (refl, refl)
+
+answered_quiet : (x : Result Val prims.Condition) (w : State) → leaves (closed (answered x w 0)) (unbound w) 0
+answered_quiet (Ok v) w = (refl, refl)
+answered_quiet (Err c) w = (refl, refl)
+
+instance_quiet : (n : ℕ) (env : Context) (x : Option Val) (w : State) → leaves (closed (instance_made (meaning n) env x w 0)) (unbound w) 0
+instance_quiet n env None w = (refl, refl)
+instance_quiet n env (Some v) w = made_quiet (meaning n) env (designated w.classes v) w
+
+applied_quiet : (n : ℕ) (env : Context) (c : Callee) (name : Nam) (vs : List Val) (w : State) → leaves (closed (applied (meaning n) env c name vs w 0)) (unbound w) 0
+applied_quiet n env (Output o) name vs w = output_quiet o (only_value vs) w
+applied_quiet n env Terpri name vs w = line_quiet vs w
+applied_quiet n env (Primitive p) name vs w = answered_quiet (answer p vs) w
+applied_quiet n env MakeInstance name vs w = instance_quiet n env (only_value vs) w
+applied_quiet n env Defined name vs w = function_quiet n name vs (function_named w.generics name) w
+
+-- ---- assignment
+
+globally_quiet : (name : Nam) (v : Val) (w : State) → Quiet (stored_globally name v w 0) w
+globally_quiet name v w = choice_quiet (is_global w.globals name) _ _ w (refl, refl) (refl, refl)
+
+stored_quiet : (name : Nam) (v : Val) (w : State) → Quiet (stored name v w 0) w
+stored_quiet name v w = choice_quiet (is_some (local_named w.locals name)) _ (stored_globally name v w 0) w (refl, refl) (globally_quiet name v w)
+
+stored_only_quiet : (name : Nam) (o : Option Val) (w : State) → Quiet (stored_only name o w 0) w
+stored_only_quiet name None w = (refl, refl)
+stored_only_quiet name (Some v) w = stored_quiet name v w
+
+answered_same : (x : Result Val prims.Condition) (w : State) → leaves (answered x w 0) w 0
+answered_same (Ok v) w = (refl, refl)
+answered_same (Err c) w = (refl, refl)
+
+made_same : (p : of_values.Primitive) (name : Nam) (amount : Val) (o : Option Val) (w : State)
+    → leaves (then_do (variable_value name o w 0) (λ old. answered (answer p (old ∷ amount ∷ [])))) w 0
+made_same p name amount None w = (refl, refl)
+made_same p name amount (Some v) w = answered_same (answer p (v ∷ amount ∷ [])) w
+
+changed_quiet : (p : of_values.Primitive) (name : Nam) (o : Option Val) (w : State) → Quiet (changed_only p name o w 0) w
+changed_quiet p name None w = (refl, refl)
+changed_quiet p name (Some amount) w =
+    then_same (made_of p name amount w 0) (λ v. stored name v) w (made_same p name amount (found_value w name) w) (λ v. stored_quiet name v w)
+
+-- ---- actions
+
+acted_quiet : (n : ℕ) (env : Context) (a : Action) (vs : List Val) (w : State) → Quiet (acted (meaning n) env a vs w 0) w
+acted_quiet n env (Call name) vs w = applied_quiet n env (callee_of name) name vs w
+acted_quiet n env (CallSetter name) vs w = defined_quiet n (last_first vs) (setter_value name) (function_in w.setters name) w
+acted_quiet n env (Store name) vs w = stored_only_quiet name (only_value vs) w
+acted_quiet n env (Change p name) vs w = changed_quiet p name (only_value vs) w
+acted_quiet n env (NewValue name f) vs w =
+    then_quiet n env (Plain f) (λ v. collect (meaning n) env nil (vs ++ v ∷ []) (λ us u k. called_setter (meaning n) name us u k)) w
+
+collect_quiet : (n : ℕ) (env : Context) (fs : Frms) (vs : List Val) (a : Action) (w : State) → Quiet (collect (meaning n) env fs vs (acted (meaning n) env a) w 0) w
+collect_quiet n env nil vs a w = acted_quiet n env a vs w
+collect_quiet n env (cons f fs) vs a w = then_quiet n env (Plain f) (λ v. collect (meaning n) env fs (vs ++ v ∷ []) (acted (meaning n) env a)) w
+
+setq_quiet : (n : ℕ) (env : Context) (ns : List Nam) (fs : Frms) (v : Val) (w : State) → Quiet (setq (meaning n) env ns fs v w 0) w
+setq_quiet n env [] fs v w = (refl, refl)
+setq_quiet n env (x ∷ ns) nil v w = (refl, refl)
+setq_quiet n env (x ∷ ns) (cons f fs) v w =
+    halted (collected (meaning n) env (alone f) (Store x) w 0) (λ u. setq (meaning n) env ns fs u) w
+    (halts n env (Plain f) (λ v. collect (meaning n) env nil (v ∷ []) (acted (meaning n) env (Store x))) w)
+
+assigned_halts : (n : ℕ) (env : Context) (o : Option Plc) (ps : Frms) (f : Frm) (w : State) → Halts w (assigned (meaning n) env o ps f w 0)
+assigned_halts n env None ps f w = (_, refl)
+assigned_halts n env (Some (variable_place x)) ps f w = halts n env (Plain f) (λ v. collect (meaning n) env nil (v ∷ []) (acted (meaning n) env (Store x))) w
+assigned_halts n env (Some slot_value_place) ps f w = (_, refl)
+assigned_halts n env (Some (call_place x)) nil f w =
+    halts n env (Plain f) (λ v. collect (meaning n) env nil (v ∷ []) (λ us u k. called_setter (meaning n) x us u k)) w
+assigned_halts n env (Some (call_place x)) (cons p ps) f w = halts n env (Plain p) (λ v. collect (meaning n) env ps (v ∷ []) (acted (meaning n) env (NewValue x f))) w
+
+setf_quiet : (n : ℕ) (env : Context) (fs : Frms) (v : Val) (w : State) → Quiet (setf (meaning n) env fs v w 0) w
+setf_quiet n env nil v w = (refl, refl)
+setf_quiet n env (cons p nil) v w = (refl, refl)
+setf_quiet n env (cons p (cons f fs)) v w =
+    halted (assigned (meaning n) env (place_in (operator_in p)) (parts_in p) f w 0) (λ u. setf (meaning n) env fs u) w
+    (assigned_halts n env (place_in (operator_in p)) (parts_in p) f w)
+
+-- ---- control
+
+while_quiet : (n : ℕ) (env : Context) (fs : Frms) (v : Val) (w : State) → leaves (closed (while_true (meaning n) env fs v w 0)) (unbound w) 0
+while_quiet n env nil v w = (refl, refl)
+while_quiet n env (cons f fs) v w = then_quiet n env (Plain f) (λ u t k. if is_true u then while_true (meaning n) env fs u t k else Gave u t k) w
+
+until_quiet : (n : ℕ) (env : Context) (fs : Frms) (v : Val) (w : State) → leaves (closed (until_true (meaning n) env fs v w 0)) (unbound w) 0
+until_quiet n env nil v w = (refl, refl)
+until_quiet n env (cons f fs) v w = then_quiet n env (Plain f) (λ u t k. if is_true u then Gave u t k else until_true (meaning n) env fs u t k) w
+
+keeping_quiet : (n : ℕ) (env : Context) (fs : Frms) (v : Val) (w : State) → leaves (closed (keeping (meaning n) env fs v w 0)) (unbound w) 0
+keeping_quiet n env nil v w = (refl, refl)
+keeping_quiet n env (cons f fs) v w = then_quiet n env (Plain f) (λ u. keeping (meaning n) env fs v) w
+
+branch_quiet : (n : ℕ) (env : Context) (b : Bool) (fs : Frms) (w : State) → leaves (closed (branch (meaning n) env b fs w 0)) (unbound w) 0
+branch_quiet n env b nil w = (refl, refl)
+branch_quiet n env true (cons f fs) w = task_quiet n env (Plain f) w
+branch_quiet n env false (cons f fs) w = sequence_quiet n env fs (value.list value.nil) w
+
+followed_quiet : (n : ℕ) (env : Context) (c : Control) (fs : Frms) (v : Val) (w : State) → leaves (closed (followed (meaning n) env c fs v w 0)) (unbound w) 0
+followed_quiet n env Progn fs v w = sequence_quiet n env fs v w
+followed_quiet n env Prog1 fs v w = keeping_quiet n env fs v w
+followed_quiet n env If fs v w = branch_quiet n env (is_true v) fs w
+followed_quiet n env When fs v w =
+    choice_quiet (is_true v) (sequence (meaning n) env fs (value.list value.nil) w 0) _ w (sequence_quiet n env fs (value.list value.nil) w) (refl, refl)
+followed_quiet n env Unless fs v w =
+    choice_quiet (is_true v) _ (sequence (meaning n) env fs (value.list value.nil) w 0) w (refl, refl) (sequence_quiet n env fs (value.list value.nil) w)
+followed_quiet n env And fs v w = choice_quiet (is_true v) (while_true (meaning n) env fs v w 0) _ w (while_quiet n env fs v w) (refl, refl)
+followed_quiet n env Or fs v w = choice_quiet (is_true v) _ (until_true (meaning n) env fs v w 0) w (refl, refl) (until_quiet n env fs v w)
+
+clause_quiet : (n : ℕ) (env : Context) (fs : Frms) (rest : Run) (w : State) → leaves (closed (clause (meaning n) env fs rest w 0)) (unbound w) 0
+clause_quiet n env nil rest w = (refl, refl)
+clause_quiet n env (cons f fs) rest w = then_quiet n env (Plain f) (λ v. tested (meaning n) env fs rest v) w
+
+clauses_quiet : (n : ℕ) (env : Context) (cs : Frms) (w : State) → leaves (closed (clauses (meaning n) env cs w 0)) (unbound w) 0
+clauses_quiet n env nil w = (refl, refl)
+clauses_quiet n env (cons c cs) w = clause_quiet n env (parts_in c) (λ t k. clauses (meaning n) env cs t k) w
+
+tested_quiet : (n : ℕ) (env : Context) (fs cs : Frms) (v : Val) (w : State) → leaves (closed (tested (meaning n) env fs (clauses (meaning n) env cs) v w 0)) (unbound w) 0
+tested_quiet n env fs cs v w =
+    choice_quiet (is_true v) (sequence (meaning n) env fs v w 0) (clauses (meaning n) env cs w 0) w (sequence_quiet n env fs v w) (clauses_quiet n env cs w)
+
+-- ---- variables
+
+left_quiet : (m : ℕ) (o : Out) (w : State) → leaves (closed o) (unbound w) 0 → leaves (closed (then_do o (leaving m))) (unbound w) 0
+left_quiet m (Gave v u k) w h = h
+left_quiet m (Stopped c u k) w h = h
+
+init_quiet : (n : ℕ) (env : Context) (fs : Frms) (go : Frms → Val → Run) (w : State) → leaves (closed (init_form (meaning n) env fs go w 0)) (unbound w) 0
+init_quiet n env nil go w = (refl, refl)
+init_quiet n env (cons f fs) go w = then_quiet n env (Plain f) (λ v. go fs v) w
+
+within_quiet : (n : ℕ) (env : Context) (m : ℕ) (fs : Frms) (v : Val) (w : State) → Quiet (within (meaning n) env m fs v w 0) w
+within_quiet n env m fs v w = left_quiet m (sequence (meaning n) env fs v w 0) w (sequence_quiet n env fs v w)
+
+order_quiet : (n : ℕ) (env : Context) (m : ℕ) (bs : List Bound) (fs : Frms) (w : State) → Quiet (in_order (meaning n) env m bs fs w 0) w
+order_quiet n env m [] fs w = within_quiet n env m fs (value.list value.nil) w
+order_quiet n env m (b ∷ bs) fs w =
+    choice_quiet b.has_init (init_form (meaning n) env fs (λ rest v. binding b.name v (in_order (meaning n) env m bs rest)) w 0) _ w
+    (init_quiet n env fs (λ rest v. binding b.name v (in_order (meaning n) env m bs rest)) w)
+    (binding_quiet b.name (value.list value.nil) (in_order (meaning n) env m bs fs) w (λ u. order_quiet n env m bs fs u))
+
+together_quiet : (n : ℕ) (env : Context) (m : ℕ) (ls : List Local) (fs : Frms) (w : State) → Quiet (together (meaning n) env m ls fs w 0) w
+together_quiet n env m ls fs w =
+    choice_quiet (any_global w.globals (map name_in ls)) _ (within (meaning n) env m fs (value.list value.nil) (bound_as (ls ++ w.locals) w) 0) w (refl, refl)
+    (within_quiet n env m fs (value.list value.nil) (bound_as (ls ++ w.locals) w))
+
+aside_quiet : (n : ℕ) (env : Context) (m : ℕ) (bs : List Bound) (fs : Frms) (ls : List Local) (w : State) → Quiet (aside (meaning n) env m bs fs ls w 0) w
+aside_quiet n env m [] fs ls w = together_quiet n env m ls fs w
+aside_quiet n env m (b ∷ bs) fs ls w =
+    choice_quiet b.has_init (init_form (meaning n) env fs (λ rest v. aside (meaning n) env m bs rest ((b.name, v) ∷ ls)) w 0) _ w
+    (init_quiet n env fs (λ rest v. aside (meaning n) env m bs rest ((b.name, v) ∷ ls)) w)
+    (aside_quiet n env m bs fs ((b.name, value.list value.nil) ∷ ls) w)
+
+result_quiet : (n : ℕ) (env : Context) (b : Bool) (fs : Frms) (w : State) → Quiet (result_value (meaning n) env b fs w 0) w
+result_quiet n env false fs w = (refl, refl)
+result_quiet n env true nil w = (refl, refl)
+result_quiet n env true (cons f fs) w = task_quiet n env (Plain f) w
+
+turns_quiet : (n : ℕ) (env : Context) (l : Loop) (left done : ℕ) (w : State) → Quiet (turns (meaning n) env l left done w 0) w
+turns_quiet n env l zero done w =
+    left_quiet l.outer (result_value (meaning n) env l.has_result l.forms (counted l (pos done) w) 0) w (result_quiet n env l.has_result l.forms (counted l (pos done) w))
+turns_quiet n env l (suc left) done w = (refl, refl)
+
+repeated_quiet : (n : ℕ) (env : Context) (l : Loop) (v : Val) (w : State) → Quiet (repeated (meaning n) env l v w 0) w
+repeated_quiet n env l (value.integer x) w =
+    choice_quiet (is_global w.globals l.name) _ (turns (meaning n) env l (turns_in x) 0 w 0) w (refl, refl) (turns_quiet n env l (turns_in x) 0 w)
+repeated_quiet n env l (value.symbol x) w = (refl, refl)
+repeated_quiet n env l (value.string x) w = (refl, refl)
+repeated_quiet n env l (value.list x) w = (refl, refl)
+repeated_quiet n env l (value.class x) w = (refl, refl)
+repeated_quiet n env l (value.generic x) w = (refl, refl)
+repeated_quiet n env l (value.method x) w = (refl, refl)
+repeated_quiet n env l (value.instance x) w = (refl, refl)
+
+turn_quiet : (n : ℕ) (env : Context) (l : Loop) (left done : ℕ) (fs : Frms) (v : Val) (w : State)
+    → Quiet (then_do (sequence (meaning n) env fs v w 0) (λ u. turns (meaning n) env l left done)) w
+turn_quiet n env l left done nil v w = turns_quiet n env l left done w
+turn_quiet n env l left done (cons f fs) v w =
+    halted (sequence (meaning n) env (cons f fs) v w 0) (λ u. turns (meaning n) env l left done) w (halts n env (Plain f) (λ u. sequence (meaning n) env fs u) w)
+
+-- ---- frames
+
+after_quiet : (n : ℕ) (env : Context) (f : Frame) (v : Val) (w : State) → Quiet (after (meaning n) env f v w 0) w
+after_quiet n env (Rest c fs) v w = followed_quiet n env c fs v w
+after_quiet n env (Keep fs u) v w = keeping_quiet n env fs (value_of u) w
+after_quiet n env (Clause fs cs) v w = tested_quiet n env fs cs v w
+after_quiet n env (Collect action rest values) v w = collect_quiet n env rest (values ++ v ∷ []) action w
+after_quiet n env (Body rest saved locals) v w = restored_quiet locals (sequence (meaning n) env rest v w 0) w (sequence_quiet n env rest v w)
+after_quiet n env (Bind name plan body saved locals) v w =
+    restored_quiet locals (binding name v (parameters_run (meaning n) env plan body) w 0) w
+    (binding_quiet name v (parameters_run (meaning n) env plan body) w (λ u. parameters_quiet n env plan body u))
+after_quiet n env (Scope outer rest) v w = within_quiet n env outer rest v w
+after_quiet n env (InOrder outer name plan forms) v w =
+    binding_quiet name v (in_order (meaning n) env outer plan forms) w (λ u. order_quiet n env outer plan forms u)
+after_quiet n env (Aside outer locals name plan forms) v w = aside_quiet n env outer plan forms ((name, v) ∷ locals) w
+after_quiet n env (Count l) v w = repeated_quiet n env (loop_of l) v w
+after_quiet n env (Turn l counter rest) v w = turn_quiet n env (loop_of l) counter.0 counter.1 rest v w
+after_quiet n env (Setq f place rest) v w = setq_quiet n env (drop place (targets (operator_in f))) rest v w
+after_quiet n env (Setf rest) v w = setf_quiet n env rest v w
+after_quiet n env (Known saved) v w = (refl, refl)
+after_quiet n env Passing v w = (refl, refl)
+
+passed_quiet : (n : ℕ) (env : Context) (f : Frame) (o : Out) (w : State) → Quiet o w → Quiet (then_do o (after (meaning n) env f)) w
+passed_quiet n env f (Stopped c u k) w h = h
+passed_quiet n env f (Gave v u k) w h =
+    subst (λ x. leaves (closed (after (meaning n) env f v u k)) x 0) h.0
+    (subst (λ j. leaves (closed (after (meaning n) env f v u j)) (unbound u) 0) (sym h.1) (after_quiet n env f v u))
+
+resume_quiet : (ls : List Level) (env : Context) (o : Out) (w : State) → Quiet o w → Quiet (resume ls env o) w
+resume_quiet [] env o w h = h
+resume_quiet (l ∷ ls) env o w h = resume_quiet ls (below env l.frame) (then_do o (after (meaning l.room) env l.frame)) w (passed_quiet l.room env l.frame o w h)
+
+pub act_quiet : (m : Machine) (action : Action) (vs : List Val) (w : State) → leaves (denote m (Act action vs) w 0) (unbound w) 0
+act_quiet m action vs w =
+    resume_quiet m.levels m.context (acted (meaning m.room) m.context action vs (at m w) 0) (at m w) (acted_quiet m.room m.context action vs (at m w))
+
+pub loop_quiet : (m : Machine) (l : Repetition) (counter : ℕ × ℕ) (w : State) → leaves (denote m (doing.Turn l counter) w 0) (unbound w) 0
+loop_quiet m l counter w =
+    resume_quiet m.levels m.context (turns (meaning m.room) m.context (loop_of l) counter.0 counter.1 (at m w) 0) (at m w)
+    (turns_quiet m.room m.context (loop_of l) counter.0 counter.1 (at m w))
+
+-- where the machine starts a task, or gives a value
+pub start_quiet : (m : Machine) (task : Task) (w : State) → leaves (denote m (Start task) w 0) (unbound w) 0
+start_quiet m task w =
+    resume_quiet m.levels m.context (meaning m.room m.context task (at m w) 0) (at m w) (task_quiet m.room m.context task (at m w))
+
+pub frame_quiet : (ls : List Level) (n : ℕ) (env below_it : Context) (f : Frame) (v : Val) (w : State)
+    → leaves (closed (resume ls below_it (after (meaning n) env f v w 0))) (unbound w) 0
+frame_quiet ls n env below_it f v w = resume_quiet ls below_it (after (meaning n) env f v w 0) w (after_quiet n env f v w)
+
+pub evaluation_quiet : (n : ℕ) (env : Context) (task : Task) (w : State) → leaves (closed (meaning n env task w 0)) (unbound w) 0
+evaluation_quiet = task_quiet

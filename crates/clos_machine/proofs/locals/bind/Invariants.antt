@@ -1,0 +1,14 @@
+use Rattle.std.proofs.Common.{◌≡◌, [], length, map}
+use Rattle.lisp_data.specs.ValueView.{value_of}
+use Rattle.clos_world.specs.World.{seen}
+use Rattle.clos_machine.specs.Machine.{settled}
+use Rattle.clos_machine.specs.Parameters.{required_sources}
+use Rattle.clos_machine.proofs.locals.bind.Given as goal
+
+abbrev pub invariant-loop-name : goal.invariant-loop-name
+invariant-loop-name l =
+    settled (seen l.fn.world).globals (required_sources l.names_left (map value_of l.values_left)) l.locals
+    ≡ settled (seen l.fn.world).globals (required_sources l.fn.names (map value_of l.fn.values)) []
+
+abbrev pub decreases-loop-name : goal.decreases-loop-name
+decreases-loop-name l = length l.names_left

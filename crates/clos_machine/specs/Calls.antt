@@ -1,0 +1,122 @@
+-- Calls of functions (HyperSpec 3.1.2.1.2.3), of generic functions and of methods (7.6.6).
+use Rattle.std.specs.Prelude.{ℕ, ◌==◌, List, [], ◌∷◌, ◌++◌, Option, Some, None, codes, false, if◌then◌else◌, length, slice_get}
+use Rattle.lisp_data.specs.Name.{Nam}
+use Rattle.lisp_data.specs.Value.{Val, instance, symbol, list, nil, cons}
+use Rattle.lisp_prims.specs.Primitive.{answer}
+use Rattle.clos_forms.specs.Form.{Frms}
+use Rattle.clos_forms.specs.Quotation.{name_value}
+use Rattle.clos_world.specs.Functions.{function_in}
+use Rattle.clos_world.specs.Generic.{function_named, ordered}
+use Rattle.clos_world.specs.Values.{only_value, last_first}
+use Rattle.clos_world.specs.World.{State, Local, bound_as, lists_of}
+use Rattle.clos_world.specs.declared.condition.ConditionKind.TheVariants.{ProgramError, UndefinedFunction, NoApplicableMethod, Unsupported}
+use Rattle.clos_world.specs.declared.functions.Function.{Function}
+use Rattle.clos_world.specs.declared.generic.Generic.{Generic}
+use Rattle.clos_world.specs.declared.generic.Method.{Method}
+use Rattle.clos_machine.specs.Callee.{callee_of}
+use Rattle.clos_machine.specs.Control.{sequence}
+use Rattle.clos_machine.specs.Effective.{Effective, call_method, progn, prog1, effective_form}
+use Rattle.clos_machine.specs.Fault.{answered}
+use Rattle.clos_machine.specs.Objects.{instance_made}
+use Rattle.clos_machine.specs.Outcome.{Gave, Stopped, Run, Eval, then_do, stopped}
+use Rattle.clos_machine.specs.Output.{output_of, line_ended}
+use Rattle.clos_machine.specs.Parameters.{Source, Sources, argument, refused, init, fits, required_sources, sources}
+use Rattle.clos_machine.specs.Variables.{binding}
+use Rattle.clos_machine.specs.declared.arguments.Context.{Context}
+use Rattle.clos_machine.specs.declared.callee.Callee.{Callee}
+use Rattle.clos_machine.specs.declared.callee.Callee.TheVariants.{Output, Terpri, Primitive, MakeInstance, Defined}
+use Rattle.clos_machine.specs.declared.machine.SystemCall.{SystemCall}
+use Rattle.clos_machine.specs.declared.machine.SystemCall.TheVariants.{SignalNoApplicable, Initialize, InitializeShared}
+use Rattle.clos_machine.specs.declared.machine.Task.{Task}
+use Rattle.clos_machine.specs.declared.machine.Task.TheVariants.{Plain, Effect, System}
+
+-- what a body and an effective form know: the arguments of the call
+abbrev pub known : List Val → Context
+known vs = record { arguments = vs }
+
+-- ---- bodies of functions and methods
+
+-- with these variables and no others; those from before come back
+abbrev pub restoring : List Local → Val → Run
+restoring locals v w s = Gave v (bound_as locals w) s
+
+abbrev pub scoped : Run → List Local → Run
+scoped run locals w s = then_do (run (bound_as locals w) s) (restoring w.locals)
+
+-- the value of a parameter
+abbrev pub source_value : Eval → Context → Source → Run
+source_value ev env (argument v) w s = Gave v w s
+source_value ev env (refused c) w s = Stopped c w s
+source_value ev env (init f) w s = ev env (Plain f) w s
+
+-- Each parameter is bound before the next, but never a global variable; then the body.
+abbrev pub parameters_run : Eval → Context → Sources → Frms → Run
+parameters_run ev env [] fs w s = sequence ev env fs (list nil) w s
+parameters_run ev env (p ∷ ps) fs w s = then_do (source_value ev env p.1 w s) (λ v. binding p.0 v (parameters_run ev env ps fs))
+
+-- A body runs in a context of its own, with its parameters and no other variables.
+abbrev pub body_run : Eval → List Val → Sources → Frms → Run
+body_run ev vs ps body w s = scoped (parameters_run ev (known vs) ps body) [] w s
+
+-- ---- functions of the program's
+
+abbrev pub applied_to : Eval → List Val → Function → Run
+applied_to ev vs f w s = if fits f.lambda_list vs then body_run ev vs (sources f.lambda_list vs) f.body w s else stopped ProgramError [] w s
+
+-- the function, or the condition that there is none of this name
+abbrev pub called_defined : Eval → List Val → Val → Option Function → Run
+called_defined ev vs name None w s = stopped UndefinedFunction (name ∷ []) w s
+called_defined ev vs name (Some f) w s = applied_to ev vs f w s
+
+-- ---- generic functions
+
+-- an effective form of the applicable methods, or the call of no-applicable-method
+abbrev pub dispatched : Nam → List Val → List ℕ → Task
+dispatched name vs [] = System (SignalNoApplicable name vs)
+dispatched name vs (m ∷ ms) = Effect (effective_form m ms)
+
+abbrev pub called_generic : Eval → List Val → Option Generic → Run
+called_generic ev vs None w s = stopped ProgramError [] w s
+called_generic ev vs (Some g) w s =
+    if length vs == g.required then ev (known vs) (dispatched g.name vs (ordered w.methods (lists_of w vs) g.methods)) w s
+    else stopped ProgramError [] w s
+
+abbrev pub called_function : Eval → Nam → List Val → Option ℕ → Run
+called_function ev name vs None w s = called_defined ev vs (name_value name) (function_in w.functions name) w s
+called_function ev name vs (Some g) w s = called_generic ev vs (slice_get w.generics g) w s
+
+abbrev pub method_run : Eval → List Val → Option Method → Run
+method_run ev vs None w s = stopped ProgramError [] w s
+method_run ev vs (Some m) w s = body_run ev vs (required_sources m.parameters vs) m.body w s
+
+abbrev pub combined : Eval → Context → Effective → Run
+combined ev env (call_method m ns) w s = method_run ev env.arguments (slice_get w.methods m) w s
+combined ev env (progn e) w s = ev env (Effect e) w s
+combined ev env (prog1 e) w s = ev env (Effect e) w s
+
+-- the effective form of a system generic function, whose one method is the system's
+abbrev pub system : Eval → Context → SystemCall → Run
+system ev env (SignalNoApplicable name vs) w s = stopped NoApplicableMethod (name_value name ∷ vs) w s
+system ev env (Initialize i) w s = ev env (System (InitializeShared i)) w s
+system ev env (InitializeShared i) w s = Gave (instance i.0) w s
+
+-- ---- any function
+
+abbrev pub applied : Eval → Context → Callee → Nam → List Val → Run
+applied ev env (Output o) name vs w s = output_of o (only_value vs) w s
+applied ev env Terpri name vs w s = line_ended vs w s
+applied ev env (Primitive p) name vs w s = answered (answer p vs) w s
+applied ev env MakeInstance name vs w s = instance_made ev env (only_value vs) w s
+applied ev env Defined name vs w s = called_function ev name vs (function_named w.generics name) w s
+
+abbrev pub called : Eval → Context → Nam → List Val → Run
+called ev env name vs w s = applied ev env (callee_of name) name vs w s
+
+-- ---- functions (setf name): the new value is their first argument, though it is evaluated last
+
+-- the list of SETF and the name
+abbrev pub setter_value : Nam → Val
+setter_value name = list (cons (name_value (record { text = codes "SETF"; keyword = false })) (cons (name_value name) nil))
+
+abbrev pub called_setter : Eval → Nam → List Val → Run
+called_setter ev name vs w s = called_defined ev (last_first vs) (setter_value name) (function_in w.setters name) w s

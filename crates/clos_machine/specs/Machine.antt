@@ -1,0 +1,244 @@
+-- What a state of the machine stands for: the rest of the definition.
+use Rattle.std.specs.Prelude.{◌≡◌, ℕ, suc, ◌+◌, ◌*◌, ◌≤◌, ◌<◌, List, [], ◌∷◌, ◌++◌, Result, Ok, Err, Option, Some, None, drop, true, if◌then◌else◌}
+use Rattle.lisp_data.specs.Name.{Nam}
+use Rattle.lisp_data.specs.Value.{Val, list, nil}
+use Rattle.lisp_data.specs.ValueView.{value_of}
+use Rattle.lisp_data.specs.declared.ids.ClassId.{ClassId}
+use Rattle.lisp_data.specs.declared.value.Value.{Value}
+use Rattle.clos_forms.specs.Form.{Frm, operator_in}
+use Rattle.clos_forms.specs.Operator as of
+use Rattle.clos_forms.specs.Operator.{Opr, Bound}
+use Rattle.clos_world.specs.Globals.{Variables, is_global}
+use Rattle.clos_world.specs.World.{State, Local, bound_as, unbound}
+use Rattle.clos_world.specs.declared.condition.Condition.{Condition}
+use Rattle.clos_world.specs.declared.condition.ConditionKind.TheVariants.{Unsupported}
+use Rattle.clos_world.specs.declared.condition.Stop.{Stop}
+use Rattle.clos_world.specs.declared.condition.Stop.TheVariants.{Refused, Storage}
+use Rattle.clos_machine.specs.Calls.{restoring, parameters_run}
+use Rattle.clos_machine.specs.Control.{followed, keeping, tested, clauses, sequence}
+use Rattle.clos_machine.specs.Meaning.{acted, collect, setq, setf, meaning, closed}
+use Rattle.clos_machine.specs.Outcome.{Out, Gave, Stopped, Run, Eval, then_do, step_then, gave}
+use Rattle.clos_machine.specs.Parameters.{Sources, argument, refused, init}
+use Rattle.clos_machine.specs.Variables.{Loop, in_order, binding, within, aside, repeated, turns}
+use Rattle.clos_machine.specs.declared.arguments.Context.{Context}
+use Rattle.clos_machine.specs.declared.machine.Doing.{Doing}
+use Rattle.clos_machine.specs.declared.machine.Doing.TheVariants.{Start, Act, Give}
+use Rattle.clos_machine.specs.declared.machine.Doing.TheVariants as doing
+use Rattle.clos_machine.specs.declared.machine.Frame.{Frame}
+use Rattle.clos_machine.specs.declared.machine.Frame.TheVariants.{Rest, Keep, Clause, Collect, Body, Bind, Scope, InOrder, Aside, Count, Turn, Setq, Setf, Known, Passing}
+use Rattle.clos_machine.specs.declared.machine.Level.{Level}
+use Rattle.clos_machine.specs.declared.machine.Machine.{Machine}
+use Rattle.clos_machine.specs.declared.machine.Repetition.{Repetition}
+
+-- these variables, after one of this name that has an init form
+abbrev pub with_next : Option Nam → List Bound → List Bound
+with_next None bs = []
+with_next (Some name) bs = (record { name = name; has_init = true }) ∷ bs
+
+-- the names of a setq form
+abbrev pub targets : Opr → List Nam
+targets (of.setq names) = names
+targets o = []
+
+abbrev pub loop_of : Repetition → Loop
+loop_of r = record { outer = r.outer; name = r.name; has_result = r.has_result; forms = r.forms }
+
+-- the context under a frame
+abbrev pub below : Context → Frame → Context
+below env (Rest c fs) = env
+below env (Keep fs v) = env
+below env (Clause fs cs) = env
+below env (Collect action rest values) = env
+below env (Body rest saved locals) = saved
+below env (Bind name plan body saved locals) = saved
+below env (Scope outer rest) = env
+below env (InOrder outer name plan forms) = env
+below env (Aside outer locals name plan forms) = env
+below env (Count l) = env
+below env (Turn l counter rest) = env
+below env (Setq f place rest) = env
+below env (Setf rest) = env
+below env (Known saved) = saved
+below env Passing = env
+
+-- what a frame does with the value that it waits for
+abbrev pub after : Eval → Context → Frame → Val → Run
+after ev env (Rest c fs) = λ v. followed ev env c fs v
+after ev env (Keep fs v) = λ u. keeping ev env fs (value_of v)
+after ev env (Clause fs cs) = λ v. tested ev env fs (clauses ev env cs) v
+after ev env (Collect action rest values) = λ v. collect ev env rest (values ++ v ∷ []) (acted ev env action)
+after ev env (Body rest saved locals) = λ v w s. then_do (sequence ev env rest v w s) (restoring locals)
+after ev env (Bind name plan body saved locals) = λ v w s. then_do (binding name v (parameters_run ev env plan body) w s) (restoring locals)
+after ev env (Scope outer rest) = λ v. within ev env outer rest v
+after ev env (InOrder outer name plan forms) = λ v. binding name v (in_order ev env outer plan forms)
+after ev env (Aside outer locals name plan forms) = λ v. aside ev env outer plan forms ((name, v) ∷ locals)
+after ev env (Count l) = λ v. repeated ev env (loop_of l) v
+after ev env (Turn l counter rest) = λ v w s. then_do (sequence ev env rest v w s) (λ u. turns ev env (loop_of l) counter.0 counter.1)
+after ev env (Setq f place rest) = λ v. setq ev env (drop place (targets (operator_in f))) rest v
+after ev env (Setf rest) = λ v. setf ev env rest v
+after ev env (Known saved) = gave
+after ev env Passing = gave
+
+-- what the levels do with an outcome, the top one first
+abbrev pub resume : List Level → Context → Out → Out
+resume [] env o = o
+resume (l ∷ ls) env o = resume ls (below env l.frame) (then_do o (after (meaning l.room) env l.frame))
+
+abbrev pub doing_run : ℕ → Context → Doing → Run
+doing_run room env (Start task) w s = meaning room env task w s
+doing_run room env (Act action values) w s = acted (meaning room) env action values w s
+doing_run room env (doing.Turn l counter) w s = turns (meaning room) env (loop_of l) counter.0 counter.1 w s
+doing_run room env (Give value) w s = Gave (value_of value) w s
+
+-- the state with the machine's variables
+abbrev pub at : Machine → State → State
+at m w = bound_as m.locals w
+
+-- how the run ends from this state of the machine
+abbrev pub denote : Machine → Doing → Run
+denote m d w s = closed (resume m.levels m.context (doing_run m.room m.context d (at m w) s))
+
+-- how it ends where a form has begun, or its level was taken off, and `run` is left to do
+abbrev pub inside : Machine → Run → Run
+inside m run w s = closed (resume m.levels m.context (run (at m w) s))
+
+-- A control handler changes the machine alone.
+abbrev pub Leads : Run → State → Result Doing Stop → Machine → Type 0
+Leads run w (Ok d) m = (t : ℕ) → denote m d w t ≡ run w t
+Leads run w (Err (Refused c)) m = (t : ℕ) → run w t ≡ Stopped c (unbound w) t
+Leads run w (Err Storage) m = Unit {0}
+
+-- It gives this value, or stops, and changes nothing.
+abbrev pub Becomes : Run → State → Result Value Stop → Type 0
+Becomes run w (Ok v) = (t : ℕ) → run w t ≡ Gave (value_of v) w t
+Becomes run w (Err (Refused c)) = (t : ℕ) → run w t ≡ Stopped c w t
+Becomes run w (Err Storage) = Unit {0}
+
+-- A turn may take steps and change the state; want of memory leaves both.
+abbrev pub Turns : Run → State → ℕ → Result Doing Stop → Machine → State → ℕ → Type 0
+Turns run w s (Ok d) m w' s' = (k : ℕ) × (s ≡ k + s') × ((t : ℕ) → denote m d w' t ≡ run w (k + t))
+Turns run w s (Err (Refused c)) m w' s' = run w s ≡ Stopped c (unbound w') s'
+Turns run w s (Err Storage) m w' s' = (unbound w' ≡ unbound w) × (s' ≡ s)
+
+-- where an outcome leaves the state and the steps
+abbrev pub leaves : Out → State → ℕ → Type 0
+leaves (Gave v w s) w' s' = (w ≡ w') × (s ≡ s')
+leaves (Stopped c w s) w' s' = (w ≡ w') × (s ≡ s')
+
+-- The answer is the run's; where memory was refused, the state is that of the run with the steps taken as its budget.
+abbrev pub Answers : Run → State → ℕ → Result Value Stop → State → ℕ → Type 0
+Answers run w s (Ok v) w' s' = run w s ≡ Gave (value_of v) w' s'
+Answers run w s (Err (Refused c)) w' s' = run w s ≡ Stopped c w' s'
+Answers run w s (Err Storage) w' s' = (k : ℕ) × (s ≡ k + s') × leaves (run w k) w' 0
+
+-- The run takes as many steps, whatever is left after them.
+abbrev pub Takes : Run → State → ℕ → Result Value Stop → State → ℕ → Type 0
+Takes run w s (Ok v) w' s' = (k : ℕ) × (s ≡ k + s') × ((t : ℕ) → run w (k + t) ≡ Gave (value_of v) w' t)
+Takes run w s (Err e) w' s' = Unit {0}
+
+-- What is left to do, which each turn makes smaller: a frame that may lead to an action weighs more, an action yet more.
+abbrev pub weight_of : Frame → ℕ
+weight_of (Rest c fs) = 2
+weight_of (Keep fs v) = 2
+weight_of (Clause fs cs) = 2
+weight_of (Collect action rest values) = 4
+weight_of (Body rest saved locals) = 2
+weight_of (Bind name plan body saved locals) = 2
+weight_of (Scope outer rest) = 2
+weight_of (InOrder outer name plan forms) = 2
+weight_of (Aside outer locals name plan forms) = 2
+weight_of (Count l) = 4
+weight_of (Turn l counter rest) = 4
+weight_of (Setq f place rest) = 2
+weight_of (Setf rest) = 2
+weight_of (Known saved) = 2
+weight_of Passing = 2
+
+abbrev pub load : List Level → ℕ
+load [] = 0
+load (l ∷ ls) = weight_of l.frame + load ls
+
+abbrev pub given : Doing → ℕ
+given (Start task) = 0
+given (Act action values) = 8
+given (doing.Turn l counter) = 8
+given (Give value) = 5
+
+abbrev pub weight : ℕ → Machine → Doing → ℕ
+weight steps m d = 16 * steps + (load m.levels + given d)
+
+-- A handler adds no more than this to what is left to do.
+abbrev pub Grows : ℕ → List Level → Result Doing Stop → Machine → Type 0
+Grows n old (Ok d) m = load m.levels + given d ≤ load old + n
+Grows n old (Err e) m = Unit {0}
+
+-- A turn makes less what is left to do, whether it takes a step or not.
+abbrev pub Shrinks : ℕ → ℕ → List Level → Result Doing Stop → Machine → Type 0
+Shrinks s s' old (Ok d) m = 16 * s' + (load m.levels + given d) < 16 * s + (load old + 8)
+Shrinks s s' old (Err e) m = Unit {0}
+
+-- the class that a value designates, or why there is none
+abbrev pub Designates : Result ℕ Condition → Result ClassId Stop → Type 0
+Designates d (Ok c) = d ≡ Ok c.0
+Designates d (Err (Refused c)) = d ≡ Err c
+Designates d (Err Storage) = Unit {0}
+
+-- the machine goes on with what a frame does with a value
+abbrev pub given_to : Machine → Frame → Val → Run
+given_to m f v w s = closed (resume m.levels (below m.context f) (after (meaning m.room) m.context f v (at m w) s))
+
+-- the machine goes on with a body, and then with its caller's context and variables
+abbrev pub under : Machine → Context → List Local → Run → Run
+under m saved outer run w s = closed (resume m.levels saved (then_do (run (at m w) s) (restoring outer)))
+
+-- A change takes one step, and touches the state alone; want of memory leaves both.
+abbrev pub Changes : Run → Val → State → ℕ → Result (Unit {0}) Stop → State → ℕ → Type 0
+Changes change v w s (Ok u) w' s' = (s ≡ suc s') × ((t : ℕ) → step_then change w (suc t) ≡ Gave v w' t)
+Changes change v w s (Err (Refused c)) w' s' = (w' ≡ w) × (s' ≡ s) × (step_then change w s ≡ Stopped c w s)
+Changes change v w s (Err Storage) w' s' = (w' ≡ w) × (s' ≡ s)
+
+-- the variables that have no init form, up to the next that has one, bound to NIL; but a global variable is never bound
+abbrev pub unset : Variables → List Bound → List Local → Option (List Local × List Bound)
+unset gs [] ls = Some (ls, [])
+unset gs (b ∷ bs) ls =
+    if b.has_init then Some (ls, b ∷ bs) else if is_global gs b.name then None else unset gs bs ((b.name, list nil) ∷ ls)
+
+-- the same, where they are only put aside
+abbrev pub unset_aside : List Bound → List Local → List Local × List Bound
+unset_aside [] ls = (ls, [])
+unset_aside (b ∷ bs) ls = if b.has_init then (ls, b ∷ bs) else unset_aside bs ((b.name, list nil) ∷ ls)
+
+-- these are bound, and the next has this name, or one of them may not be
+abbrev pub Skips : Option (List Local × List Bound) → Result (Option Nam) Stop → List Local → List Bound → Type 0
+Skips x (Ok next) ls bs = x ≡ Some (ls, with_next next bs)
+Skips x (Err (Refused c)) ls bs = (x ≡ None) × (c ≡ record { kind = Unsupported; items = [] })
+Skips x (Err Storage) ls bs = Unit {0}
+
+-- The run has come to here: after some steps it goes on as `rest` does from here.
+pub record Reached (run : Run) (w0 : State) (s0 : ℕ) (rest : Run) (w : State) (s : ℕ) : Type 0 where
+  pub taken : ℕ
+  pub steps : s0 ≡ taken + s
+  pub same : (t : ℕ) → rest w t ≡ run w0 (taken + t)
+
+-- the parameters whose values are there, bound up to the next that has an init form
+abbrev pub settled : Variables → Sources → List Local → Result (List Local × Sources) Condition
+settled gs [] ls = Ok (ls, [])
+settled gs ((n, argument v) ∷ ps) ls = if is_global gs n then Err (record { kind = Unsupported; items = [] }) else settled gs ps ((n, v) ∷ ls)
+settled gs ((n, refused c) ∷ ps) ls = Err c
+settled gs ((n, init f) ∷ ps) ls = Ok (ls, (n, init f) ∷ ps)
+
+-- these parameters, after one of this name with an init form; none where there is no such
+abbrev pub with_init : Option (Nam × Frm) → Sources → Sources
+with_init None ps = []
+with_init (Some p) ps = (p.0, init p.1) ∷ ps
+
+abbrev pub Settles : Result (List Local × Sources) Condition → Result (Option (Nam × Frm)) Stop → List Local → Sources → Type 0
+Settles x (Ok next) ls ps = x ≡ Ok (ls, with_init next ps)
+Settles x (Err (Refused c)) ls ps = x ≡ Err c
+Settles x (Err Storage) ls ps = Unit {0}
+
+-- the same, where all values are there
+abbrev pub Binds : Result (List Local × Sources) Condition → Result (List Local) Stop → Type 0
+Binds x (Ok ls) = x ≡ Ok (ls, [])
+Binds x (Err (Refused c)) = x ≡ Err c
+Binds x (Err Storage) = Unit {0}

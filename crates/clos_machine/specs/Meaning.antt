@@ -1,0 +1,158 @@
+-- What forms mean (HyperSpec 3.1.2), by their operators.
+use Rattle.std.specs.Prelude.{ℕ, zero, suc, pos, Bool, true, false, List, [], ◌∷◌, ◌++◌, Option, Some, None, is_some, ◌||◌, if◌then◌else◌, length}
+use Rattle.lisp_data.specs.Name.{Nam}
+use Rattle.lisp_data.specs.Print.{Called, by_symbol, by_setf}
+use Rattle.lisp_data.specs.Value.{Val, integer, generic, list, nil}
+use Rattle.lisp_prims.specs.Primitive.{truth}
+use Rattle.lisp_prims.specs.declared.primitive.Primitive.{Primitive}
+use Rattle.lisp_prims.specs.declared.primitive.Primitive.TheVariants.{Number}
+use Rattle.lisp_prims.specs.declared.arithmetic.Arithmetic.TheVariants.{Sum, Difference}
+use Rattle.clos_forms.specs.Form.{Frm, Frms, operator_in, parts_in}
+use Rattle.clos_forms.specs.Form as form
+use Rattle.clos_forms.specs.Names.{is_one_of, functions, system_functions}
+use Rattle.clos_forms.specs.Operator.{Opr, Plc, variable_place, slot_value_place, call_place}
+use Rattle.clos_forms.specs.Operator as of
+use Rattle.clos_forms.specs.Quotation.{name_value}
+use Rattle.clos_world.specs.Functions.{function_in}
+use Rattle.clos_world.specs.Generic.{function_named}
+use Rattle.clos_world.specs.Values.{only_value}
+use Rattle.clos_world.specs.World.{State, unbound}
+use Rattle.clos_world.specs.declared.condition.ConditionKind.TheVariants.{ProgramError, UndefinedFunction, Unsupported, DepthLimit}
+use Rattle.clos_machine.specs.Assignment.{stored_only, changed_only}
+use Rattle.clos_machine.specs.Calls.{known, called, called_setter, setter_value, combined, system}
+use Rattle.clos_machine.specs.Control.{going, clauses}
+use Rattle.clos_machine.specs.Outcome.{Out, Gave, Stopped, Run, Eval, then_do, step_then, stopped}
+use Rattle.clos_machine.specs.Variables.{found_value, variable_value, in_order, aside, dotimes}
+use Rattle.clos_machine.specs.declared.arguments.Context.{Context}
+use Rattle.clos_machine.specs.declared.machine.Action.{Action}
+use Rattle.clos_machine.specs.declared.machine.Action.TheVariants.{Call, CallSetter, Store, Change, NewValue}
+use Rattle.clos_machine.specs.declared.machine.Control.TheVariants.{Progn, Prog1, If, When, Unless, And, Or}
+use Rattle.clos_machine.specs.declared.machine.Task.TheVariants.{Plain, Effect, System}
+
+-- the values of forms, from left to right
+abbrev pub collect : Eval → Context → Frms → List Val → (List Val → Run) → Run
+collect ev env form.nil vs go w s = go vs w s
+collect ev env (form.cons f fs) vs go w s = then_do (ev env (Plain f) w s) (λ v. collect ev env fs (vs ++ v ∷ []) go)
+
+abbrev pub alone : Frm → Frms
+alone f = form.cons f form.nil
+
+-- what is done with the values
+abbrev pub acted : Eval → Context → Action → List Val → Run
+acted ev env (Call name) vs w s = called ev env name vs w s
+acted ev env (CallSetter name) vs w s = called_setter ev name vs w s
+acted ev env (Store name) vs w s = stored_only name (only_value vs) w s
+acted ev env (Change p name) vs w s = changed_only p name (only_value vs) w s
+acted ev env (NewValue name f) vs w s = collect ev env (alone f) vs (λ us u k. called_setter ev name us u k) w s
+
+-- these forms, and then what is done with their values
+abbrev pub collected : Eval → Context → Frms → Action → Run
+collected ev env fs action w s = collect ev env fs [] (acted ev env action) w s
+
+-- ---- setq, setf, incf and decf: assignments one after another, of which the last gives the value
+
+abbrev pub setq : Eval → Context → List Nam → Frms → Val → Run
+setq ev env [] fs v w s = Gave v w s
+setq ev env (n ∷ ns) form.nil v w s = stopped ProgramError [] w s
+setq ev env (n ∷ ns) (form.cons f fs) v w s = then_do (collected ev env (alone f) (Store n) w s) (λ u. setq ev env ns fs u)
+
+abbrev pub place_in : Opr → Option Plc
+place_in (of.place p) = Some p
+place_in o = None
+
+-- a place is set to the value of a form; what a call is set by is a function of the program's
+abbrev pub assigned : Eval → Context → Option Plc → Frms → Frm → Run
+assigned ev env None ps f w s = stopped ProgramError [] w s
+assigned ev env (Some (variable_place n)) ps f w s = collected ev env (alone f) (Store n) w s
+assigned ev env (Some slot_value_place) ps f w s = stopped Unsupported [] w s
+assigned ev env (Some (call_place n)) ps f w s = collected ev env ps (NewValue n f) w s
+
+abbrev pub setf : Eval → Context → Frms → Val → Run
+setf ev env form.nil v w s = Gave v w s
+setf ev env (form.cons p form.nil) v w s = stopped ProgramError [] w s
+setf ev env (form.cons p (form.cons f fs)) v w s = then_do (assigned ev env (place_in (operator_in p)) (parts_in p) f w s) (λ u. setf ev env fs u)
+
+-- the amount is 1 where none is written
+abbrev pub by_amount : Eval → Context → Frms → Action → Run
+by_amount ev env form.nil action w s = acted ev env action (integer (pos 1) ∷ []) w s
+by_amount ev env (form.cons f fs) action w s = collected ev env (form.cons f fs) action w s
+
+abbrev pub changed_place : Eval → Context → Primitive → Option Plc → Frms → Run
+changed_place ev env p None fs w s = stopped ProgramError [] w s
+changed_place ev env p (Some (variable_place n)) fs w s = by_amount ev env fs (Change p n) w s
+changed_place ev env p (Some slot_value_place) fs w s = stopped Unsupported [] w s
+changed_place ev env p (Some (call_place n)) fs w s = stopped Unsupported [] w s
+
+abbrev pub changing : Eval → Context → Primitive → Frms → Run
+changing ev env p form.nil w s = stopped ProgramError [] w s
+changing ev env p (form.cons place fs) w s = changed_place ev env p (place_in (operator_in place)) fs w s
+
+-- ---- function: a generic function; other functions are no objects here
+
+-- a function that is no generic function, or none at all
+abbrev pub other_function : Bool → Val → Run
+other_function true name w s = stopped Unsupported [] w s
+other_function false name w s = stopped UndefinedFunction (name ∷ []) w s
+
+abbrev pub is_plain_function : State → Nam → Bool
+is_plain_function w name = is_one_of functions name || (is_one_of system_functions name || is_some (function_in w.functions name))
+
+abbrev pub symbol_function : Nam → Option ℕ → Run
+symbol_function name None w s = other_function (is_plain_function w name) (name_value name) w s
+symbol_function name (Some g) w s = Gave (generic g) w s
+
+abbrev pub function_value : Called → Run
+function_value (by_symbol name) w s = symbol_function name (function_named w.generics name) w s
+function_value (by_setf name) w s = other_function (is_some (function_in w.setters name)) (setter_value name) w s
+
+-- ---- forms
+
+-- what an operator does with its parts
+abbrev pub operated : Eval → Context → Opr → Frms → Run
+operated ev env (of.constant v) ps w s = Gave v w s
+operated ev env of.no_value ps w s = stopped Unsupported [] w s
+operated ev env (of.variable name) ps w s = variable_value name (found_value w name) w s
+operated ev env (of.function c) ps w s = function_value c w s
+operated ev env of.if_form ps w s = going ev env If ps (list nil) w s
+operated ev env of.cond ps w s = clauses ev env ps w s
+operated ev env of.clause ps w s = stopped Unsupported [] w s
+operated ev env of.when ps w s = going ev env When ps (list nil) w s
+operated ev env of.unless ps w s = going ev env Unless ps (list nil) w s
+operated ev env of.and_form ps w s = going ev env And ps (truth true) w s
+operated ev env of.or_form ps w s = going ev env Or ps (list nil) w s
+operated ev env of.progn ps w s = going ev env Progn ps (list nil) w s
+operated ev env of.prog1 ps w s = going ev env Prog1 ps (list nil) w s
+operated ev env (of.let_form bs) ps w s = aside ev env (length w.locals) bs ps [] w s
+operated ev env (of.let_in_order bs) ps w s = in_order ev env (length w.locals) bs ps w s
+operated ev env (of.setq ns) ps w s = setq ev env ns ps (list nil) w s
+operated ev env of.setf ps w s = setf ev env ps (list nil) w s
+operated ev env of.incf ps w s = changing ev env (Number Sum) ps w s
+operated ev env of.decf ps w s = changing ev env (Number Difference) ps w s
+operated ev env (of.place p) ps w s = stopped Unsupported [] w s
+operated ev env (of.dotimes name has_result) ps w s = dotimes ev env (length w.locals) name has_result ps w s
+operated ev env (of.with_slots bs) ps w s = stopped Unsupported [] w s
+operated ev env of.call_next_method ps w s = stopped Unsupported [] w s
+operated ev env of.next_method_p ps w s = stopped Unsupported [] w s
+operated ev env (of.call name) ps w s = collected ev env ps (Call name) w s
+
+abbrev pub body : Eval → Context → Frm → Run
+body ev env f w s = operated ev env (operator_in f) (parts_in f) w s
+
+abbrev pub begun : Eval → Eval
+begun ev env (Plain f) = body ev env f
+begun ev env (Effect e) = combined ev env e
+begun ev env (System c) = system ev env c
+
+-- With this much room for depth: each form takes a step, and what it evaluates has one less room.
+abbrev pub meaning : ℕ → Eval
+meaning zero env task w s = step_then (stopped DepthLimit []) w s
+meaning (suc n) env task w s = step_then (begun (meaning n) env task) w s
+
+-- no variables are left
+abbrev pub closed : Out → Out
+closed (Gave v w s) = Gave v (unbound w) s
+closed (Stopped c w s) = Stopped c (unbound w) s
+
+-- A form that is evaluated by itself begins with no variables and leaves none.
+abbrev pub evaluation : ℕ → Frm → Run
+evaluation room f w s = closed (meaning room (known []) (Plain f) (unbound w) s)

@@ -1,0 +1,12 @@
+//! What forms mean, and the states of the machine that evaluates them.
+#![tactic(auto)]
+
+pub mod arguments;
+pub mod callee;
+pub mod counter;
+pub mod effective;
+pub mod fault;
+pub mod locals;
+pub mod machine;
+pub mod parameters;
+pub mod truth;

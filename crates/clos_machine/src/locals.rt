@@ -1,0 +1,280 @@
+//! The lexical variables of the body that runs (HyperSpec 3.1.2.1.1).
+ghost use Rattle.std.specs.Prelude.{◌≡◌, ◌∷◌, ◌++◌, [], IfOk, OnOk, MatchOption, map, option_map, length, is_some, true, false};
+ghost use Rattle.lisp_data.specs.ValueView.{value_of};
+ghost use Rattle.clos_forms.specs.BoundView.{bound};
+ghost use Rattle.clos_world.specs.Globals.{any_global};
+ghost use Rattle.clos_world.specs.World.{seen, local_named, outermost};
+ghost use Rattle.clos_machine.specs.Assignment.{with_local};
+ghost use Rattle.clos_machine.specs.Machine.{Binds, Settles, Skips, settled, unset, unset_aside, with_next};
+ghost use Rattle.clos_machine.specs.Parameters.{required_sources};
+ghost use Rattle.clos_machine.specs.Variables.{name_in};
+
+use crate::parameters::{Origin, Parameter, ParameterPlan};
+use crate::truth::nil;
+use clos_forms::{Binding, Form};
+use clos_world::{ConditionKind, Stop, World, plain};
+use lisp_data::{Name, Value};
+use std::alloc::{AllocError, Global};
+use std::marker::Model;
+
+/// A variable and its value.
+#[derive(Drop)]
+pub struct Local {
+    pub name: Name,
+    pub value: Value,
+}
+
+/// The variables in scope. Contracts see the list, the innermost first.
+#[derive(Drop)]
+pub struct Locals {
+    locals: Vec<Local>,
+}
+
+impl Model for Locals {
+    ghost use Rattle.std.specs.Prelude.{List, map, reverse};
+    ghost use Rattle.std.specs.Coded.{coded_list, coded×};
+    ghost use Rattle.lisp_data.specs.Name.{Nam};
+    ghost use Rattle.lisp_data.specs.NameCode.{name_code};
+    ghost use Rattle.lisp_data.specs.Value.{Val};
+    ghost use Rattle.lisp_data.specs.ValueCode.{value_code};
+
+    ghost Value = { List (Nam × Val) };
+
+    ghost coded = { coded_list (coded× name_code value_code) };
+
+    ghost use Rattle.clos_machine.specs.LocalsView.{local_of};
+
+    ghost view = { λ a. reverse (map local_of a.locals.items) };
+}
+
+impl Locals {
+    /// No variables.
+    pub fn new(alloc: Global) -> Locals
+        ensures { result ≡ [] }
+    {
+        Locals {
+            locals: Vec::new(alloc),
+        }
+    }
+
+    /// One more variable, within the others.
+    pub fn push(&mut self, name: Name, value: Value) -> Result<(), AllocError>
+        ensures { OnOk result (self.new ≡ (name, value_of value) ∷ self.old) }
+    {
+        self.locals.push(Local { name, value })?;
+        Ok(())
+    }
+
+    /// How many they are.
+    #[tactic(auto, using(crate::proofs::Lists::as_many))]
+    pub fn len(&self) -> usize
+        ensures { result ≡ length self.now }
+    {
+        self.locals.len()
+    }
+
+    /// Leaves so many of the outermost.
+    #[tactic(auto, using(crate::proofs::Lists::outermost_of_map))]
+    pub fn leave(&mut self, outer: usize)
+        ensures { self.new ≡ outermost outer self.old }
+    {
+        self.locals.truncate(outer);
+    }
+
+    /// The value of the innermost variable of this name.
+    pub fn get(&self, name: &Name) -> Option<&Value>
+        ensures { option_map (λ v. value_of v.now) result ≡ local_named self.now name.now }
+    {
+        let locals = self.locals.as_slice();
+        let mut place = locals.len();
+        while place > 0 {
+            place -= 1;
+            if locals[place].name.is(name) {
+                return Some(&locals[place].value);
+            }
+        }
+        None
+    }
+
+    /// Gives the innermost variable of this name this value; where there is none, the value comes back.
+    pub fn set(&mut self, name: &Name, value: Value) -> Option<Value>
+        ensures { MatchOption result
+            ((is_some (local_named self.old name.now) ≡ true) × (self.new ≡ with_local name.now (value_of value) self.old))
+            (λ v. (v ≡ value) × (is_some (local_named self.old name.now) ≡ false) × (self.new ≡ self.old)) }
+    {
+        let mut place = self.locals.len();
+        while place > 0 {
+            place -= 1;
+            if self.locals[place].name.is(name) {
+                self.locals[place].value = value;
+                return None;
+            }
+        }
+        Some(value)
+    }
+
+    /// Whether one of the variables has the name of a global one.
+    pub fn any_global(&self, world: &World) -> bool
+        ensures { result ≡ any_global (seen world.now).globals (map name_in self.now) }
+    {
+        let locals = self.locals.as_slice();
+        let mut place = locals.len();
+        while place > 0 {
+            place -= 1;
+            if world.globals.has(&locals[place].name) {
+                return true;
+            }
+        }
+        false
+    }
+
+    /// Binds these too, within the others.
+    pub fn append(&mut self, mut more: Locals) -> Result<(), AllocError>
+        ensures { OnOk result (self.new ≡ more ++ self.old) }
+    {
+        self.locals.append(&mut more.locals)?;
+        Ok(())
+    }
+}
+
+/// These names bound to the values in turn, unless one of them is a global variable's.
+pub fn bind(
+    alloc: Global,
+    world: &World,
+    names: &[Name],
+    values: &[Value],
+) -> Result<Locals, Stop>
+    ensures { Binds (settled (seen world.now).globals (required_sources names.now (map value_of values.now)) []) result }
+{
+    let mut locals = Locals::new(alloc);
+    let mut names_left = names;
+    let mut values_left = values;
+    while let Some((name, other_names)) = names_left.split_first() {
+        let Some((value, other_values)) = values_left.split_first() else {
+            return Ok(locals);
+        };
+        if world.globals.has(name) {
+            return Err(Stop::Refused(plain(alloc, ConditionKind::Unsupported)));
+        }
+        locals.push(name.copy()?, value.copy()?)?;
+        names_left = other_names;
+        values_left = other_values;
+    }
+    Ok(locals)
+}
+
+/// Binds the parameters whose values are there, up to the next that has an init form, which is taken off.
+pub fn settle(
+    alloc: Global,
+    world: &World,
+    locals: &mut Locals,
+    plan: &mut ParameterPlan,
+) -> Result<Option<(Name, Form)>, Stop>
+    ensures { Settles (settled (seen world.now).globals plan.old locals.old) result locals.new plan.new }
+{
+    while let Some(parameter) = plan.pop() {
+        let Parameter { name, origin } = parameter;
+        match origin {
+            Origin::Init(form) => return Ok(Some((name, form))),
+            Origin::Refused(condition) => return Err(Stop::Refused(condition)),
+            Origin::Argument(value) => {
+                if world.globals.has(&name) {
+                    return Err(Stop::Refused(plain(alloc, ConditionKind::Unsupported)));
+                }
+                locals.push(name, value)?;
+            }
+        }
+    }
+    Ok(None)
+}
+
+/// The variables that are still to be bound, in order. Contracts see the list.
+#[derive(Drop)]
+pub struct Plan {
+    left: Vec<Binding>,
+}
+
+impl Model for Plan {
+    ghost use Rattle.std.specs.Prelude.{List, map, reverse};
+    ghost use Rattle.clos_forms.specs.Operator.{Bound};
+    ghost use Rattle.clos_forms.specs.OperatorCode.{bounds_code};
+
+    ghost Value = { List Bound };
+
+    ghost coded = { bounds_code };
+
+    ghost use Rattle.clos_forms.specs.BoundView.{bound};
+
+    ghost view = { λ a. reverse (map bound a.left.items) };
+}
+
+impl Plan {
+    /// All of these variables.
+    #[tactic(auto, using(crate::proofs::Lists::last_mapped))]
+    pub fn new(alloc: Global, bindings: &[Binding]) -> Result<Plan, AllocError>
+        ensures { IfOk result (λ r. r ≡ map bound bindings.now) }
+    {
+        let mut plan = Plan {
+            left: Vec::new(alloc),
+        };
+        let mut rest = bindings;
+        while let Some((last, before)) = rest.split_last() {
+            let name = last.name.copy()?;
+            let has_init = last.has_init;
+            plan.push(Binding { name, has_init })?;
+            rest = before;
+        }
+        Ok(plan)
+    }
+
+    /// One more variable, before the others.
+    fn push(&mut self, binding: Binding) -> Result<(), AllocError>
+        ensures { OnOk result (self.new ≡ bound binding ∷ self.old) }
+    {
+        self.left.push(binding)?;
+        Ok(())
+    }
+
+    /// Takes off the first.
+    fn pop(&mut self) -> Option<Binding>
+        ensures { MatchOption result ((self.old ≡ []) × (self.new ≡ [])) (λ b. self.old ≡ bound b ∷ self.new) }
+    {
+        self.left.pop()
+    }
+}
+
+/// Binds the next variables that have no init form to NIL. The name of the first that has one is taken off.
+pub fn bind_unset(
+    alloc: Global,
+    world: &World,
+    locals: &mut Locals,
+    plan: &mut Plan,
+) -> Result<Option<Name>, Stop>
+    ensures { Skips (unset (seen world.now).globals plan.old locals.old) result locals.new plan.new }
+{
+    while let Some(binding) = plan.pop() {
+        let Binding { name, has_init } = binding;
+        if has_init {
+            return Ok(Some(name));
+        }
+        if world.globals.has(&name) {
+            return Err(Stop::Refused(plain(alloc, ConditionKind::Unsupported)));
+        }
+        locals.push(name, nil())?;
+    }
+    Ok(None)
+}
+
+/// The same, where they are only put aside.
+pub fn put_unset_aside(locals: &mut Locals, plan: &mut Plan) -> Result<Option<Name>, AllocError>
+    ensures { IfOk result (λ next. unset_aside plan.old locals.old ≡ (locals.new, with_next next plan.new)) }
+{
+    while let Some(binding) = plan.pop() {
+        let Binding { name, has_init } = binding;
+        if has_init {
+            return Ok(Some(name));
+        }
+        locals.push(name, nil())?;
+    }
+    Ok(None)
+}

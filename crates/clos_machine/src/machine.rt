@@ -1,0 +1,189 @@
+//! The machine that evaluates forms without recursion: what comes next, and the levels that wait for values.
+ghost use Rattle.std.specs.Prelude.{◌≡◌, ◌∷◌, [], ℕ, ◌<◌, ◌≤◌, length, OnOk, OnErr, IfOk, MatchOption};
+
+use crate::arguments::{Arguments, Context};
+use crate::counter::Counter;
+use crate::effective::EffectiveForm;
+use crate::locals::{Locals, Plan};
+use crate::parameters::ParameterPlan;
+use clos_forms::{Form, Forms};
+use clos_world::Values;
+use lisp_data::{InstanceId, Name, Value};
+use lisp_prims::Primitive;
+use std::alloc::{AllocError, Global};
+use std::marker::Model;
+
+/// What is evaluated.
+#[derive(Drop)]
+pub enum Task {
+    Plain(Form),
+    Effect(EffectiveForm),
+    System(SystemCall),
+}
+
+/// The effective form of a call of a system generic function, whose one method is the system's.
+#[derive(Drop)]
+pub enum SystemCall {
+    /// The function no-applicable-method, of the generic function of this name and its arguments.
+    SignalNoApplicable(Name, Arguments),
+    /// The function initialize-instance.
+    Initialize(InstanceId),
+    /// The function shared-initialize.
+    InitializeShared(InstanceId),
+}
+
+/// What is done with values when they are there.
+#[derive(Drop)]
+pub enum Action {
+    /// The function of this name is called with them.
+    Call(Name),
+    /// The function `(setf name)` is called, with the last of them first.
+    CallSetter(Name),
+    /// The variable of this name gets the one value.
+    Store(Name),
+    /// The variable of this name gets what the function makes of its value and this one.
+    Change(Primitive, Name),
+    /// They are the arguments of a place: the value of this form comes last, and then `(setf name)` is called.
+    NewValue(Name, Form),
+}
+
+/// A loop of `dotimes`: how many variables are outside it, its own, whether it has a result form, and that form, where
+/// there is one, with the body after it.
+#[derive(Drop)]
+pub struct Repetition {
+    pub outer: usize,
+    pub name: Name,
+    pub has_result: bool,
+    pub forms: Forms,
+}
+
+/// What comes next.
+#[derive(Drop)]
+pub enum Doing {
+    Start(Task),
+    Act(Action, Values),
+    /// The next turn of a loop, or its end.
+    Turn(Repetition, Counter),
+    /// The value goes to the top level.
+    Give(Value),
+}
+
+/// How forms follow one another (HyperSpec 5.3).
+#[derive(Clone, Copy, Debug, Drop, PartialEq, Eq)]
+pub enum Control {
+    /// All of them, whatever their values.
+    Progn,
+    /// All of them, and the value of the first is given.
+    Prog1,
+    /// After the test, the first where it holds, else the second if there is one.
+    If,
+    /// After the test, all of them where it holds.
+    When,
+    /// After the test, all of them where it does not hold.
+    Unless,
+    /// As long as their values are true.
+    And,
+    /// Until a value is true.
+    Or,
+}
+
+/// What is done with a value when it is there.
+#[derive(Drop)]
+pub enum Frame {
+    /// These forms follow, by the value.
+    Rest(Control, Forms),
+    /// These forms follow, and then this value is given.
+    Keep(Forms, Value),
+    /// It is the test of a clause with these forms, before these clauses.
+    Clause(Forms, Forms),
+    /// It is the next of the values that the action is done with; these forms give the others.
+    Collect(Action, Forms, Values),
+    /// The rest of a method's body follows; the context and the variables go back to the caller's.
+    Body(Forms, Context, Locals),
+    /// It is the value of the parameter of this name, before these and the body; the context and the variables go back to
+    /// the caller's.
+    Bind(Name, ParameterPlan, Forms, Context, Locals),
+    /// The rest of a body follows; of the variables only so many of the outermost stay.
+    Scope(usize, Forms),
+    /// It is the value of the variable of this name, before these variables, with the forms left for them and the body.
+    InOrder(usize, Name, Plan, Forms),
+    /// It is the value of the variable of this name, beside the variables whose values are there, before these, with the
+    /// forms left for them and the body.
+    Aside(usize, Locals, Name, Plan, Forms),
+    /// It is the number of turns.
+    Count(Repetition),
+    /// These forms follow in the turn, and then the next turn.
+    Turn(Repetition, Counter, Forms),
+    /// The rest of the variables of a `setq` form, from this one on, and their forms.
+    Setq(Form, usize, Forms),
+    /// These places and forms follow.
+    Setf(Forms),
+    /// The context goes back to the caller's.
+    Known(Context),
+    /// Nothing.
+    Passing,
+}
+
+/// A frame, and the room for depth of what it waits for.
+#[derive(Drop)]
+pub struct Level {
+    pub frame: Frame,
+    pub room: u64,
+}
+
+/// The levels that wait. Contracts see the list, the top one first.
+#[derive(Drop)]
+pub struct Levels {
+    levels: Vec<Level>,
+}
+
+impl Model for Levels {
+    ghost use Rattle.std.specs.Prelude.{List, reverse};
+    ghost use Rattle.clos_machine.specs.declared.machine.Level.{Level};
+    ghost use Rattle.std.specs.Coded.{coded_list};
+    ghost use Rattle.clos_machine.specs.contracts.machine.Level as level;
+
+    ghost Value = { List Level };
+
+    ghost coded = { coded_list level.the_row.coded };
+
+    ghost view = { λ a. reverse a.levels.items };
+}
+
+impl Levels {
+    /// No levels.
+    pub fn new(alloc: Global) -> Levels
+        ensures { result ≡ [] }
+    {
+        Levels {
+            levels: Vec::new(alloc),
+        }
+    }
+
+    /// One more level on top.
+    pub fn push(&mut self, level: Level) -> Result<(), AllocError>
+        ensures ok { OnOk result (self.new ≡ level ∷ self.old) }
+        ensures err { OnErr result (self.new ≡ self.old) }
+    {
+        self.levels.push(level)?;
+        Ok(())
+    }
+
+    /// Takes off the top level.
+    pub fn pop(&mut self) -> Option<Level>
+        ensures { MatchOption result ((self.old ≡ []) × (self.new ≡ [])) (λ l. self.old ≡ l ∷ self.new) }
+    {
+        self.levels.pop()
+    }
+}
+
+/// A state of the machine.
+#[derive(Drop)]
+pub struct Machine {
+    pub levels: Levels,
+    pub context: Context,
+    /// The variables of the body that runs.
+    pub locals: Locals,
+    /// How many more forms may nest.
+    pub room: u64,
+}
