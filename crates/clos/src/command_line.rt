@@ -17,9 +17,24 @@ use clap::{Arg, ArgAction, ArgMatches, Command, Error};
 use std::alloc::{AllocError, Global};
 use std::convert::AsStr;
 
-const STEPS_HELP: &str = "Steps of one top-level form, from 1 to 1000000000";
+const ECHO_HELP: &str =
+    "Write the value of each top-level form on a line of its own [default: off]";
 
-const DEPTH_HELP: &str = "How deep forms nest in evaluation, from 1 to 4000";
+const STEPS_HELP: &str = "Steps that one top-level form may take, from 1 to 1000000000";
+
+const DEPTH_HELP: &str = "How deep forms may nest in evaluation, from 1 to 4000";
+
+const FILES_HELP: &str = "Files of Lisp, run in order in one session [default: standard input]";
+
+/// What help ends with.
+const AFTER_HELP: &str = "Exit status:
+  0  every form gave a value, or help was shown
+  1  a condition was written, or memory ran out inside of a form
+  2  the command line is at fault
+  3  a file could not be read, the output not written, or memory ran out
+
+Example:
+  clos --echo --steps 50000 animals.lisp";
 
 /// The flag `--echo`.
 fn echo_flag<'a>(alloc: Global) -> Arg<'a>
@@ -28,7 +43,7 @@ fn echo_flag<'a>(alloc: Global) -> Arg<'a>
     Arg::new(alloc, "echo")
         .long("echo")
         .action(ArgAction::SetTrue)
-        .help("Write the value of each top-level form")
+        .help(ECHO_HELP)
 }
 
 /// An option `--NAME N` with a number from 1 to `most`.
@@ -58,7 +73,7 @@ fn files_argument<'a>(alloc: Global) -> Arg<'a>
     Arg::new(alloc, "files")
         .value_name("FILE")
         .action(ArgAction::Append)
-        .help("Files to run, in order; none: standard input")
+        .help(FILES_HELP)
 }
 
 /// The command line as clap knows it.
@@ -69,6 +84,7 @@ fn command<'a>(alloc: Global) -> Result<Command<'a>, AllocError>
     let depth = number_option(alloc, "depth", MAX_DEPTH, "1000", DEPTH_HELP);
     Command::new(alloc, "clos")
         .about("Runs programs of a small Common Lisp with its object system")
+        .after_help(AFTER_HELP)
         .arg(echo_flag(alloc))?
         .arg(steps)?
         .arg(depth)?

@@ -11,13 +11,20 @@ use clap::error::ErrorKind;
 use clos_system::Session;
 use program::{Fault, STATUS_DONE, STATUS_FAULT, STATUS_USAGE, report};
 use settings::Settings;
-use std::io::{self, BufWriter};
+use std::io::{self, BufWriter, IsTerminal};
 use std::process::ExitCode;
 
 /// Tells of a fault on standard error, and gives its status.
 fn fail(rt: &HostRuntime, fault: Fault<'_>) -> u8 {
     report(&mut rt.stderr(), fault);
     STATUS_FAULT
+}
+
+/// Says that the terminal is read, to whoever would wait for a prompt.
+fn tell_waiting(rt: &HostRuntime) {
+    if rt.stdin().is_terminal() {
+        let _ = rt.eprintln("clos: reading from the terminal until the end of input (Ctrl-D)");
+    }
 }
 
 /// Runs what the settings ask for over the process's own input and outputs.
@@ -29,6 +36,9 @@ fn run_settings(rt: &HostRuntime, settings: &Settings<'_>) -> u8 {
     let Ok(mut output) = BufWriter::new(alloc, io::writer(rt)) else {
         return fail(rt, Fault::Memory);
     };
+    if settings.files.is_empty() {
+        tell_waiting(rt);
+    }
     program::program(
         rt,
         alloc,

@@ -320,8 +320,40 @@ fn refuses_what_is_no_command_line(rt: HostRuntime) {
             Err(error) => assert!(rt; error.exit_code() == 2 && error.use_stderr()),
         }
     }
+}
+
+const HELP: &str = "Runs programs of a small Common Lisp with its object system
+
+Usage: clos [OPTIONS] [FILE]...
+
+Arguments:
+  [FILE]...  Files of Lisp, run in order in one session [default: standard input]
+
+Options:
+      --echo       Write the value of each top-level form on a line of its own [default: off]
+      --steps <N>  Steps that one top-level form may take, from 1 to 1000000000 [default: 1000000]
+      --depth <N>  How deep forms may nest in evaluation, from 1 to 4000 [default: 1000]
+  -h, --help       Print help
+
+Exit status:
+  0  every form gave a value, or help was shown
+  1  a condition was written, or memory ran out inside of a form
+  2  the command line is at fault
+  3  a file could not be read, the output not written, or memory ran out
+
+Example:
+  clos --echo --steps 50000 animals.lisp
+";
+
+#[test]
+fn shows_help(rt: HostRuntime) -> Result<(), Fail> {
+    let alloc = rt.alloc();
     match settings(alloc, &["clos", "--help"]) {
         Ok(_) => assert!(rt; false, "taken"),
-        Err(error) => assert!(rt; error.exit_code() == 0 && !error.use_stderr()),
+        Err(error) => {
+            assert!(rt; error.exit_code() == 0 && !error.use_stderr());
+            assert_eq!(rt; format!(in alloc; "{error}")?.as_str(), HELP);
+        }
     }
+    Ok(())
 }

@@ -8,7 +8,8 @@ use Rattle.clos.proofs.command_line.command.Goals as goal
 pub returns : goal.returns
 unfolding clos_command
 returns c =
-    let start : app_of c.about.result ≡ new_app (codes "clos") = ap app_of_fields c.about.ensures ∙ c.new.ensures.app in
+    let start : app_of c.after_help.result ≡ new_app (codes "clos") =
+    ap app_of_fields c.after_help.ensures ∙ ap app_of_fields c.about.ensures ∙ c.new.ensures.app in
     IfOk-weaker c.arg-4.result _ _ (λ cmd added. added.shape c.files_argument.ensures.1
     ∙ ap₂ with_rule (c.in_ok-arg-3.ensures.shape c.number_option-depth.ensures.1
     ∙ ap₂ with_rule (c.in_ok-arg-2.ensures.shape c.number_option-steps.ensures.1

@@ -1,0 +1,4 @@
+; A short string written 100,000 times.
+(dotimes (i 100000)
+  (princ "a short string "))
+(terpri)
