@@ -58,7 +58,9 @@ fn define_named(
     if *steps == 0 {
         return Err(Stop::Refused(plain(alloc, ConditionKind::StepLimit)));
     }
-    let value = value_named(&name)?;
+    let Ok(value) = value_named(&name) else {
+        return Err(Stop::Storage);
+    };
     let Ok(()) = world.functions.define(name, function) else {
         return Err(Stop::Storage);
     };
@@ -82,7 +84,9 @@ fn define_setter(
     if *steps == 0 {
         return Err(Stop::Refused(plain(alloc, ConditionKind::StepLimit)));
     }
-    let value = setter_value(alloc, &name)?;
+    let Ok(value) = setter_value(alloc, &name) else {
+        return Err(Stop::Storage);
+    };
     let Ok(()) = world.setters.define(name, function) else {
         return Err(Stop::Storage);
     };
