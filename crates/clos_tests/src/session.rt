@@ -53,7 +53,8 @@ const NOT_SERVED: &str = "(defvar x (princ (typep 1 'integer)))
 (progn (princ 1) (cond (nil (incf (f 1)))))
 (progn (princ 1) (setf (slot-value 1 'a) 2))
 (progn (princ 1) #'initialize-instance)
-(defun f (&optional x) x)
+(defun f () (princ 1)) (defun f (&optional (x (typep 1 'integer))) 2) (f) => ; 28 (UNSUPPORTED)~1
+(defun f (&key (x (princ 1)) (y (typep 1 'integer))) x)
 (defmethod f (x) (call-next-method))
 (initialize-instance (princ 1))
 (defgeneric f (x))
@@ -67,6 +68,8 @@ const NOT_SERVED: &str = "(defvar x (princ (typep 1 'integer)))
 (defmethod f ((x integer)) x)
 (defmethod f ((x (eql 1))) x)
 (defmethod f (x &rest y) x)
+(defmethod f (x &optional y) x)
+(defmethod f (x &key) x)
 (defmethod f (x) (typep x 'integer))
 (defmethod initialize-instance (x) x)
 (defclass a () ()) (defclass a () ()) (princ (make-instance 'a)) => ; 28 (UNSUPPORTED)~#<A 1>";
@@ -203,6 +206,77 @@ steps 1: (defun f () 1)
 steps 0: (defun f () 1) => ; 29 (STEP-LIMIT)~
 (defun f (n) (f n)) (f 1) => ; 30 (DEPTH-LIMIT)~
 depth 4000: (defun f (n) (f n)) (f 1) => ; 30 (DEPTH-LIMIT)~";
+
+const OPTIONALS: &str =
+    r#"(defun f (a &optional b (c 3)) (list a b c)) (princ (f 1)) (princ (f 1 2)) (princ (f 1 2 4)) => (1 NIL 3)(1 2 3)(1 2 4)
+(defun f (a) a) (defun f (a &optional (b)) (list a b)) (princ (f 1)) => (1 NIL)
+(defun f (&optional (a 1 p)) (list a p)) (princ (f)) (princ (f 1)) (princ (f nil)) => (1 NIL)(1 T)(NIL T)
+(defun f (a &optional (b (+ a 1) p) (c (if p 'yes 'no))) (list a b c)) (princ (f 1)) (princ (f 1 5)) => (1 2 NO)(1 5 YES)
+(defun f (&optional (a (princ 'a)) (b (princ 'b))) (princ 'c)) (f) (f 1) (f 1 2) => ABCBCC
+(defun f (a &optional (b (princ 2))) (princ 3)) (f (princ 1)) => 123
+(defun f (a &optional (b (setq a 5)) (c 1 p) (d (setq p 6))) (list a b c p d)) (princ (f 1)) => (5 5 1 6 6)
+(defun f (a &rest b) (list a b)) (princ (f 1)) (princ (f 1 2)) (princ (f 1 2 3)) => (1 NIL)(1 (2))(1 (2 3))
+(defun f (&optional (a 1) &rest b) (setq a (+ a 1)) (setq b (cons a b)) b) (princ (f)) (princ (f 5 6)) => (2)(6 6)
+(defun f (n &optional (a 1)) (if (= n 0) a (f (- n 1) (* a n)))) (princ (f 10)) => 3628800
+(defun g (&optional (x 1)) x) (defun f (x &optional (y (g))) (list x y)) (princ (f 7)) => (7 1)
+(defvar *n* 0) (defun f (&optional (a (incf *n*))) a) (princ (f)) (princ (f 9)) (princ (f)) => 192
+(defun (setf g) (v a &optional (b (+ v a))) (princ (list v a b))) (setf (g 1) 2) (setf (g 1 3) 4) => (2 1 3)(4 1 3)
+(defun f (&optional (a b) (b 1)) a) (f) => ; 2 (UNBOUND-VARIABLE B)~
+(defun f (&optional (a y)) a) (let ((y 1)) (f)) => ; 2 (UNBOUND-VARIABLE Y)~
+(defun f (&optional (a (princ 1)) (b (car a)) (c (princ 2))) (princ 3)) (f) => 1~; 4 (TYPE-ERROR 1)~
+(defvar x 1) (defun f (&optional (a (princ 1)) (x (princ 2)) (b (princ 3))) 4) (f) => 12~; 28 (UNSUPPORTED)~
+(defvar x 1) (defun f (&optional (a (princ 1) x) (b (princ 2))) 3) (f) => 1~; 28 (UNSUPPORTED)~
+(defvar x 1) (defun f (&optional (a (princ 1)) &rest x) 2) (f) => 1~; 28 (UNSUPPORTED)~
+(defun f (&rest a) 1) (let ((n ())) (dotimes (i 999) (setq n (list n))) (princ (f n))) => 1
+(defun f (&rest a &key b (c (princ 1))) 2) (let ((n ())) (dotimes (i 1000) (setq n (list n))) (f :b n)) => ; 28 (UNSUPPORTED)~
+steps 1: (defun f (&optional a &rest b &key c)) (f)
+steps 2: (defun f (&optional (a 1))) (f)
+steps 1: (defun f (&optional (a 1))) (f) => ; 29 (STEP-LIMIT)~
+depth 2: (defun f (&optional (a 1))) (f)
+depth 1: (defun f (&optional (a 1))) (f) => ; 30 (DEPTH-LIMIT)~"#;
+
+const KEYWORDS: &str =
+    r#"(defun f (&key a (b 2)) (list a b)) (princ (f)) (princ (f :a 1)) (princ (f :b 3 :a 4)) => (NIL 2)(1 2)(4 3)
+(defvar *n* 0) (defun bump (k &key (times 1)) (dotimes (i times *n*) (incf *n* k))) (princ (bump 2 :times 3)) (bump 2 :time 3) => 6~; 1 (PROGRAM-ERROR)~
+(defun f (&key (a 1 p)) (list a p)) (princ (f)) (princ (f :a nil)) => (1 NIL)(NIL T)
+(defun f (&key ((from x) 5 p)) (list x p)) (princ (f)) (princ (f 'from 6)) => (5 NIL)(6 T)
+(defun f (&key ((nil a) 1)) a) (princ (f)) (princ (f nil 2)) (princ (f (cdr '(1)) 3)) => 123
+(defun f (&key a) a) (princ (f :a 1 :a 2)) (princ (f :a nil :a 2)) => 1NIL
+(defun f (&key (a (princ 1)) (b (princ 2)) (c (princ 3))) (princ (list a b c))) (f :b 5) => 13(1 5 3)
+(defun f (&key (a 1) (b (+ a 1)) (c (+ a b))) (list a b c)) (princ (f :a 5)) (princ (f :c 0 :b 7)) => (5 6 11)(1 7 0)
+(defun f (&key a (b (princ 3))) a) (princ (f :a (princ 1))) (princ (f :b (princ 4) :a (princ 5))) => 131455
+(defun f (a &rest b &key c) (list a b c)) (princ (f 1)) (princ (f 1 :c 2)) => (1 NIL NIL)(1 (:C 2) 2)
+(defun f (&optional a &key b) (list a b)) (princ (f :b)) (princ (f :b :b 1)) => (:B NIL)(:B 1)
+(defun f (n &key (m (if (= n 0) 0 (f (- n 1))))) (+ n m)) (princ (f 4)) (princ (f 4 :m 1)) => 105
+(defun f (&key a &allow-other-keys) a) (princ (f :b 1 :a 2 'c 3)) => 2
+(defun f (&key a) a) (princ (f :b 1 :allow-other-keys 0 :a 2)) => 2
+(defun f (&key a) a) (princ (f :a 1 :allow-other-keys nil)) => 1
+(defun f (&key a) a) (princ (f :allow-other-keys t :b 1 :allow-other-keys nil)) => NIL
+(defun f (&key allow-other-keys) allow-other-keys) (princ (f :b 1 :allow-other-keys 5)) => 5
+(defun f (&key) 1) (princ (f)) (princ (f :allow-other-keys nil)) => 11
+(defvar x 1) (defun f (&key (a (princ 1)) (x (princ 2)) (b (princ 3))) 4) (f :b 0) => 12~; 28 (UNSUPPORTED)~
+(defvar x 1) (defun f (&key (a (princ 1)) x) 2) (f :x (princ 0)) => 01~; 28 (UNSUPPORTED)~"#;
+
+const WRONG_ARGUMENTS: &str = "(defun f (a b &optional (c (princ 1))) 2) (f 1)
+(defun f (&optional (a (princ 1)) b) 2) (f 1 2 3)
+(defun f (a &rest b) 1) (f)
+(defun f (a &key b) 1) (f)
+(defun f (&key (a (princ 1))) 2) (f :b 3)
+(defun f (&key (a (princ 1))) 2) (f :b)
+(defun f (&key a &allow-other-keys) 1) (f :a 2 :b)
+(defun f (&key a &allow-other-keys) 1) (f :a 2 3 4)
+(defun f (&key a &allow-other-keys) 1) (f '(a) 2)
+(defun f (&key a) 1) (f 'a 2)
+(defun f (&key ((b a))) 1) (f :b 2)
+(defun f (&key a) 1) (f nil 2)
+(defun f (&key) 1) (f :a 2)
+(defun f (&optional a &key b) 1) (f :b 2)
+(defun f (&rest a &key b) 1) (f 1 2 :b 3)
+(defun f (&key a) 1) (f :a 2 :b 3 :allow-other-keys nil)
+(defun f (&key a) 1) (f :allow-other-keys nil :b 3 :allow-other-keys t)
+(defun f (&key a) 1) (f 'allow-other-keys t :b 3)
+(defun f (&key a) 1) (f 5 6 :allow-other-keys t)
+(defvar x 1) (defun f (x &key a) 1) (f 1 :b 2)";
 
 const FUNCTIONS: &str =
     r#"(princ (list (floor -7 2) (truncate -7 2) (mod -7 2) (rem -7 2))) => (-4 -3 1 -1)
@@ -396,6 +470,21 @@ fn loops(rt: HostRuntime) -> Result<(), Fail> {
 #[test]
 fn functions_of_the_program(rt: HostRuntime) -> Result<(), Fail> {
     all_write(&rt, rt.alloc(), "", DEFINED, "")
+}
+
+#[test]
+fn parameters_by_their_places(rt: HostRuntime) -> Result<(), Fail> {
+    all_write(&rt, rt.alloc(), "", OPTIONALS, "")
+}
+
+#[test]
+fn parameters_by_their_names(rt: HostRuntime) -> Result<(), Fail> {
+    all_write(&rt, rt.alloc(), "", KEYWORDS, "")
+}
+
+#[test]
+fn arguments_that_fit_no_parameters(rt: HostRuntime) -> Result<(), Fail> {
+    all_write(&rt, rt.alloc(), "", WRONG_ARGUMENTS, PROGRAM_ERROR)
 }
 
 #[test]
