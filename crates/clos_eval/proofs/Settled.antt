@@ -86,7 +86,7 @@ init_begins m saved outer x f ps fs w t =
 abbrev bound_or_not : (m : Machine) (saved : Context) (outer : List Local) (x : Nam) (v : Val) (ps : Sources) (fs : Frms) (w : State) (t : ℕ) → Bool → Out
 bound_or_not m saved outer x v ps fs w t b =
     closed (resume m.levels saved (then_do (if b then stopped Unsupported [] (at m w) t
-        else parameters_run (meaning m.room) m.context ps fs (inner x v (at m w)) t) (restoring outer)))
+    else parameters_run (meaning m.room) m.context ps fs (inner x v (at m w)) t) (restoring outer)))
 
 pub parameter_stops : (m : Machine) (saved : Context) (outer : List Local) (x : Nam) (v : Val) (ps : Sources) (fs : Frms) (w : State) (d : Condition)
     → true ≡ is_global w.globals x → d ≡ record { kind = Unsupported; items = [] } → (t : ℕ) → given_to m (Bind x ps fs saved outer) v w t ≡ Stopped d (unbound w) t

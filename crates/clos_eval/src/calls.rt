@@ -20,18 +20,18 @@ ghost use Rattle.clos_machine.specs.declared.machine.Action.TheVariants.{Call};
 ghost use Rattle.clos_machine.specs.declared.machine.Frame.TheVariants.{Bind, Body};
 ghost use Rattle.clos_machine.specs.declared.machine.Task.TheVariants.{Plain};
 
-use clos_machine::arguments::{Arguments, Context};
 use clos_control::control::{begin, done};
+use clos_forms::{Form, Forms, FunctionName, is_function, is_system_function, value_named};
+use clos_machine::arguments::{Arguments, Context};
 use clos_machine::effective::{EffectiveForm, EffectiveNode, combined};
 use clos_machine::fault::of_function;
 use clos_machine::locals::{Locals, bind, settle};
 use clos_machine::machine::{Action, Doing, Frame, Level, Machine, SystemCall, Task};
 use clos_machine::parameters::{ParameterPlan, fits, plan_for, requires_only};
 use clos_machine::truth::nil;
-use clos_forms::{Form, Forms, FunctionName, is_function, is_system_function, value_named};
 use clos_world::{
-    ConditionKind, Function, Generic, Method, Stop, Values, World, about, about_call,
-    about_name, generic_named, method_numbered, ordered_methods, plain,
+    ConditionKind, Function, Generic, Method, Stop, Values, World, about, about_call, about_name,
+    generic_named, method_numbered, ordered_methods, plain,
 };
 use lisp_data::{Items, MethodId, Name, Value};
 use lisp_prims::Primitive;

@@ -10,8 +10,8 @@ ghost use Rattle.clos_machine.specs.Meaning.{acted, begun, body, evaluation, mea
 ghost use Rattle.clos_machine.specs.declared.machine.Doing.TheVariants.{Start};
 
 use crate::calls::{
-    call, call_setter, compute, function_named, new_value, next_of_body, next_parameter, next_value,
-    start_call, start_effective, start_system,
+    call, call_setter, compute, function_named, new_value, next_of_body, next_parameter,
+    next_value, start_call, start_effective, start_system,
 };
 use crate::objects::make_instance;
 use crate::output::{end_line, print};

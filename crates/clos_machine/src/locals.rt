@@ -138,12 +138,7 @@ impl Locals {
 }
 
 /// These names bound to the values in turn, unless one of them is a global variable's.
-pub fn bind(
-    alloc: Global,
-    world: &World,
-    names: &[Name],
-    values: &[Value],
-) -> Result<Locals, Stop>
+pub fn bind(alloc: Global, world: &World, names: &[Name], values: &[Value]) -> Result<Locals, Stop>
     ensures { Binds (settled (seen world.now).globals (required_sources names.now (map value_of values.now)) []) result }
 {
     let mut locals = Locals::new(alloc);

@@ -233,7 +233,10 @@ fn after(values: &[Value], count: usize) -> &[Value]
 fn after_optional<'a>(lambda_list: &LambdaList, values: &'a [Value]) -> &'a [Value]
     ensures { map value_of result.now ≡ after_optional lambda_list.now (map value_of values.now) }
 {
-    after(after(values, lambda_list.required.len()), lambda_list.optional.len())
+    after(
+        after(values, lambda_list.required.len()),
+        lambda_list.optional.len(),
+    )
 }
 
 /// Whether there are neither too few arguments nor too many.
@@ -405,11 +408,7 @@ fn push_keys(
     }
 }
 
-fn push_entries(
-    plan: &mut ParameterPlan,
-    keys: &[Key],
-    values: &[Value],
-) -> Result<(), AllocError>
+fn push_entries(plan: &mut ParameterPlan, keys: &[Key], values: &[Value]) -> Result<(), AllocError>
     ensures { OnOk result (plan.new ≡ plan.old ++ entry_sources keys.now (map value_of values.now)) }
 {
     let mut left = keys;
