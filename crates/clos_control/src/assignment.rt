@@ -9,16 +9,16 @@ ghost use Rattle.clos_world.specs.Values.{only_value};
 ghost use Rattle.clos_world.specs.World.{State, seen};
 ghost use Rattle.clos_machine.specs.Assignment.{stored, stored_globally, stored_only, made_of, changed, changed_only};
 ghost use Rattle.clos_machine.specs.Fault.{answered};
-ghost use Rattle.clos_machine.specs.Machine.{Leads, Turns, Grows, Becomes, at, inside, targets};
-ghost use Rattle.clos_machine.specs.Meaning.{meaning, acted, alone, collect, collected, setq, setf, assigned, by_amount, changing, changed_place, place_in};
+ghost use Rattle.clos_machine.specs.Machine.{Leads, Turns, Grows, Becomes, at, inside, lift, targets};
+ghost use Rattle.clos_machine.specs.Meaning.{meaning, acted, alone, collect, collected, setq, setf, assigned, with_amount, changed_from, set_call, changing, changed_place, place_in};
 ghost use Rattle.clos_machine.specs.Outcome.{Run, then_do};
 ghost use Rattle.clos_machine.specs.declared.machine.Action.TheVariants.{NewValue, Store};
 
 use crate::binding::value_of_variable;
-use crate::control::{begin, begin_under, done};
+use crate::control::{begin_under, collect_next, done};
 use clos_forms::{Form, Forms, Operator, Place};
 use clos_machine::fault::of_function;
-use clos_machine::machine::{Action, Doing, Frame, Machine, Task};
+use clos_machine::machine::{Action, Doing, Frame, Level, Machine, Task};
 use clos_world::{ConditionKind, Stop, Values, World, about_name, plain};
 use lisp_data::{Name, Value};
 use lisp_prims::Primitive;
@@ -270,7 +270,7 @@ fn set_by(
     begin_under(machine, next, inner, outer)
 }
 
-/// A variable is changed by an amount.
+/// A place is changed by an amount.
 #[tactic(auto, using(clos_machine::proofs::Turns::stopped_through))]
 pub fn change(
     alloc: Global,
@@ -281,11 +281,13 @@ pub fn change(
     ensures leads { (run : Run) (w : State)
         → ((t : ℕ) → changing (meaning machine.old.room) machine.old.context primitive parts.now (at machine.old w) t ≡ run (at machine.old w) t)
         → Leads (inside machine.old run) w result machine.new }
-    ensures small { Grows 8 machine.old.levels result machine.new }
+    ensures small { Grows 14 machine.old.levels result machine.new }
 {
     match parts.split_first() {
         None => Err(Stop::Refused(plain(alloc, ConditionKind::ProgramError))),
-        Some((place, amount)) => change_place(alloc, machine, primitive, place.operator(), amount),
+        Some((place, amount)) => {
+            change_place(alloc, machine, primitive, place.operator(), place.parts(), amount)
+        }
     }
 }
 
@@ -295,16 +297,17 @@ fn change_place(
     machine: &mut Machine,
     primitive: Primitive,
     operator: &Operator,
+    parts: &Forms,
     amount: &Forms,
 ) -> Result<Doing, Stop>
     ensures leads { (run : Run) (w : State)
-        → ((t : ℕ) → changed_place (meaning machine.old.room) machine.old.context primitive (place_in (operator_of operator.now)) amount.now (at machine.old w) t ≡ run (at machine.old w) t)
+        → ((t : ℕ) → changed_place (meaning machine.old.room) machine.old.context primitive (place_in (operator_of operator.now)) parts.now amount.now (at machine.old w) t ≡ run (at machine.old w) t)
         → Leads (inside machine.old run) w result machine.new }
-    ensures small { Grows 8 machine.old.levels result machine.new }
+    ensures small { Grows 14 machine.old.levels result machine.new }
 {
     match place_named(operator) {
         None => Err(Stop::Refused(plain(alloc, ConditionKind::ProgramError))),
-        Some(place) => change_named(alloc, machine, primitive, place, amount),
+        Some(place) => change_named(alloc, machine, primitive, place, parts, amount),
     }
 }
 
@@ -314,61 +317,82 @@ fn change_named(
     machine: &mut Machine,
     primitive: Primitive,
     place: &Place,
+    parts: &Forms,
     amount: &Forms,
 ) -> Result<Doing, Stop>
     ensures leads { (run : Run) (w : State)
-        → ((t : ℕ) → changed_place (meaning machine.old.room) machine.old.context primitive (Some (place_of place.now)) amount.now (at machine.old w) t ≡ run (at machine.old w) t)
+        → ((t : ℕ) → changed_place (meaning machine.old.room) machine.old.context primitive (Some (place_of place.now)) parts.now amount.now (at machine.old w) t ≡ run (at machine.old w) t)
         → Leads (inside machine.old run) w result machine.new }
-    ensures small { Grows 8 machine.old.levels result machine.new }
+    ensures small { Grows 14 machine.old.levels result machine.new }
 {
     match place {
         Place::Variable(name) => {
             let action = Action::Change(primitive, name.copy()?);
-            change_by(alloc, machine, action, amount)
+            with_amount(machine, action, amount, Values::new(alloc))
         }
         Place::SlotValue => Err(Stop::Refused(plain(alloc, ConditionKind::Unsupported))),
-        Place::Call(_) => Err(Stop::Refused(plain(alloc, ConditionKind::Unsupported))),
+        Place::Call(name) => {
+            let action = Action::Amount(primitive, name.copy()?, amount.copy()?);
+            collect_next(machine, action, parts, Values::new(alloc))
+        }
     }
 }
 
-/// The amount is 1 where none is written.
-fn change_by(
-    alloc: Global,
+/// An action is done with these values and the amount, which is 1 where none is written.
+pub fn with_amount(
     machine: &mut Machine,
     action: Action,
     amount: &Forms,
+    mut values: Values,
 ) -> Result<Doing, Stop>
     ensures leads { (run : Run) (w : State)
-        → ((t : ℕ) → by_amount (meaning machine.old.room) machine.old.context amount.now action (at machine.old w) t ≡ run (at machine.old w) t)
+        → ((t : ℕ) → with_amount (meaning machine.old.room) machine.old.context amount.now values (acted (meaning machine.old.room) machine.old.context action) (at machine.old w) t ≡ run (at machine.old w) t)
         → Leads (inside machine.old run) w result machine.new }
-    ensures small { Grows 8 machine.old.levels result machine.new }
+    ensures small { Grows (8 + lift action) machine.old.levels result machine.new }
 {
-    let mut values = Values::new(alloc);
     match amount.split_first() {
         None => {
             values.push(Value::Int(1))?;
             Ok(Doing::Act(action, values))
         }
-        Some((first, others)) => begin_values(machine, action, first, others, values),
+        Some(_) => collect_next(machine, action, amount, values),
     }
 }
 
-/// The first of the values that an action is done with.
-fn begin_values(
+/// A call's value is there, which is changed by this amount.
+pub fn change_from(
+    alloc: Global,
     machine: &mut Machine,
-    action: Action,
-    first: &Form,
-    others: &Forms,
+    primitive: Primitive,
+    name: Name,
     values: Values,
+    amount: Value,
+    old: Value,
 ) -> Result<Doing, Stop>
-    ensures leads { (run : Run) (w : State)
-        → ((t : ℕ) → collect (meaning machine.old.room) machine.old.context (cons first.now others.now) values (acted (meaning machine.old.room) machine.old.context action) (at machine.old w) t ≡ run (at machine.old w) t)
-        → Leads (inside machine.old run) w result machine.new }
-    ensures small { Grows 4 machine.old.levels result machine.new }
+    ensures leads { (w : State) → Leads (inside machine.old (changed_from (meaning machine.old.room) primitive name values (value_of amount) (value_of old))) w result machine.new }
+    ensures small { Grows 10 machine.old.levels result machine.new }
 {
-    let next = Task::Plain(first.copy()?);
-    let rest = others.copy()?;
-    begin(machine, next, Frame::Collect(action, rest, values))
+    match combine(alloc, primitive, &old, amount) {
+        Ok(value) => set_call(machine, name, values, value),
+        Err(stop) => Err(stop),
+    }
+}
+
+/// The function `(setf name)` is called with these arguments and the new value, which is given in the end.
+fn set_call(
+    machine: &mut Machine,
+    name: Name,
+    mut values: Values,
+    value: Value,
+) -> Result<Doing, Stop>
+    ensures leads { (w : State) → Leads (inside machine.old (set_call (meaning machine.old.room) name values (value_of value))) w result machine.new }
+    ensures small { Grows 10 machine.old.levels result machine.new }
+{
+    let room = machine.room;
+    let frame = Frame::Keep(Forms::new(), value.copy()?);
+    values.push(value)?;
+    machine.levels.push(Level { frame, room })?;
+    Ok(Doing::Act(Action::CallSetter(name), values))
 }
 
 /// The value goes to the variable of this name.

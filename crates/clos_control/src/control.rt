@@ -3,14 +3,14 @@ ghost use Rattle.std.specs.Prelude.{◌≡◌, ℕ, ◌+◌};
 ghost use Rattle.lisp_data.specs.ValueView.{value_of};
 ghost use Rattle.clos_world.specs.World.{State};
 ghost use Rattle.clos_machine.specs.Control.{going, followed, branch, keeping, clauses, clause, tested};
-ghost use Rattle.clos_machine.specs.Machine.{Leads, Grows, at, inside, below, after, weight_of};
-ghost use Rattle.clos_machine.specs.Meaning.{meaning};
+ghost use Rattle.clos_machine.specs.Machine.{Leads, Grows, at, inside, below, after, lift, weight_of};
+ghost use Rattle.clos_machine.specs.Meaning.{acted, collect, meaning};
 ghost use Rattle.clos_machine.specs.Outcome.{Run, Gave, then_do};
 
 use clos_forms::Forms;
-use clos_machine::machine::{Control, Doing, Frame, Level, Machine, Task};
+use clos_machine::machine::{Action, Control, Doing, Frame, Level, Machine, Task};
 use clos_machine::truth::{is_true, nil};
-use clos_world::Stop;
+use clos_world::{Stop, Values};
 use lisp_data::Value;
 
 /// Evaluates this next, and then does what the frame does with its value.
@@ -61,6 +61,28 @@ pub fn turn_to(machine: &Machine, next: Task) -> Doing
 {
     let _ = machine;
     Doing::Start(next)
+}
+
+/// The next of the values that an action is done with, or the action itself.
+pub fn collect_next(
+    machine: &mut Machine,
+    action: Action,
+    forms: &Forms,
+    values: Values,
+) -> Result<Doing, Stop>
+    ensures leads { (run : Run) (w : State)
+        → ((t : ℕ) → collect (meaning machine.old.room) machine.old.context forms.now values (acted (meaning machine.old.room) machine.old.context action) (at machine.old w) t ≡ run (at machine.old w) t)
+        → Leads (inside machine.old run) w result machine.new }
+    ensures small { Grows (8 + lift action) machine.old.levels result machine.new }
+{
+    match forms.split_first() {
+        None => Ok(Doing::Act(action, values)),
+        Some((first, others)) => {
+            let next = Task::Plain(first.copy()?);
+            let rest = others.copy()?;
+            begin(machine, next, Frame::Collect(action, rest, values))
+        }
+    }
 }
 
 /// The next of these forms, or this value where there is none.

@@ -12,7 +12,7 @@ ghost use Rattle.clos_world.specs.World.{State, seen, bound_as, lists_of};
 ghost use Rattle.clos_machine.specs.Calls.{known, restoring, scoped, parameters_run, body_run, applied_to, called_defined, dispatched, called_generic, called_function, method_run, combined, system, called_setter, setter_value};
 ghost use Rattle.clos_machine.specs.Control.{sequence};
 ghost use Rattle.clos_machine.specs.Fault.{answered};
-ghost use Rattle.clos_machine.specs.Machine.{Leads, Grows, at, inside, given_to, under};
+ghost use Rattle.clos_machine.specs.Machine.{Leads, Grows, at, inside, given_to, lift, under};
 ghost use Rattle.clos_machine.specs.Meaning.{meaning, alone, acted, collect, collected, function_value, is_plain_function, other_function};
 ghost use Rattle.clos_machine.specs.Outcome.{Run, then_do};
 ghost use Rattle.clos_machine.specs.Parameters.{required_sources, sources};
@@ -20,7 +20,7 @@ ghost use Rattle.clos_machine.specs.declared.machine.Action.TheVariants.{Call};
 ghost use Rattle.clos_machine.specs.declared.machine.Frame.TheVariants.{Bind, Body};
 ghost use Rattle.clos_machine.specs.declared.machine.Task.TheVariants.{Plain};
 
-use clos_control::control::{begin, done};
+use clos_control::control::{begin, collect_next, done};
 use clos_forms::{Form, Forms, FunctionName, is_function, is_system_function, value_named};
 use clos_machine::arguments::{Arguments, Context};
 use clos_machine::effective::{EffectiveForm, EffectiveNode, combined};
@@ -37,28 +37,6 @@ use lisp_data::{Items, MethodId, Name, Value};
 use lisp_prims::Primitive;
 use std::alloc::{AllocError, Global};
 use std::mem;
-
-/// The next of the values that an action is done with, or the action itself.
-pub fn collect_next(
-    machine: &mut Machine,
-    action: Action,
-    forms: &Forms,
-    values: Values,
-) -> Result<Doing, Stop>
-    ensures leads { (run : Run) (w : State)
-        → ((t : ℕ) → collect (meaning machine.old.room) machine.old.context forms.now values (acted (meaning machine.old.room) machine.old.context action) (at machine.old w) t ≡ run (at machine.old w) t)
-        → Leads (inside machine.old run) w result machine.new }
-    ensures small { Grows 8 machine.old.levels result machine.new }
-{
-    match forms.split_first() {
-        None => Ok(Doing::Act(action, values)),
-        Some((first, others)) => {
-            let next = Task::Plain(first.copy()?);
-            let rest = others.copy()?;
-            begin(machine, next, Frame::Collect(action, rest, values))
-        }
-    }
-}
 
 /// A call of the function of this name begins with its arguments.
 pub fn start_call(
@@ -87,7 +65,7 @@ pub fn next_value(
     ensures leads { (run : Run) (w : State)
         → ((t : ℕ) → collect (meaning machine.old.room) machine.old.context rest.now (values ++ value_of value ∷ []) (acted (meaning machine.old.room) machine.old.context action) (at machine.old w) t ≡ run (at machine.old w) t)
         → Leads (inside machine.old run) w result machine.new }
-    ensures small { Grows 8 machine.old.levels result machine.new }
+    ensures small { Grows (8 + lift action) machine.old.levels result machine.new }
 {
     values.push(value)?;
     collect_next(machine, action, rest, values)

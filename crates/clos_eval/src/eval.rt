@@ -1,12 +1,13 @@
 //! Evaluation: the turns of the machine, and the whole of a form.
-ghost use Rattle.std.specs.Prelude.{◌≡◌, ℕ, ◌+◌, ◌<◌, ◌≤◌, OnOk, length};
+ghost use Rattle.std.specs.Prelude.{◌≡◌, ◌∷◌, ℕ, ◌+◌, ◌<◌, ◌≤◌, OnOk, length};
 ghost use Rattle.lisp_data.specs.ValueView.{value_of};
 ghost use Rattle.clos_forms.specs.Form.{operator_in};
 ghost use Rattle.clos_forms.specs.OperatorView.{operator_of};
+ghost use Rattle.clos_world.specs.Values.{last_first};
 ghost use Rattle.clos_world.specs.World.{seen};
 ghost use Rattle.clos_machine.specs.Calls.{called};
-ghost use Rattle.clos_machine.specs.Machine.{Answers, Grows, Leads, Takes, Turns, denote, given_to, inside, weight_of};
-ghost use Rattle.clos_machine.specs.Meaning.{acted, begun, body, evaluation, meaning, operated};
+ghost use Rattle.clos_machine.specs.Machine.{Answers, Grows, Leads, Takes, Turns, denote, given_to, inside, lift, weight_of};
+ghost use Rattle.clos_machine.specs.Meaning.{acted, begun, body, changed_call, evaluation, meaning, operated};
 ghost use Rattle.clos_machine.specs.declared.machine.Doing.TheVariants.{Start};
 
 use crate::calls::{
@@ -15,7 +16,9 @@ use crate::calls::{
 };
 use crate::objects::make_instance;
 use crate::output::{end_line, print};
-use clos_control::assignment::{change, change_only, set_next, set_next_place, store_only};
+use clos_control::assignment::{
+    change, change_from, change_only, set_next, set_next_place, store_only, with_amount,
+};
 use clos_control::binding::{
     bind_in_order, continue_turn, continue_within, next_aside, next_variable, repeat, set_aside,
     start_loop, turn, variable,
@@ -41,13 +44,13 @@ fn start_form(
     form: &Form,
 ) -> Result<Doing, Stop>
     ensures leads { Leads (inside machine.old (body (meaning machine.old.room) machine.old.context form.now)) (seen world.now) result machine.new }
-    ensures small { Grows 8 machine.old.levels result machine.new }
+    ensures small { Grows 14 machine.old.levels result machine.new }
 {
     operate(alloc, machine, world, form, form.operator(), form.parts())
 }
 
 /// An operator begins with its parts.
-#[tactic(auto, using(clos_machine::proofs::Turns::stopped_through, clos_machine::proofs::Turns::grows_6_8))]
+#[tactic(auto, using(clos_machine::proofs::Turns::stopped_through, clos_machine::proofs::Turns::grows_6_14, clos_machine::proofs::Turns::grows_8_14))]
 fn operate(
     alloc: Global,
     machine: &mut Machine,
@@ -58,7 +61,7 @@ fn operate(
 ) -> Result<Doing, Stop>
     requires { operator_of operator.now ≡ operator_in form.now }
     ensures leads { Leads (inside machine.old (operated (meaning machine.old.room) machine.old.context (operator_of operator.now) parts.now)) (seen world.now) result machine.new }
-    ensures small { Grows 8 machine.old.levels result machine.new }
+    ensures small { Grows 14 machine.old.levels result machine.new }
 {
     match operator {
         Operator::Constant(value) => Ok(Doing::Give(value.copy()?)),
@@ -134,6 +137,49 @@ fn apply(
     }
 }
 
+/// A call is read, and then changed by the amount, the last of the values.
+fn change_call(
+    alloc: Global,
+    machine: &mut Machine,
+    world: &mut World,
+    primitive: Primitive,
+    name: Name,
+    mut values: Values,
+    steps: &mut u64,
+) -> Result<Doing, Stop>
+    ensures turns { Turns (inside machine.old (changed_call (meaning machine.old.room) machine.old.context primitive name (last_first values))) (seen world.old) steps.old result machine.new (seen world.new) steps.new }
+    ensures small { Grows 12 machine.old.levels result machine.new }
+    ensures fewer { steps.new ≤ steps.old }
+{
+    match values.take_last() {
+        None => Err(Stop::Refused(plain(alloc, ConditionKind::ProgramError))),
+        Some(amount) => read_call(alloc, machine, world, primitive, name, values, amount, steps),
+    }
+}
+
+/// A call of this name with these arguments is read, and then changed by this amount.
+fn read_call(
+    alloc: Global,
+    machine: &mut Machine,
+    world: &mut World,
+    primitive: Primitive,
+    name: Name,
+    values: Values,
+    amount: Value,
+    steps: &mut u64,
+) -> Result<Doing, Stop>
+    ensures turns { Turns (inside machine.old (changed_call (meaning machine.old.room) machine.old.context primitive name (value_of amount ∷ values))) (seen world.old) steps.old result machine.new (seen world.new) steps.new }
+    ensures small { Grows 12 machine.old.levels result machine.new }
+    ensures fewer { steps.new ≤ steps.old }
+{
+    let room = machine.room;
+    let called = name.copy()?;
+    let arguments = values.copy(alloc)?;
+    let frame = Frame::Changed(primitive, name, values, amount);
+    machine.levels.push(Level { frame, room })?;
+    apply(alloc, machine, world, &called, arguments, steps)
+}
+
 /// An action is done with its values.
 #[tactic(auto, using(clos_machine::proofs::Running::turns_of_leads, clos_machine::proofs::Turns::grows_5_7, clos_machine::proofs::Turns::grows_6_7))]
 fn act(
@@ -145,7 +191,7 @@ fn act(
     steps: &mut u64,
 ) -> Result<Doing, Stop>
     ensures turns { Turns (inside machine.old (acted (meaning machine.old.room) machine.old.context action values)) (seen world.old) steps.old result machine.new (seen world.new) steps.new }
-    ensures small { Grows 7 machine.old.levels result machine.new }
+    ensures small { Grows (7 + lift action) machine.old.levels result machine.new }
     ensures fewer { steps.new ≤ steps.old }
 {
     match action {
@@ -156,11 +202,17 @@ fn act(
             change_only(alloc, machine, world, primitive, &name, &values, steps)
         }
         Action::NewValue(name, form) => new_value(machine, name, &form, values),
+        Action::Amount(primitive, name, form) => {
+            with_amount(machine, Action::ChangeCall(primitive, name), &form, values)
+        }
+        Action::ChangeCall(primitive, name) => {
+            change_call(alloc, machine, world, primitive, name, values, steps)
+        }
     }
 }
 
 /// A frame goes on with the value that it waited for.
-#[tactic(auto, using(clos_machine::proofs::Turns::grows_6_8))]
+#[tactic(auto)]
 fn give(
     alloc: Global,
     machine: &mut Machine,
@@ -199,6 +251,9 @@ fn give(
         }
         Frame::Setq(form, place, rest) => { set_next(alloc, machine, &form, place, &rest, value) }
         Frame::Setf(rest) => set_next_place(alloc, machine, &rest, value),
+        Frame::Changed(primitive, name, values, amount) => {
+            change_from(alloc, machine, primitive, name, values, amount, value)
+        }
         Frame::Known(saved) => {
             machine.context = saved;
             Ok(Doing::Give(value))
@@ -208,10 +263,10 @@ fn give(
 }
 
 /// A task begins, with less room.
-#[tactic(auto, using(clos_machine::proofs::Turns::grows_6_8))]
+#[tactic(auto, using(clos_machine::proofs::Turns::grows_6_14, clos_machine::proofs::Turns::grows_8_14))]
 fn start(alloc: Global, machine: &mut Machine, world: &World, task: Task) -> Result<Doing, Stop>
     ensures leads { Leads (inside machine.old (begun (meaning machine.old.room) machine.old.context task)) (seen world.now) result machine.new }
-    ensures small { Grows 8 machine.old.levels result machine.new }
+    ensures small { Grows 14 machine.old.levels result machine.new }
 {
     match task {
         Task::Plain(form) => start_form(alloc, machine, world, &form),
@@ -229,7 +284,7 @@ fn begin_task(
     steps: &mut u64,
 ) -> Result<Doing, Stop>
     ensures turns { Turns (denote machine.old (Start task)) (seen world.now) steps.old result machine.new (seen world.now) steps.new }
-    ensures small { Grows 8 machine.old.levels result machine.new }
+    ensures small { Grows 14 machine.old.levels result machine.new }
     ensures fewer { OnOk result (steps.new < steps.old) }
 {
     if *steps == 0 {

@@ -27,13 +27,13 @@ use Rattle.clos_world.specs.declared.generic.Generic.{Generic}
 use Rattle.clos_world.specs.declared.generic.Method.{Method}
 use Rattle.clos_machine.specs.Assignment.{stored, stored_globally, stored_only, made_of, changed_only, global_set}
 use Rattle.clos_machine.specs.Callee.{callee_of}
-use Rattle.clos_machine.specs.Calls.{known, restoring, parameters_run, body_run, applied_to, called_defined, called_setter, setter_value, dispatched, called_generic, called_function, method_run, combined, system, applied}
+use Rattle.clos_machine.specs.Calls.{known, restoring, parameters_run, body_run, applied_to, called_defined, called, called_setter, setter_value, dispatched, called_generic, called_function, method_run, combined, system, applied}
 use Rattle.clos_machine.specs.Control.{keeping, sequence, while_true, until_true, branch, followed, going, tested, clause, clauses}
 use Rattle.clos_machine.specs.Effective.{Effective, call_method, progn, prog1}
 use Rattle.clos_machine.specs.Fault.{answered}
-use Rattle.clos_machine.specs.Meaning.{acted, collect, collected, alone, setq, setf, assigned, place_in, by_amount, changing, changed_place, other_function, is_plain_function, symbol_function, function_value, operated, begun, meaning, closed, evaluation}
+use Rattle.clos_machine.specs.Meaning.{acted, collect, collected, alone, setq, setf, assigned, place_in, with_amount, set_call, changed_from, changed_call, changing, changed_place, other_function, is_plain_function, symbol_function, function_value, operated, begun, meaning, closed, evaluation}
 use Rattle.clos_machine.specs.Objects.{made, designated, allocated, instance_made}
-use Rattle.clos_machine.specs.Outcome.{Out, Gave, Stopped, Run, Eval, then_do, step_then, stopped, is_true}
+use Rattle.clos_machine.specs.Outcome.{Out, Gave, Stopped, Run, Eval, then_do, step_then, gave, stopped, is_true}
 use Rattle.clos_machine.specs.Output.{output_of, text_by, written, line_ended}
 use Rattle.clos_machine.specs.Parameters.{Sources, argument, refused, init, fits, required_sources, sources}
 use Rattle.clos_machine.specs.Variables.{Loop, found_value, variable_value, inner, leaving, init_form, within, binding, in_order, together, aside, name_in, counted, body_of, result_value, turns, turns_in, repeated, dotimes}
@@ -42,7 +42,7 @@ use Rattle.clos_machine.specs.declared.callee.Callee.{Callee}
 use Rattle.clos_machine.specs.declared.callee.Callee.TheVariants.{Output, Terpri, Primitive, MakeInstance, Defined}
 use Rattle.clos_machine.specs.declared.callee.Output as output
 use Rattle.clos_machine.specs.declared.machine.Action.{Action}
-use Rattle.clos_machine.specs.declared.machine.Action.TheVariants.{Call, CallSetter, Store, Change, NewValue}
+use Rattle.clos_machine.specs.declared.machine.Action.TheVariants.{Call, CallSetter, Store, Change, NewValue, Amount, ChangeCall}
 use Rattle.clos_machine.specs.declared.machine.Control.{Control}
 use Rattle.clos_machine.specs.declared.machine.Control.TheVariants.{Progn, Prog1, If, When, Unless, And, Or}
 use Rattle.clos_machine.specs.declared.machine.SystemCall.{SystemCall}
@@ -308,14 +308,37 @@ changed_kept p name None w k = same w
 changed_kept p name (Some amount) w k =
     then_kept w (made_of p name amount w k) (λ v. stored name v) (made_of_kept p name amount w k) (λ v u j. stored_kept name v u j)
 
+setter_kept : (ev : Eval) → Keeps ev → (name : Nam) (vs : List Val) (w : State) (k : ℕ) → Kept w (called_setter ev name vs w k)
+setter_kept ev h name vs w k = defined_kept ev h (last_first vs) (setter_value name) (function_in w.setters name) w k
+
+changed_from_kept : (ev : Eval) → Keeps ev → (p : of_values.Primitive) (name : Nam) (vs : List Val) (amount old : Val) (w : State) (k : ℕ)
+    → Kept w (changed_from ev p name vs amount old w k)
+changed_from_kept ev h p name vs amount old w k =
+    then_kept w (answered (answer p (old ∷ amount ∷ [])) w k) (λ v. set_call ev name vs v) (answered_kept (answer p (old ∷ amount ∷ [])) w k)
+    (λ v u j. then_kept u (called_setter ev name (vs ++ v ∷ []) u j) (λ x. gave v) (setter_kept ev h name (vs ++ v ∷ []) u j) (λ x t i. same t))
+
+changed_call_kept : (ev : Eval) → Keeps ev → (env : Context) (p : of_values.Primitive) (name : Nam) (vs : List Val) (w : State) (k : ℕ)
+    → Kept w (changed_call ev env p name vs w k)
+changed_call_kept ev h env p name [] w k = same w
+changed_call_kept ev h env p name (amount ∷ vs) w k =
+    then_kept w (called ev env name vs w k) (λ old. changed_from ev p name vs amount old) (applied_kept ev h env (callee_of name) name vs w k)
+    (λ old u j. changed_from_kept ev h p name vs amount old u j)
+
+amount_kept : (ev : Eval) → Keeps ev → (env : Context) (fs : Frms) (vs : List Val) (go : List Val → Run)
+    → ((us : List Val) (u : State) (j : ℕ) → Kept u (go us u j)) → (w : State) (k : ℕ) → Kept w (with_amount ev env fs vs go w k)
+amount_kept ev h env nil vs go g w k = g _ w k
+amount_kept ev h env (cons f fs) vs go g w k = collect_kept ev h env (cons f fs) vs go g w k
+
 acted_kept : (ev : Eval) → Keeps ev → (env : Context) (a : Action) (vs : List Val) (w : State) (k : ℕ) → Kept w (acted ev env a vs w k)
 acted_kept ev h env (Call name) vs w k = applied_kept ev h env (callee_of name) name vs w k
-acted_kept ev h env (CallSetter name) vs w k = defined_kept ev h (last_first vs) (setter_value name) (function_in w.setters name) w k
+acted_kept ev h env (CallSetter name) vs w k = setter_kept ev h name vs w k
 acted_kept ev h env (Store name) vs w k = stored_only_kept name (only_value vs) w k
 acted_kept ev h env (Change p name) vs w k = changed_kept p name (only_value vs) w k
 acted_kept ev h env (NewValue name f) vs w k =
-    collect_kept ev h env (alone f) vs (λ us u j. called_setter ev name us u j)
-    (λ us u j. defined_kept ev h (last_first us) (setter_value name) (function_in u.setters name) u j) w k
+    collect_kept ev h env (alone f) vs (λ us u j. called_setter ev name us u j) (λ us u j. setter_kept ev h name us u j) w k
+acted_kept ev h env (Amount p name fs) vs w k =
+    amount_kept ev h env fs vs (λ us u j. changed_call ev env p name (last_first us) u j) (λ us u j. changed_call_kept ev h env p name (last_first us) u j) w k
+acted_kept ev h env (ChangeCall p name) vs w k = changed_call_kept ev h env p name (last_first vs) w k
 
 collected_kept : (ev : Eval) → Keeps ev → (env : Context) (fs : Frms) (a : Action) (w : State) (k : ℕ) → Kept w (collected ev env fs a w k)
 collected_kept ev h env fs a w k = collect_kept ev h env fs [] (acted ev env a) (λ us u j. acted_kept ev h env a us u j) w k
@@ -340,19 +363,17 @@ setf_kept ev h env (cons p (cons f fs)) v w k =
     then_kept w (assigned ev env (place_in (operator_in p)) (parts_in p) f w k) (λ u. setf ev env fs u)
     (assigned_kept ev h env (place_in (operator_in p)) (parts_in p) f w k) (λ x u j. setf_kept ev h env fs x u j)
 
-amount_kept : (ev : Eval) → Keeps ev → (env : Context) (fs : Frms) (a : Action) (w : State) (k : ℕ) → Kept w (by_amount ev env fs a w k)
-amount_kept ev h env nil a w k = acted_kept ev h env a _ w k
-amount_kept ev h env (cons f fs) a w k = collected_kept ev h env (cons f fs) a w k
-
-place_kept : (ev : Eval) → Keeps ev → (env : Context) (p : of_values.Primitive) (o : Option Plc) (fs : Frms) (w : State) (k : ℕ) → Kept w (changed_place ev env p o fs w k)
-place_kept ev h env p None fs w k = same w
-place_kept ev h env p (Some (variable_place n)) fs w k = amount_kept ev h env fs (Change p n) w k
-place_kept ev h env p (Some slot_value_place) fs w k = same w
-place_kept ev h env p (Some (call_place n)) fs w k = same w
+place_kept : (ev : Eval) → Keeps ev → (env : Context) (p : of_values.Primitive) (o : Option Plc) (ps fs : Frms) (w : State) (k : ℕ)
+    → Kept w (changed_place ev env p o ps fs w k)
+place_kept ev h env p None ps fs w k = same w
+place_kept ev h env p (Some (variable_place n)) ps fs w k =
+    amount_kept ev h env fs [] (acted ev env (Change p n)) (λ us u j. acted_kept ev h env (Change p n) us u j) w k
+place_kept ev h env p (Some slot_value_place) ps fs w k = same w
+place_kept ev h env p (Some (call_place n)) ps fs w k = collected_kept ev h env ps (Amount p n fs) w k
 
 changing_kept : (ev : Eval) → Keeps ev → (env : Context) (p : of_values.Primitive) (fs : Frms) (w : State) (k : ℕ) → Kept w (changing ev env p fs w k)
 changing_kept ev h env p nil w k = same w
-changing_kept ev h env p (cons f fs) w k = place_kept ev h env p (place_in (operator_in f)) fs w k
+changing_kept ev h env p (cons f fs) w k = place_kept ev h env p (place_in (operator_in f)) (parts_in f) fs w k
 
 -- ---- forms
 

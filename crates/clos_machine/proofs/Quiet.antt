@@ -22,13 +22,13 @@ use Rattle.clos_world.specs.declared.functions.Function.{Function}
 use Rattle.clos_world.specs.declared.generic.Generic.{Generic}
 use Rattle.clos_machine.specs.Assignment.{stored, stored_globally, stored_only, made_of, changed_only, with_local}
 use Rattle.clos_machine.specs.Callee.{callee_of}
-use Rattle.clos_machine.specs.Calls.{known, restoring, parameters_run, body_run, applied_to, called_defined, called_setter, setter_value, dispatched, called_generic, called_function, applied}
+use Rattle.clos_machine.specs.Calls.{known, restoring, parameters_run, body_run, applied_to, called_defined, called, called_setter, setter_value, dispatched, called_generic, called_function, applied}
 use Rattle.clos_machine.specs.Control.{keeping, sequence, while_true, until_true, branch, followed, tested, clause, clauses}
 use Rattle.clos_machine.specs.Fault.{answered}
 use Rattle.clos_machine.specs.Machine.{at, below, after, resume, leaves, denote, loop_of, targets}
-use Rattle.clos_machine.specs.Meaning.{acted, collect, collected, alone, setq, setf, assigned, place_in, meaning, closed}
+use Rattle.clos_machine.specs.Meaning.{acted, collect, collected, alone, with_amount, set_call, changed_from, changed_call, setq, setf, assigned, place_in, meaning, closed}
 use Rattle.clos_machine.specs.Objects.{made, designated, allocated, instance_made}
-use Rattle.clos_machine.specs.Outcome.{Out, Gave, Stopped, Run, Eval, then_do, step_then, stopped, is_true}
+use Rattle.clos_machine.specs.Outcome.{Out, Gave, Stopped, Run, Eval, then_do, step_then, gave, stopped, is_true}
 use Rattle.clos_machine.specs.Output.{output_of, line_ended}
 use Rattle.clos_machine.specs.Parameters.{Sources, argument, refused, init, fits, sources}
 use Rattle.clos_machine.specs.Variables.{Loop, found_value, variable_value, inner, leaving, init_form, within, binding, in_order, together, aside, name_in, counted, result_value, turns, turns_in, repeated}
@@ -37,13 +37,13 @@ use Rattle.clos_machine.specs.declared.callee.Callee.{Callee}
 use Rattle.clos_machine.specs.declared.callee.Callee.TheVariants.{Output, Terpri, Primitive, MakeInstance, Defined}
 use Rattle.clos_machine.specs.declared.callee.Output as output
 use Rattle.clos_machine.specs.declared.machine.Action.{Action}
-use Rattle.clos_machine.specs.declared.machine.Action.TheVariants.{Call, CallSetter, Store, Change, NewValue}
+use Rattle.clos_machine.specs.declared.machine.Action.TheVariants.{Call, CallSetter, Store, Change, NewValue, Amount, ChangeCall}
 use Rattle.clos_machine.specs.declared.machine.Control.{Control}
 use Rattle.clos_machine.specs.declared.machine.Control.TheVariants.{Progn, Prog1, If, When, Unless, And, Or}
 use Rattle.clos_machine.specs.declared.machine.Doing.TheVariants.{Start, Act}
 use Rattle.clos_machine.specs.declared.machine.Doing.TheVariants as doing
 use Rattle.clos_machine.specs.declared.machine.Frame.{Frame}
-use Rattle.clos_machine.specs.declared.machine.Frame.TheVariants.{Rest, Keep, Clause, Collect, Body, Bind, Scope, InOrder, Aside, Count, Turn, Setq, Setf, Known, Passing}
+use Rattle.clos_machine.specs.declared.machine.Frame.TheVariants.{Rest, Keep, Clause, Collect, Body, Bind, Scope, InOrder, Aside, Count, Turn, Setq, Setf, Changed, Known, Passing}
 use Rattle.clos_machine.specs.declared.machine.Level.{Level}
 use Rattle.clos_machine.specs.declared.machine.Machine.{Machine}
 use Rattle.clos_machine.specs.declared.machine.Repetition.{Repetition}
@@ -84,6 +84,12 @@ halted o go w h = subst (λ x. Quiet (then_do x go) w) (sym h.1) (refl, refl)
 then_same : (o : Out) (go : Val → Run) (w : State) → leaves o w 0 → ((v : Val) → Quiet (go v w 0) w) → Quiet (then_do o go) w
 then_same (Stopped c u k) go w h g = subst (λ x. (unbound x ≡ unbound w) × (k ≡ 0)) (sym h.0) (refl, h.1)
 then_same (Gave v u k) go w h g = subst (λ x. Quiet (go v x k) w) (sym h.0) (subst (λ j. Quiet (go v w j) w) (sym h.1) (g v))
+
+-- an outcome that leaves all but the variables, and what follows it
+follows_quiet : (o : Out) (go : Val → Run) (w : State) → Quiet o w → ((v : Val) (u : State) → Quiet (go v u 0) u) → Quiet (then_do o go) w
+follows_quiet (Stopped c u k) go w h g = h
+follows_quiet (Gave v u k) go w h g =
+    subst (λ x. leaves (closed (go v u k)) x 0) h.0 (subst (λ j. leaves (closed (go v u j)) (unbound u) 0) (sym h.1) (g v u))
 
 made_quiet : (ev : Eval) (env : Context) (d : Result ℕ Condition) (w : State) → leaves (closed (made ev env d w 0)) (unbound w) 0
 made_quiet ev env (Err c) w = (refl, refl)
@@ -176,15 +182,41 @@ changed_quiet p name None w = (refl, refl)
 changed_quiet p name (Some amount) w =
     then_same (made_of p name amount w 0) (λ v. stored name v) w (made_same p name amount (found_value w name) w) (λ v. stored_quiet name v w)
 
+-- ---- a call that is changed
+
+setter_quiet : (n : ℕ) (name : Nam) (vs : List Val) (w : State) → Quiet (called_setter (meaning n) name vs w 0) w
+setter_quiet n name vs w = defined_quiet n (last_first vs) (setter_value name) (function_in w.setters name) w
+
+changed_from_quiet : (n : ℕ) (p : of_values.Primitive) (name : Nam) (vs : List Val) (amount old : Val) (w : State)
+    → Quiet (changed_from (meaning n) p name vs amount old w 0) w
+changed_from_quiet n p name vs amount old w =
+    follows_quiet (answered (answer p (old ∷ amount ∷ [])) w 0) (λ v. set_call (meaning n) name vs v) w (answered_quiet (answer p (old ∷ amount ∷ [])) w)
+    (λ v u. follows_quiet (called_setter (meaning n) name (vs ++ v ∷ []) u 0) (λ x. gave v) u (setter_quiet n name (vs ++ v ∷ []) u) (λ x t. (refl, refl)))
+
+change_call_quiet : (n : ℕ) (env : Context) (p : of_values.Primitive) (name : Nam) (vs : List Val) (w : State)
+    → Quiet (changed_call (meaning n) env p name vs w 0) w
+change_call_quiet n env p name [] w = (refl, refl)
+change_call_quiet n env p name (amount ∷ vs) w =
+    follows_quiet (called (meaning n) env name vs w 0) (λ old. changed_from (meaning n) p name vs amount old) w
+    (applied_quiet n env (callee_of name) name vs w) (λ old u. changed_from_quiet n p name vs amount old u)
+
+amount_quiet : (n : ℕ) (env : Context) (p : of_values.Primitive) (name : Nam) (fs : Frms) (vs : List Val) (w : State)
+    → Quiet (with_amount (meaning n) env fs vs (λ us u k. changed_call (meaning n) env p name (last_first us) u k) w 0) w
+amount_quiet n env p name nil vs w = change_call_quiet n env p name (last_first (vs ++ value.integer (pos 1) ∷ [])) w
+amount_quiet n env p name (cons f fs) vs w =
+    then_quiet n env (Plain f) (λ v. collect (meaning n) env fs (vs ++ v ∷ []) (λ us u k. changed_call (meaning n) env p name (last_first us) u k)) w
+
 -- ---- actions
 
 acted_quiet : (n : ℕ) (env : Context) (a : Action) (vs : List Val) (w : State) → Quiet (acted (meaning n) env a vs w 0) w
 acted_quiet n env (Call name) vs w = applied_quiet n env (callee_of name) name vs w
-acted_quiet n env (CallSetter name) vs w = defined_quiet n (last_first vs) (setter_value name) (function_in w.setters name) w
+acted_quiet n env (CallSetter name) vs w = setter_quiet n name vs w
 acted_quiet n env (Store name) vs w = stored_only_quiet name (only_value vs) w
 acted_quiet n env (Change p name) vs w = changed_quiet p name (only_value vs) w
 acted_quiet n env (NewValue name f) vs w =
     then_quiet n env (Plain f) (λ v. collect (meaning n) env nil (vs ++ v ∷ []) (λ us u k. called_setter (meaning n) name us u k)) w
+acted_quiet n env (Amount p name fs) vs w = amount_quiet n env p name fs vs w
+acted_quiet n env (ChangeCall p name) vs w = change_call_quiet n env p name (last_first vs) w
 
 collect_quiet : (n : ℕ) (env : Context) (fs : Frms) (vs : List Val) (a : Action) (w : State) → Quiet (collect (meaning n) env fs vs (acted (meaning n) env a) w 0) w
 collect_quiet n env nil vs a w = acted_quiet n env a vs w
@@ -332,14 +364,12 @@ after_quiet n env (Count l) v w = repeated_quiet n env (loop_of l) v w
 after_quiet n env (Turn l counter rest) v w = turn_quiet n env (loop_of l) counter.0 counter.1 rest v w
 after_quiet n env (Setq f place rest) v w = setq_quiet n env (drop place (targets (operator_in f))) rest v w
 after_quiet n env (Setf rest) v w = setf_quiet n env rest v w
+after_quiet n env (Changed p name vs amount) v w = changed_from_quiet n p name vs (value_of amount) v w
 after_quiet n env (Known saved) v w = (refl, refl)
 after_quiet n env Passing v w = (refl, refl)
 
 passed_quiet : (n : ℕ) (env : Context) (f : Frame) (o : Out) (w : State) → Quiet o w → Quiet (then_do o (after (meaning n) env f)) w
-passed_quiet n env f (Stopped c u k) w h = h
-passed_quiet n env f (Gave v u k) w h =
-    subst (λ x. leaves (closed (after (meaning n) env f v u k)) x 0) h.0
-    (subst (λ j. leaves (closed (after (meaning n) env f v u j)) (unbound u) 0) (sym h.1) (after_quiet n env f v u))
+passed_quiet n env f o w h = follows_quiet o (after (meaning n) env f) w h (λ v u. after_quiet n env f v u)
 
 resume_quiet : (ls : List Level) (env : Context) (o : Out) (w : State) → Quiet o w → Quiet (resume ls env o) w
 resume_quiet [] env o w h = h

@@ -16,16 +16,18 @@ use Rattle.clos_world.specs.declared.condition.Stop.{Stop}
 use Rattle.clos_world.specs.declared.condition.Stop.TheVariants.{Refused, Storage}
 use Rattle.clos_machine.specs.Calls.{restoring, parameters_run}
 use Rattle.clos_machine.specs.Control.{followed, keeping, tested, clauses, sequence}
-use Rattle.clos_machine.specs.Meaning.{acted, collect, setq, setf, meaning, closed}
+use Rattle.clos_machine.specs.Meaning.{acted, changed_from, collect, setq, setf, meaning, closed}
 use Rattle.clos_machine.specs.Outcome.{Out, Gave, Stopped, Run, Eval, then_do, step_then, gave}
 use Rattle.clos_machine.specs.Parameters.{Sources, argument, refused, init}
 use Rattle.clos_machine.specs.Variables.{Loop, in_order, binding, within, aside, repeated, turns}
 use Rattle.clos_machine.specs.declared.arguments.Context.{Context}
+use Rattle.clos_machine.specs.declared.machine.Action.{Action}
+use Rattle.clos_machine.specs.declared.machine.Action.TheVariants.{Call, CallSetter, Store, Change, NewValue, Amount, ChangeCall}
 use Rattle.clos_machine.specs.declared.machine.Doing.{Doing}
 use Rattle.clos_machine.specs.declared.machine.Doing.TheVariants.{Start, Act, Give}
 use Rattle.clos_machine.specs.declared.machine.Doing.TheVariants as doing
 use Rattle.clos_machine.specs.declared.machine.Frame.{Frame}
-use Rattle.clos_machine.specs.declared.machine.Frame.TheVariants.{Rest, Keep, Clause, Collect, Body, Bind, Scope, InOrder, Aside, Count, Turn, Setq, Setf, Known, Passing}
+use Rattle.clos_machine.specs.declared.machine.Frame.TheVariants.{Rest, Keep, Clause, Collect, Body, Bind, Scope, InOrder, Aside, Count, Turn, Setq, Setf, Changed, Known, Passing}
 use Rattle.clos_machine.specs.declared.machine.Level.{Level}
 use Rattle.clos_machine.specs.declared.machine.Machine.{Machine}
 use Rattle.clos_machine.specs.declared.machine.Repetition.{Repetition}
@@ -58,6 +60,7 @@ below env (Count l) = env
 below env (Turn l counter rest) = env
 below env (Setq f place rest) = env
 below env (Setf rest) = env
+below env (Changed p name vs amount) = env
 below env (Known saved) = saved
 below env Passing = env
 
@@ -76,6 +79,7 @@ after ev env (Count l) = λ v. repeated ev env (loop_of l) v
 after ev env (Turn l counter rest) = λ v w s. then_do (sequence ev env rest v w s) (λ u. turns ev env (loop_of l) counter.0 counter.1)
 after ev env (Setq f place rest) = λ v. setq ev env (drop place (targets (operator_in f))) rest v
 after ev env (Setf rest) = λ v. setf ev env rest v
+after ev env (Changed p name vs amount) = λ old. changed_from ev p name vs (value_of amount) old
 after ev env (Known saved) = gave
 after ev env Passing = gave
 
@@ -136,12 +140,22 @@ abbrev pub Takes : Run → State → ℕ → Result Value Stop → State → ℕ
 Takes run w s (Ok v) w' s' = (k : ℕ) × (s ≡ k + s') × ((t : ℕ) → run w (k + t) ≡ Gave (value_of v) w' t)
 Takes run w s (Err e) w' s' = Unit {0}
 
+-- How many actions more may follow an action with no step between them.
+abbrev pub lift : Action → ℕ
+lift (Call name) = 0
+lift (CallSetter name) = 0
+lift (Store name) = 0
+lift (Change p name) = 0
+lift (NewValue name f) = 0
+lift (Amount p name fs) = 6
+lift (ChangeCall p name) = 5
+
 -- What is left to do, which each turn makes smaller: a frame that may lead to an action weighs more, an action yet more.
 abbrev pub weight_of : Frame → ℕ
 weight_of (Rest c fs) = 2
 weight_of (Keep fs v) = 2
 weight_of (Clause fs cs) = 2
-weight_of (Collect action rest values) = 4
+weight_of (Collect action rest values) = 4 + lift action
 weight_of (Body rest saved locals) = 2
 weight_of (Bind name plan body saved locals) = 2
 weight_of (Scope outer rest) = 2
@@ -151,6 +165,7 @@ weight_of (Count l) = 4
 weight_of (Turn l counter rest) = 4
 weight_of (Setq f place rest) = 2
 weight_of (Setf rest) = 2
+weight_of (Changed p name vs amount) = 6
 weight_of (Known saved) = 2
 weight_of Passing = 2
 
@@ -160,7 +175,7 @@ load (l ∷ ls) = weight_of l.frame + load ls
 
 abbrev pub given : Doing → ℕ
 given (Start task) = 0
-given (Act action values) = 8
+given (Act action values) = 8 + lift action
 given (doing.Turn l counter) = 8
 given (Give value) = 5
 

@@ -3,7 +3,7 @@ use Rattle.std.specs.Prelude.{ℕ, zero, suc, pos, Bool, true, false, List, [], 
 use Rattle.lisp_data.specs.Name.{Nam}
 use Rattle.lisp_data.specs.Print.{Called, by_symbol, by_setf}
 use Rattle.lisp_data.specs.Value.{Val, integer, generic, list, nil}
-use Rattle.lisp_prims.specs.Primitive.{truth}
+use Rattle.lisp_prims.specs.Primitive.{truth, answer}
 use Rattle.lisp_prims.specs.declared.primitive.Primitive.{Primitive}
 use Rattle.lisp_prims.specs.declared.primitive.Primitive.TheVariants.{Number}
 use Rattle.lisp_prims.specs.declared.arithmetic.Arithmetic.TheVariants.{Sum, Difference}
@@ -15,17 +15,18 @@ use Rattle.clos_forms.specs.Operator as of
 use Rattle.clos_forms.specs.Quotation.{name_value}
 use Rattle.clos_world.specs.Functions.{function_in}
 use Rattle.clos_world.specs.Generic.{function_named}
-use Rattle.clos_world.specs.Values.{only_value}
+use Rattle.clos_world.specs.Values.{only_value, last_first}
 use Rattle.clos_world.specs.World.{State, unbound}
 use Rattle.clos_world.specs.declared.condition.ConditionKind.TheVariants.{ProgramError, UndefinedFunction, Unsupported, DepthLimit}
 use Rattle.clos_machine.specs.Assignment.{stored_only, changed_only}
 use Rattle.clos_machine.specs.Calls.{known, called, called_setter, setter_value, combined, system}
 use Rattle.clos_machine.specs.Control.{going, clauses}
-use Rattle.clos_machine.specs.Outcome.{Out, Gave, Stopped, Run, Eval, then_do, step_then, stopped}
+use Rattle.clos_machine.specs.Fault.{answered}
+use Rattle.clos_machine.specs.Outcome.{Out, Gave, Stopped, Run, Eval, then_do, step_then, gave, stopped}
 use Rattle.clos_machine.specs.Variables.{found_value, variable_value, in_order, aside, dotimes}
 use Rattle.clos_machine.specs.declared.arguments.Context.{Context}
 use Rattle.clos_machine.specs.declared.machine.Action.{Action}
-use Rattle.clos_machine.specs.declared.machine.Action.TheVariants.{Call, CallSetter, Store, Change, NewValue}
+use Rattle.clos_machine.specs.declared.machine.Action.TheVariants.{Call, CallSetter, Store, Change, NewValue, Amount, ChangeCall}
 use Rattle.clos_machine.specs.declared.machine.Control.TheVariants.{Progn, Prog1, If, When, Unless, And, Or}
 use Rattle.clos_machine.specs.declared.machine.Task.TheVariants.{Plain, Effect, System}
 
@@ -37,6 +38,25 @@ collect ev env (form.cons f fs) vs go w s = then_do (ev env (Plain f) w s) (λ v
 abbrev pub alone : Frm → Frms
 alone f = form.cons f form.nil
 
+-- ---- a call that is changed by an amount: it is read as a call, and then set
+
+-- these values and the amount, which is 1 where no form gives it
+abbrev pub with_amount : Eval → Context → Frms → List Val → (List Val → Run) → Run
+with_amount ev env form.nil vs go w s = go (vs ++ integer (pos 1) ∷ []) w s
+with_amount ev env (form.cons f fs) vs go w s = collect ev env (form.cons f fs) vs go w s
+
+-- the value is the new one, whatever the function (setf name) gives
+abbrev pub set_call : Eval → Nam → List Val → Val → Run
+set_call ev name vs v w s = then_do (called_setter ev name (vs ++ v ∷ []) w s) (λ u. gave v)
+
+abbrev pub changed_from : Eval → Primitive → Nam → List Val → Val → Val → Run
+changed_from ev p name vs amount old w s = then_do (answered (answer p (old ∷ amount ∷ [])) w s) (λ v. set_call ev name vs v)
+
+-- with the amount before the call's arguments
+abbrev pub changed_call : Eval → Context → Primitive → Nam → List Val → Run
+changed_call ev env p name [] w s = stopped ProgramError [] w s
+changed_call ev env p name (amount ∷ vs) w s = then_do (called ev env name vs w s) (λ old. changed_from ev p name vs amount old)
+
 -- what is done with the values
 abbrev pub acted : Eval → Context → Action → List Val → Run
 acted ev env (Call name) vs w s = called ev env name vs w s
@@ -44,6 +64,8 @@ acted ev env (CallSetter name) vs w s = called_setter ev name vs w s
 acted ev env (Store name) vs w s = stored_only name (only_value vs) w s
 acted ev env (Change p name) vs w s = changed_only p name (only_value vs) w s
 acted ev env (NewValue name f) vs w s = collect ev env (alone f) vs (λ us u k. called_setter ev name us u k) w s
+acted ev env (Amount p name fs) vs w s = with_amount ev env fs vs (λ us u k. changed_call ev env p name (last_first us) u k) w s
+acted ev env (ChangeCall p name) vs w s = changed_call ev env p name (last_first vs) w s
 
 -- these forms, and then what is done with their values
 abbrev pub collected : Eval → Context → Frms → Action → Run
@@ -72,20 +94,16 @@ setf ev env form.nil v w s = Gave v w s
 setf ev env (form.cons p form.nil) v w s = stopped ProgramError [] w s
 setf ev env (form.cons p (form.cons f fs)) v w s = then_do (assigned ev env (place_in (operator_in p)) (parts_in p) f w s) (λ u. setf ev env fs u)
 
--- the amount is 1 where none is written
-abbrev pub by_amount : Eval → Context → Frms → Action → Run
-by_amount ev env form.nil action w s = acted ev env action (integer (pos 1) ∷ []) w s
-by_amount ev env (form.cons f fs) action w s = collected ev env (form.cons f fs) action w s
-
-abbrev pub changed_place : Eval → Context → Primitive → Option Plc → Frms → Run
-changed_place ev env p None fs w s = stopped ProgramError [] w s
-changed_place ev env p (Some (variable_place n)) fs w s = by_amount ev env fs (Change p n) w s
-changed_place ev env p (Some slot_value_place) fs w s = stopped Unsupported [] w s
-changed_place ev env p (Some (call_place n)) fs w s = stopped Unsupported [] w s
+-- a place with its parts is changed by the amount that these forms give
+abbrev pub changed_place : Eval → Context → Primitive → Option Plc → Frms → Frms → Run
+changed_place ev env p None ps fs w s = stopped ProgramError [] w s
+changed_place ev env p (Some (variable_place n)) ps fs w s = with_amount ev env fs [] (acted ev env (Change p n)) w s
+changed_place ev env p (Some slot_value_place) ps fs w s = stopped Unsupported [] w s
+changed_place ev env p (Some (call_place n)) ps fs w s = collected ev env ps (Amount p n fs) w s
 
 abbrev pub changing : Eval → Context → Primitive → Frms → Run
 changing ev env p form.nil w s = stopped ProgramError [] w s
-changing ev env p (form.cons place fs) w s = changed_place ev env p (place_in (operator_in place)) fs w s
+changing ev env p (form.cons place fs) w s = changed_place ev env p (place_in (operator_in place)) (parts_in place) fs w s
 
 -- ---- function: a generic function; other functions are no objects here
 

@@ -45,6 +45,11 @@ pub enum Action {
     Change(Primitive, Name),
     /// They are the arguments of a place: the value of this form comes last, and then `(setf name)` is called.
     NewValue(Name, Form),
+    /// They are the arguments of a place that is changed by an amount: the value of the form, if there is one, else 1.
+    Amount(Primitive, Name, Forms),
+    /// The function of this name is called with all but the last, and `(setf name)` with them and what the function of
+    /// values makes of the call's value and the last of them, the amount.
+    ChangeCall(Primitive, Name),
 }
 
 /// A loop of `dotimes`: how many variables are outside it, its own, whether it has a result form, and that form, where
@@ -118,6 +123,8 @@ pub enum Frame {
     Setq(Form, usize, Forms),
     /// These places and forms follow.
     Setf(Forms),
+    /// It is the value of a call of this name with these arguments, and is changed by this amount.
+    Changed(Primitive, Name, Values, Value),
     /// The context goes back to the caller's.
     Known(Context),
     /// Nothing.

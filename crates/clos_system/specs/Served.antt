@@ -21,7 +21,7 @@ use Rattle.clos_syntax.specs.declared.top.Top.{Top}
 use Rattle.clos_syntax.specs.declared.top.Top.TheVariants.{DefClass, DefGeneric, DefMethod, Defun, DefVar, RemoveMethod, AddDependent, RemoveDependent, InPackage, Expr}
 use Rattle.clos_system.specs.declared.served.Served.{Served}
 use Rattle.clos_system.specs.declared.served.Served.TheVariants.{DefineClass, DefineMethod, DefineFunction, DefineVariable, Nothing, Expression}
-use Rattle.clos_forms.specs.Form.{Frm, form, Frms, nil, cons, operator_in}
+use Rattle.clos_forms.specs.Form.{Frm, form, Frms, nil, cons}
 use Rattle.clos_forms.specs.Names.{is_called, is_one_of, functions, system_functions}
 use Rattle.clos_forms.specs.Operator.{Opr, Plc, variable_place, slot_value_place, call_place}
 use Rattle.lisp_data.specs.Print.{Called, by_symbol, by_setf}
@@ -48,19 +48,11 @@ abbrev pub names_served : Called → Bool
 names_served (by_symbol name) = is_served_as (callee_of name) name
 names_served (by_setf name) = true
 
--- a place that may be set, and one that may be changed by an amount
+-- a place that may be set
 abbrev pub is_set : Plc → Bool
 is_set (variable_place n) = true
 is_set slot_value_place = false
 is_set (call_place n) = true
-
-abbrev pub is_changed : Opr → Bool
-is_changed (of.place (variable_place n)) = true
-is_changed o = false
-
-abbrev pub changes_variable : Frms → Bool
-changes_variable nil = true
-changes_variable (cons f fs) = is_changed (operator_in f)
 
 -- a call of a function by its kind
 abbrev pub calls_as : Callee → Nam → Frms → Bool
@@ -92,8 +84,8 @@ serves (of.let_form bs) ps = true
 serves (of.let_in_order bs) ps = true
 serves (of.setq ns) ps = true
 serves of.setf ps = true
-serves of.incf ps = changes_variable ps
-serves of.decf ps = changes_variable ps
+serves of.incf ps = true
+serves of.decf ps = true
 serves (of.place p) ps = is_set p
 serves (of.dotimes n b) ps = true
 serves (of.with_slots bs) ps = false

@@ -6,7 +6,7 @@ ghost use Rattle.lisp_data.specs.DatumView.{datum_of};
 ghost use Rattle.clos_forms.specs.Form.{Frm, Frms};
 ghost use Rattle.clos_forms.specs.OperatorView.{called_of, operator_of, place_of};
 ghost use Rattle.clos_lambda.specs.LambdaList.{entries_of};
-ghost use Rattle.clos_system.specs.Served.{are_served, at_most_one_name, calls, class_name, classes_named, is_combination, is_empty, is_eql, is_one, is_plain, is_served, is_unserved, are_inits_served, served_class, served_function, served_method, served_name, served_of, served_variable, serves, names_served, is_served_as, is_served_if_any, is_set, is_changed, changes_variable};
+ghost use Rattle.clos_system.specs.Served.{are_served, at_most_one_name, calls, class_name, classes_named, is_combination, is_empty, is_eql, is_one, is_plain, is_served, is_unserved, are_inits_served, served_class, served_function, served_method, served_name, served_of, served_variable, serves, names_served, is_served_as, is_served_if_any, is_set};
 
 use clos_forms::{
     Form, Forms, FunctionName, Operator, Place, is_function, is_system_function, is_the,
@@ -321,8 +321,8 @@ fn serves(operator: &Operator, parts: &Forms) -> bool
         Operator::LetInOrder(_) => true,
         Operator::Setq(_) => true,
         Operator::Setf => true,
-        Operator::Incf => changes_variable(parts),
-        Operator::Decf => changes_variable(parts),
+        Operator::Incf => true,
+        Operator::Decf => true,
         Operator::Place(place) => is_set(place),
         Operator::Dotimes(_, _) => true,
         Operator::WithSlots(_) => false,
@@ -361,25 +361,6 @@ fn is_set(place: &Place) -> bool
         Place::Variable(_) => true,
         Place::SlotValue => false,
         Place::Call(_) => true,
-    }
-}
-
-/// Whether what is changed by an amount is a variable.
-fn changes_variable(parts: &Forms) -> bool
-    ensures { result ≡ changes_variable parts.now }
-{
-    match parts.split_first() {
-        None => true,
-        Some((place, _)) => is_changed(place.operator()),
-    }
-}
-
-fn is_changed(operator: &Operator) -> bool
-    ensures { result ≡ is_changed (operator_of operator.now) }
-{
-    match operator {
-        Operator::Place(Place::Variable(_)) => true,
-        _ => false,
     }
 }
 

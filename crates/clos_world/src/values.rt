@@ -1,5 +1,5 @@
 //! Values in order.
-ghost use Rattle.std.specs.Prelude.{◌≡◌, ◌++◌, ◌∷◌, [], map, if◌then◌else◌, is_ok, option_map, length, OnOk};
+ghost use Rattle.std.specs.Prelude.{◌≡◌, ◌++◌, ◌∷◌, [], map, if◌then◌else◌, is_ok, option_map, length, IfOk, MatchOption, OnOk};
 ghost use Rattle.lisp_data.specs.ValueView.{value_of};
 ghost use Rattle.clos_world.specs.Values.{last_first, only_value};
 
@@ -69,6 +69,25 @@ impl Values {
             [value] => Some(value),
             _ => None,
         }
+    }
+
+    /// The same values.
+    pub fn copy(&self, alloc: Global) -> Result<Values, AllocError>
+        ensures { IfOk result (λ r. r ≡ self.now) }
+    {
+        let mut copies = Values::new(alloc);
+        for value in self.values.as_slice() {
+            copies.push(value.copy()?)?;
+        }
+        Ok(copies)
+    }
+
+    /// Takes off the last value.
+    #[tactic(auto, using(crate::proofs::Lists::last_before))]
+    pub fn take_last(&mut self) -> Option<Value>
+        ensures { MatchOption result (last_first self.old ≡ []) (λ v. last_first self.old ≡ value_of v ∷ self.new) }
+    {
+        self.values.pop()
     }
 
     /// Puts the last value before the others.
