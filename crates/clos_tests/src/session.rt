@@ -50,7 +50,7 @@ const UNSUPPORTED: &str = "; 28 (UNSUPPORTED)~";
 const NOT_SERVED: &str = "(defvar x (princ (typep 1 'integer)))
 (with-slots (a) (princ 1) a)
 (f (princ 1) (typep 1 'integer))
-(progn (princ 1) (cond (nil (incf (f 1)))))
+(progn (princ 1) (cond (nil (incf (slot-value 1 2)))))
 (progn (princ 1) (setf (slot-value 1 'a) 2))
 (progn (princ 1) #'initialize-instance)
 (defun f () (princ 1)) (defun f (&optional (x (typep 1 'integer))) 2) (f) => ; 28 (UNSUPPORTED)~1
@@ -155,6 +155,25 @@ const ASSIGNMENTS: &str = r#"(let ((a 1) (b 2)) (setq a 3 b 4) (princ (list a b)
 (defun (setf g) (v a b) (princ (list v a b)) 7) (princ (setf (g 1 2) (princ 3))) => 3(3 1 2)7
 (defun (setf g) (v) (princ v) v) (princ (setf (g) 1 (g) 2)) => 122
 (setf (g (princ 1)) (princ 2)) => 12~; 3 (UNDEFINED-FUNCTION (SETF G))~
+(defun f (a) (princ "r") a) (defun (setf f) (v a) (princ (list v a)) 'z) (princ (incf (f (+ 1 2)) (+ 1 1))) => r(5 3)5
+(defun f (a) (princ "r") a) (defun (setf f) (v a) v) (incf (f (princ 1)) (princ 2)) => 12r
+(defun f (a b) (- a b)) (defun (setf f) (v a b) (princ (list v a b))) (decf (f (princ 9) (princ 4)) (princ 7)) => 947(-2 9 4)
+(defun f () 9) (defun (setf f) (v) (princ v)) (incf (f)) (decf (f)) (decf (f) 5) => 1084
+(incf (f (princ 1)) (princ 2)) => 12~; 3 (UNDEFINED-FUNCTION F)~
+(defun f (a) (princ a)) (incf (f 1)) => 1~; 3 (UNDEFINED-FUNCTION (SETF F))~
+(defun (setf f) (v) v) (defun f () "s") (incf (f) (princ 'b)) (defun f () 1) (incf (f) 'b) => B~; 4 (TYPE-ERROR "s")~; 4 (TYPE-ERROR B)~
+(defun f () 9223372036854775807) (defun (setf f) (v) (princ v)) (incf (f)) (incf (f) 0) => ; 5 (INTEGER-RANGE)~9223372036854775807
+(defun (setf car) (v l) (princ (list v l)) v) (princ (incf (car (list 5 6)) 2)) => (7 (5 6))7
+(defun (setf princ) (v x) (prin1 (list v x))) (incf (princ 5)) => 5(6 5)
+(defmethod g (x) (princ "g") x) (defun (setf g) (v x) v) (princ (incf (g 4) 3)) => g7
+(defun f (x) (setq x 5) x) (defun (setf f) (v x) (princ (list v x))) (let ((x 1)) (incf (f x)) (princ x)) => (6 1)1
+(defun f (a) (* a 10)) (defun (setf f) (v a) (princ (list v a))) (princ (incf (f (incf (f 1))))) => (11 1)(111 11)111
+steps 3: (defun f () 1) (defun (setf f) (v) v) (incf (f))
+steps 2: (defun f () 1) (defun (setf f) (v) v) (incf (f)) => ; 29 (STEP-LIMIT)~
+steps 5: (defun f (a) a) (defun (setf f) (v a) v) (incf (f 1) 2)
+steps 4: (defun f (a) a) (defun (setf f) (v a) v) (incf (f 1) 2) => ; 29 (STEP-LIMIT)~
+depth 2: (defun f () 1) (defun (setf f) (v) v) (incf (f))
+depth 1: (defun f () 1) (defun (setf f) (v) 1) (incf (f)) => ; 30 (DEPTH-LIMIT)~
 steps 4: (let ((x 1)) (setq x 2))
 steps 3: (let ((x 1)) (setq x 2)) => ; 29 (STEP-LIMIT)~"#;
 
