@@ -75,11 +75,11 @@ impl Values {
     pub fn copy(&self, alloc: Global) -> Result<Values, AllocError>
         ensures { IfOk result (λ r. r ≡ self.now) }
     {
-        let mut copies = Values::new(alloc);
+        let mut values = Vec::new(alloc);
         for value in self.values.as_slice() {
-            copies.push(value.copy()?)?;
+            values.push(value.copy()?)?;
         }
-        Ok(copies)
+        Ok(Values { values })
     }
 
     /// Takes off the last value.
