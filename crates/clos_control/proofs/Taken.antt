@@ -50,15 +50,7 @@ ready zero env f v w t h e = absurd (omega (arith, h))
 ready (suc n) env f v w t h e =
     ap (meaning (suc n) env (Plain f) w) (one_more t) ∙ gives_at_once (meaning n) env (operator_in f) (parts_in f) v w t e
 
--- nothing is taken yet
-pub took_none : (n : ℕ) (env : Context) (w : State) (fs : Frms) (vs : List Val) (s : ℕ) → Took n env w fs vs s fs vs s
-took_none n env w fs vs s = record {
-  taken = 0;
-  steps = sym (omega arith);
-  same = λ go t. sym (ap (collect (meaning n) env fs vs go w) (omega arith));
-}
-
--- one more
+-- one more form is taken
 pub took_one : (n : ℕ) (env : Context) (w : State) (fs : Frms) (vs : List Val) (s : ℕ) (f : Frm) (fs' : Frms) (vs' : List Val) (s' : ℕ) (v : Val)
     → 0 < n → 0 < s' → Some v ≡ at_once w (operator_in f) → Took n env w fs vs s (cons f fs') vs' s' → Took n env w fs vs s fs' (vs' ++ v ∷ []) (s' - 1)
 took_one n env w fs vs s f fs' vs' s' v h k e r = record {
