@@ -15,10 +15,10 @@ ghost use Rattle.clos_machine.specs.Outcome.{Run, then_do};
 ghost use Rattle.clos_machine.specs.declared.machine.Action.TheVariants.{NewValue, Store};
 
 use crate::binding::value_of_variable;
-use crate::control::{begin_under, collect_next, done};
+use crate::control::{act_under, begin_under, collect_next, done};
 use clos_forms::{Form, Forms, Operator, Place};
 use clos_machine::fault::of_function;
-use clos_machine::machine::{Action, Doing, Frame, Level, Machine, Task};
+use clos_machine::machine::{Action, Doing, Frame, Machine, Task};
 use clos_world::{ConditionKind, Stop, Values, World, about_name, plain};
 use lisp_data::{Name, Value};
 use lisp_prims::Primitive;
@@ -262,7 +262,7 @@ fn set_by(
     ensures leads { (run : Run) (w : State)
         → ((t : ℕ) → then_do (collected (meaning machine.old.room) machine.old.context (cons first.now rest.now) action (at machine.old w) t) (λ u. setf (meaning machine.old.room) machine.old.context others.now u) ≡ run (at machine.old w) t)
         → Leads (inside machine.old run) w result machine.new }
-    ensures small { Grows 6 machine.old.levels result machine.new }
+    ensures small { Grows (6 + lift action) machine.old.levels result machine.new }
 {
     let next = Task::Plain(first.copy()?);
     let outer = Frame::Setf(others.copy()?);
@@ -388,11 +388,9 @@ fn set_call(
     ensures leads { (w : State) → Leads (inside machine.old (set_call (meaning machine.old.room) name values (value_of value))) w result machine.new }
     ensures small { Grows 10 machine.old.levels result machine.new }
 {
-    let room = machine.room;
     let frame = Frame::Keep(Forms::new(), value.copy()?);
     values.push(value)?;
-    machine.levels.push(Level { frame, room })?;
-    Ok(Doing::Act(Action::CallSetter(name), values))
+    act_under(machine, Action::CallSetter(name), values, frame)
 }
 
 /// The value goes to the variable of this name.

@@ -3,9 +3,10 @@ ghost use Rattle.std.specs.Prelude.{◌≡◌, ℕ, ◌+◌};
 ghost use Rattle.lisp_data.specs.ValueView.{value_of};
 ghost use Rattle.clos_world.specs.World.{State};
 ghost use Rattle.clos_machine.specs.Control.{going, followed, branch, keeping, clauses, clause, tested};
-ghost use Rattle.clos_machine.specs.Machine.{Leads, Grows, at, inside, below, after, lift, weight_of};
+ghost use Rattle.clos_machine.specs.Machine.{Leads, Grows, at, inside, below, after, given, lift, weight_of};
 ghost use Rattle.clos_machine.specs.Meaning.{acted, collect, meaning};
 ghost use Rattle.clos_machine.specs.Outcome.{Run, Gave, then_do};
+ghost use Rattle.clos_machine.specs.declared.machine.Doing.TheVariants.{Act};
 
 use clos_forms::Forms;
 use clos_machine::machine::{Action, Control, Doing, Frame, Level, Machine, Task};
@@ -41,6 +42,23 @@ pub fn begin_under(
     machine.levels.push(Level { frame: outer, room })?;
     machine.levels.push(Level { frame, room })?;
     Ok(Doing::Start(next))
+}
+
+/// Does this action with the values next, and then what the frame does with its value.
+pub fn act_under(
+    machine: &mut Machine,
+    action: Action,
+    values: Values,
+    frame: Frame,
+) -> Result<Doing, Stop>
+    ensures leads { (run : Run) (w : State) → below machine.old.context frame ≡ machine.old.context
+        → ((t : ℕ) → then_do (acted (meaning machine.old.room) machine.old.context action values (at machine.old w) t) (after (meaning machine.old.room) machine.old.context frame) ≡ run (at machine.old w) t)
+        → Leads (inside machine.old run) w result machine.new }
+    ensures small { Grows (weight_of frame + given (Act action values)) machine.old.levels result machine.new }
+{
+    let room = machine.room;
+    machine.levels.push(Level { frame, room })?;
+    Ok(Doing::Act(action, values))
 }
 
 /// Gives this value.

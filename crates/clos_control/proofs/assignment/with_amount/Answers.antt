@@ -1,10 +1,12 @@
 use Rattle.std.proofs.Common.{ap, sym, ◌∙◌}
 use Rattle.clos_machine.specs.Machine.{at}
-use Rattle.clos_machine.specs.Meaning.{acted, with_amount, meaning}
+use Rattle.clos_machine.specs.Meaning.{acted, collect, with_amount, meaning}
 use Rattle.clos_control.proofs.assignment.with_amount.Goals as goal
 
 pub returns-in-Some-clause-leads : goal.returns-in-Some-clause-leads
 returns-in-Some-clause-leads c = λ run w h.
-    c.begin_values.ensures.leads run w (λ t.
-    sym (ap (λ fs. with_amount (meaning c.args.machine.now.room) c.args.machine.now.context fs c.args.values
+    c.collect_next.ensures.leads run w (λ t.
+    ap (λ fs. collect (meaning c.args.machine.now.room) c.args.machine.now.context fs c.args.values
+    (acted (meaning c.args.machine.now.room) c.args.machine.now.context c.args.action) (at c.args.machine.now w) t) c.in-Some.ensures
+    ∙ sym (ap (λ fs. with_amount (meaning c.args.machine.now.room) c.args.machine.now.context fs c.args.values
     (acted (meaning c.args.machine.now.room) c.args.machine.now.context c.args.action) (at c.args.machine.now w) t) c.in-Some.ensures) ∙ h t)
