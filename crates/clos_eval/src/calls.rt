@@ -1,5 +1,5 @@
 //! Calls of functions, of generic functions and of methods (HyperSpec 3.1.2.1.2.3, 7.6.6).
-ghost use Rattle.std.specs.Prelude.{◌≡◌, ◌∷◌, ◌++◌, [], ℕ, IfOk, Some, slice_get, option_copied, true};
+ghost use Rattle.std.specs.Prelude.{◌≡◌, ◌∷◌, ◌++◌, ◌+◌, [], ℕ, IfOk, Some, slice_get, option_copied, true};
 ghost use Rattle.std.specs.List.{list_any};
 ghost use Rattle.lisp_data.specs.Value.{list, nil};
 ghost use Rattle.lisp_data.specs.ValueView.{value_of};
