@@ -286,7 +286,14 @@ pub fn change(
     match parts.split_first() {
         None => Err(Stop::Refused(plain(alloc, ConditionKind::ProgramError))),
         Some((place, amount)) => {
-            change_place(alloc, machine, primitive, place.operator(), place.parts(), amount)
+            change_place(
+                alloc,
+                machine,
+                primitive,
+                place.operator(),
+                place.parts(),
+                amount,
+            )
         }
     }
 }

@@ -154,7 +154,9 @@ fn change_call(
 {
     match values.take_last() {
         None => Err(Stop::Refused(plain(alloc, ConditionKind::ProgramError))),
-        Some(amount) => read_call(alloc, machine, world, primitive, name, values, amount, steps),
+        Some(amount) => read_call(
+            alloc, machine, world, primitive, name, values, amount, steps,
+        ),
     }
 }
 

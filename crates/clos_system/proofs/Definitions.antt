@@ -131,7 +131,7 @@ step_refused : (d : Dat) (w : State) (k : ℕ) → Refuses w (step d w k)
 step_refused d w k = choice_refuses (is_combination d) w _ (checked (top_of d) w k) (same w) (checked_refuses (top_of d) w k)
 
 -- what a session replies
-pub defines_nothing : (d : Dat) (w u : State) (r : Reply) → Replies (step d) w r u → DefinesNothing r w u
-defines_nothing d w u (Value v) h = tt
-defines_nothing d w u (a_condition number items) h = subst (Refuses w) h.3 (step_refused d w w.limits.steps)
-defines_nothing d w u (Storage k) h = tt
+pub defines_nothing : (d : Dat) (s : ℕ) (w u : State) (r : Reply) → Replies (step d) s w r u → DefinesNothing r w u
+defines_nothing d s w u (Value v) h = tt
+defines_nothing d s w u (a_condition number items) h = subst (Refuses w) h.3 (step_refused d w s)
+defines_nothing d s w u (Storage k) h = tt

@@ -14,10 +14,10 @@ use Rattle.clos_system.specs.declared.session.Reply.TheVariants.{Value, Conditio
 abbrev pub state_of : Session → State
 state_of s = seen s.world
 
--- It is the value or the condition of the run, within the session's limit of steps, and the state is the one after.
--- Where memory was refused, the state is the one after so many steps.
-abbrev pub Replies : Run → State → Reply → State → Type 0
-Replies run w (Value v) w' = (t : ℕ) × (run w w.limits.steps ≡ Gave (value_of v) w' t)
-Replies run w (Condition number items) w' =
-    (kind : ConditionKind) × (t : ℕ) × (number ≡ number_of kind) × (run w w.limits.steps ≡ Stopped (record { kind = kind; items = items }) w' t)
-Replies run w (Storage k) w' = (k ≤ w.limits.steps) × leaves (run w k) w' 0
+-- It is the value or the condition of the run within so many steps, and the state is the one after.
+-- Where memory was refused, the state is the one after as many steps as are told.
+abbrev pub Replies : Run → ℕ → State → Reply → State → Type 0
+Replies run s w (Value v) w' = (t : ℕ) × (run w s ≡ Gave (value_of v) w' t)
+Replies run s w (Condition number items) w' =
+    (kind : ConditionKind) × (t : ℕ) × (number ≡ number_of kind) × (run w s ≡ Stopped (record { kind = kind; items = items }) w' t)
+Replies run s w (Storage k) w' = (k ≤ s) × leaves (run w k) w' 0

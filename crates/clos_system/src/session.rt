@@ -1,5 +1,5 @@
 //! Sessions: the top-level forms that are submitted one after another, and what they leave.
-ghost use Rattle.std.specs.Prelude.{◌≡◌, ℕ, IfOk, Some};
+ghost use Rattle.std.specs.Prelude.{◌≡◌, ℕ, min, IfOk, Some};
 ghost use Rattle.lisp_data.specs.ValueView.{value_of};
 ghost use Rattle.lisp_data.specs.DatumView.{datum_of};
 ghost use Rattle.clos_world.specs.World.{State, seen};
@@ -70,11 +70,22 @@ impl Session {
 
     /// Performs a top-level form (HyperSpec 3.1.2.1), and answers as its rules have it. A refused form defines nothing.
     pub fn submit(&mut self, datum: &Datum) -> Reply
-        ensures reply { Replies (step (datum_of datum.now)) (state_of self.old) result (state_of self.new) }
+        ensures reply { Replies (step (datum_of datum.now)) (state_of self.old).limits.steps (state_of self.old) result (state_of self.new) }
         ensures refused { DefinesNothing result (state_of self.old) (state_of self.new) }
     {
         let limit = self.world.limits.steps;
-        let mut left = limit;
+        self.submit_within(datum, limit)
+    }
+
+    /// The same with so many steps at most: the form may take the smaller of `steps` and the session's limit. Where it would
+    /// take more, the reply is the condition STEP-LIMIT, and what it did before stays done. So with the steps that a
+    /// `Reply::Storage` tells, a session in the same state comes to the state that was left there.
+    pub fn submit_within(&mut self, datum: &Datum, steps: u64) -> Reply
+        ensures reply { Replies (step (datum_of datum.now)) (min steps (state_of self.old).limits.steps) (state_of self.old) result (state_of self.new) }
+        ensures refused { DefinesNothing result (state_of self.old) (state_of self.new) }
+    {
+        let budget = steps.min(self.world.limits.steps);
+        let mut left = budget;
         match perform(self.alloc, &mut self.world, datum, &mut left) {
             Ok(value) => Reply::Value(value),
             Err(Stop::Refused(condition)) => Reply::Condition {
@@ -82,7 +93,7 @@ impl Session {
                 items: condition.items,
             },
             Err(Stop::Storage) => Reply::Storage {
-                steps: limit - left,
+                steps: budget - left,
             },
         }
     }

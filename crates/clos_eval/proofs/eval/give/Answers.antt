@@ -60,3 +60,8 @@ pub returns-in-Setf-clause-leads : goal.returns-in-Setf-clause-leads
 returns-in-Setf-clause-leads c =
     subst (λ f. Leads (given_to c.args.machine.now f (value_of c.args.value)) (seen c.args.world.now) c.set_next_place.result c.set_next_place.new.machine) (sym c.in-Setf.is)
     (c.set_next_place.ensures.leads (λ u k. after (meaning c.args.machine.now.room) c.args.machine.now.context (Setf c.in-Setf.rest) (value_of c.args.value) u k) (seen c.args.world.now) (λ t. refl))
+
+pub returns-in-Changed-clause-leads : goal.returns-in-Changed-clause-leads
+returns-in-Changed-clause-leads c =
+    subst (λ f. Leads (given_to c.args.machine.now f (value_of c.args.value)) (seen c.args.world.now) c.change_from.result c.change_from.new.machine) (sym c.in-Changed.is)
+    (c.change_from.ensures.leads (seen c.args.world.now))

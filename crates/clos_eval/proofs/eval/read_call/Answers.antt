@@ -1,0 +1,17 @@
+use Rattle.std.proofs.Common.{subst}
+use Rattle.clos_world.specs.World.{seen}
+use Rattle.clos_machine.specs.Calls.{called}
+use Rattle.clos_machine.specs.Machine.{Turns, inside}
+use Rattle.clos_machine.specs.Meaning.{meaning}
+use Rattle.clos_machine.specs.declared.machine.Machine.{Machine}
+use Rattle.clos_eval.proofs.eval.read_call.Goals as goal
+
+pub returns-clause-turns : goal.returns-clause-turns
+returns-clause-turns c =
+    let m : Machine = c.args.machine.now in
+    subst (λ ls. Turns (inside (record m { levels = ls }) (called (meaning m.room) m.context c.args.name c.args.values)) (seen c.args.world.now) c.args.steps.now
+    c.apply.result c.apply.new.machine (seen c.apply.new.world) c.apply.new.steps) c.in_ok-push.ensures.ok
+    (subst (λ vs. Turns (inside (record m { levels = c.push.new.self }) (called (meaning m.room) m.context c.args.name vs)) (seen c.args.world.now) c.args.steps.now
+    c.apply.result c.apply.new.machine (seen c.apply.new.world) c.apply.new.steps) c.in_ok-arguments.ensures
+    (subst (λ n. Turns (inside (record m { levels = c.push.new.self }) (called (meaning m.room) m.context n c.in_ok-arguments.arguments)) (seen c.args.world.now)
+    c.args.steps.now c.apply.result c.apply.new.machine (seen c.apply.new.world) c.apply.new.steps) c.in_ok-called.ensures c.apply.ensures.turns))
