@@ -60,8 +60,8 @@ returns-in-Err-give-clause-answer c =
     c.in-Give.is c.loop-doing.invariant))
     (turns_of_leads rest (seen c.loop-doing.world) c.loop-doing.steps (Err c.in-Err-give.stop) c.give.new.machine c.in-Err-give.ensures.leads)
 
-pub loop-doing-preserved-in-Ok-collect_values : goal.loop-doing-preserved-in-Ok-collect_values
-loop-doing-preserved-in-Ok-collect_values c =
+pub loop-doing-preserved-in-Collect : goal.loop-doing-preserved-in-Collect
+loop-doing-preserved-in-Collect c =
     let run : Run = evaluation c.args.room c.args.form in
     reached_on run (seen c.args.world.now) c.args.steps.now (denote c.loop-doing.machine (doing.Collect c.in-Collect.action c.in-Collect.forms c.in-Collect.values)) (seen c.loop-doing.world)
     c.loop-doing.steps c.in-Ok-collect_values.next c.collect_values.new.machine (seen c.loop-doing.world) c.collect_values.new.steps
