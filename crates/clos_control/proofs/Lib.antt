@@ -1,2 +1,3 @@
 pub mod Stopping
+pub mod Taken
 pub mod Unset

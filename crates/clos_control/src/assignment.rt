@@ -281,7 +281,7 @@ pub fn change(
     ensures leads { (run : Run) (w : State)
         → ((t : ℕ) → changing (meaning machine.old.room) machine.old.context primitive parts.now (at machine.old w) t ≡ run (at machine.old w) t)
         → Leads (inside machine.old run) w result machine.new }
-    ensures small { Grows 14 machine.old.levels result machine.new }
+    ensures small { Grows 16 machine.old.levels result machine.new }
 {
     match parts.split_first() {
         None => Err(Stop::Refused(plain(alloc, ConditionKind::ProgramError))),
@@ -310,7 +310,7 @@ fn change_place(
     ensures leads { (run : Run) (w : State)
         → ((t : ℕ) → changed_place (meaning machine.old.room) machine.old.context primitive (place_in (operator_of operator.now)) parts.now amount.now (at machine.old w) t ≡ run (at machine.old w) t)
         → Leads (inside machine.old run) w result machine.new }
-    ensures small { Grows 14 machine.old.levels result machine.new }
+    ensures small { Grows 16 machine.old.levels result machine.new }
 {
     match place_named(operator) {
         None => Err(Stop::Refused(plain(alloc, ConditionKind::ProgramError))),
@@ -330,7 +330,7 @@ fn change_named(
     ensures leads { (run : Run) (w : State)
         → ((t : ℕ) → changed_place (meaning machine.old.room) machine.old.context primitive (Some (place_of place.now)) parts.now amount.now (at machine.old w) t ≡ run (at machine.old w) t)
         → Leads (inside machine.old run) w result machine.new }
-    ensures small { Grows 14 machine.old.levels result machine.new }
+    ensures small { Grows 16 machine.old.levels result machine.new }
 {
     match place {
         Place::Variable(name) => {
@@ -355,7 +355,7 @@ pub fn with_amount(
     ensures leads { (run : Run) (w : State)
         → ((t : ℕ) → with_amount (meaning machine.old.room) machine.old.context amount.now values (acted (meaning machine.old.room) machine.old.context action) (at machine.old w) t ≡ run (at machine.old w) t)
         → Leads (inside machine.old run) w result machine.new }
-    ensures small { Grows (8 + lift action) machine.old.levels result machine.new }
+    ensures small { Grows (9 + lift action) machine.old.levels result machine.new }
 {
     match amount.split_first() {
         None => {
@@ -410,7 +410,7 @@ fn store(
     steps: &mut u64,
 ) -> Result<Doing, Stop>
     ensures turns { Turns (inside machine.old (stored name.now (value_of value))) (seen world.old) steps.old result machine.new (seen world.new) steps.new }
-    ensures small { Grows 5 machine.old.levels result machine.new }
+    ensures small { Grows 6 machine.old.levels result machine.new }
     ensures fewer { steps.new ≤ steps.old }
 {
     let given = value.copy()?;
@@ -432,7 +432,7 @@ fn store_globally(
 ) -> Result<Doing, Stop>
     requires { value_of given ≡ value_of value }
     ensures turns { Turns (inside machine.now (stored_globally name.now (value_of value))) (seen world.old) steps.old result machine.now (seen world.new) steps.new }
-    ensures small { Grows 5 machine.now.levels result machine.now }
+    ensures small { Grows 6 machine.now.levels result machine.now }
     ensures fewer { steps.new ≤ steps.old }
 {
     let _ = machine;
@@ -461,7 +461,7 @@ pub fn store_only(
     steps: &mut u64,
 ) -> Result<Doing, Stop>
     ensures turns { Turns (inside machine.old (stored_only name.now (only_value values.now))) (seen world.old) steps.old result machine.new (seen world.new) steps.new }
-    ensures small { Grows 5 machine.old.levels result machine.new }
+    ensures small { Grows 6 machine.old.levels result machine.new }
     ensures fewer { steps.new ≤ steps.old }
 {
     match values.only() {
@@ -481,7 +481,7 @@ pub fn change_only(
     steps: &mut u64,
 ) -> Result<Doing, Stop>
     ensures turns { Turns (inside machine.old (changed_only primitive name.now (only_value values.now))) (seen world.old) steps.old result machine.new (seen world.new) steps.new }
-    ensures small { Grows 5 machine.old.levels result machine.new }
+    ensures small { Grows 6 machine.old.levels result machine.new }
     ensures fewer { steps.new ≤ steps.old }
 {
     match values.only() {
@@ -508,7 +508,7 @@ fn change_by_value(
     steps: &mut u64,
 ) -> Result<Doing, Stop>
     ensures turns { Turns (inside machine.old (changed primitive name.now (value_of amount))) (seen world.old) steps.old result machine.new (seen world.new) steps.new }
-    ensures small { Grows 5 machine.old.levels result machine.new }
+    ensures small { Grows 6 machine.old.levels result machine.new }
     ensures fewer { steps.new ≤ steps.old }
 {
     match new_value_of(alloc, machine, world, primitive, name, amount) {

@@ -81,7 +81,7 @@ pub fn turn_to(machine: &Machine, next: Task) -> Doing
     Doing::Start(next)
 }
 
-/// The next of the values that an action is done with, or the action itself.
+/// An action is done with these values and those of these forms.
 pub fn collect_next(
     machine: &mut Machine,
     action: Action,
@@ -91,16 +91,10 @@ pub fn collect_next(
     ensures leads { (run : Run) (w : State)
         → ((t : ℕ) → collect (meaning machine.old.room) machine.old.context forms.now values (acted (meaning machine.old.room) machine.old.context action) (at machine.old w) t ≡ run (at machine.old w) t)
         → Leads (inside machine.old run) w result machine.new }
-    ensures small { Grows (8 + lift action) machine.old.levels result machine.new }
+    ensures small { Grows (9 + lift action) machine.old.levels result machine.new }
 {
-    match forms.split_first() {
-        None => Ok(Doing::Act(action, values)),
-        Some((first, others)) => {
-            let next = Task::Plain(first.copy()?);
-            let rest = others.copy()?;
-            begin(machine, next, Frame::Collect(action, rest, values))
-        }
-    }
+    let _ = machine;
+    Ok(Doing::Collect(action, forms.copy()?, values))
 }
 
 /// The next of these forms, or this value where there is none.

@@ -48,7 +48,7 @@ pub fn start_call(
     ensures leads { (run : Run) (w : State)
         → ((t : ℕ) → collected (meaning machine.old.room) machine.old.context arguments.now (Call name.now) (at machine.old w) t ≡ run (at machine.old w) t)
         → Leads (inside machine.old run) w result machine.new }
-    ensures small { Grows 8 machine.old.levels result machine.new }
+    ensures small { Grows 9 machine.old.levels result machine.new }
 {
     let action = Action::Call(name.copy()?);
     collect_next(machine, action, arguments, Values::new(alloc))
@@ -56,19 +56,20 @@ pub fn start_call(
 
 /// The next value is there.
 pub fn next_value(
-    machine: &mut Machine,
+    machine: &Machine,
     action: Action,
-    rest: &Forms,
+    rest: Forms,
     mut values: Values,
     value: Value,
 ) -> Result<Doing, Stop>
     ensures leads { (run : Run) (w : State)
-        → ((t : ℕ) → collect (meaning machine.old.room) machine.old.context rest.now (values ++ value_of value ∷ []) (acted (meaning machine.old.room) machine.old.context action) (at machine.old w) t ≡ run (at machine.old w) t)
-        → Leads (inside machine.old run) w result machine.new }
-    ensures small { Grows (8 + lift action) machine.old.levels result machine.new }
+        → ((t : ℕ) → collect (meaning machine.now.room) machine.now.context rest (values ++ value_of value ∷ []) (acted (meaning machine.now.room) machine.now.context action) (at machine.now w) t ≡ run (at machine.now w) t)
+        → Leads (inside machine.now run) w result machine.now }
+    ensures small { Grows (9 + lift action) machine.now.levels result machine.now }
 {
+    let _ = machine;
     values.push(value)?;
-    collect_next(machine, action, rest, values)
+    Ok(Doing::Collect(action, rest, values))
 }
 
 /// The new value of a place follows its arguments.

@@ -16,6 +16,7 @@ use crate::calls::{
 };
 use crate::objects::make_instance;
 use crate::output::{end_line, print};
+use clos_control::arguments::collect_values;
 use clos_control::assignment::{
     change, change_from, change_only, set_next, set_next_place, store_only, with_amount,
 };
@@ -44,13 +45,13 @@ fn start_form(
     form: &Form,
 ) -> Result<Doing, Stop>
     ensures leads { Leads (inside machine.old (body (meaning machine.old.room) machine.old.context form.now)) (seen world.now) result machine.new }
-    ensures small { Grows 14 machine.old.levels result machine.new }
+    ensures small { Grows 16 machine.old.levels result machine.new }
 {
     operate(alloc, machine, world, form, form.operator(), form.parts())
 }
 
 /// An operator begins with its parts.
-#[tactic(auto, using(clos_machine::proofs::Turns::stopped_through, clos_machine::proofs::Turns::grows_6_14, clos_machine::proofs::Turns::grows_8_14))]
+#[tactic(auto, using(clos_machine::proofs::Turns::stopped_through, clos_machine::proofs::Turns::grows_6_16, clos_machine::proofs::Turns::grows_9_16))]
 fn operate(
     alloc: Global,
     machine: &mut Machine,
@@ -61,7 +62,7 @@ fn operate(
 ) -> Result<Doing, Stop>
     requires { operator_of operator.now ≡ operator_in form.now }
     ensures leads { Leads (inside machine.old (operated (meaning machine.old.room) machine.old.context (operator_of operator.now) parts.now)) (seen world.now) result machine.new }
-    ensures small { Grows 14 machine.old.levels result machine.new }
+    ensures small { Grows 16 machine.old.levels result machine.new }
 {
     match operator {
         Operator::Constant(value) => Ok(Doing::Give(value.copy()?)),
@@ -183,7 +184,7 @@ fn read_call(
 }
 
 /// An action is done with its values.
-#[tactic(auto, using(clos_machine::proofs::Running::turns_of_leads, clos_machine::proofs::Turns::grows_5_7, clos_machine::proofs::Turns::grows_6_7))]
+#[tactic(auto, using(clos_machine::proofs::Running::turns_of_leads, clos_machine::proofs::Turns::grows_6_7))]
 fn act(
     alloc: Global,
     machine: &mut Machine,
@@ -223,13 +224,13 @@ fn give(
     value: Value,
 ) -> Result<Doing, Stop>
     ensures leads { Leads (given_to machine.old frame (value_of value)) (seen world.now) result machine.new }
-    ensures small { Grows (4 + weight_of frame) machine.old.levels result machine.new }
+    ensures small { Grows (5 + weight_of frame) machine.old.levels result machine.new }
 {
     match frame {
         Frame::Rest(control, rest) => follow(machine, control, &rest, value),
         Frame::Keep(rest, kept) => keep(machine, &rest, kept),
         Frame::Clause(forms, others) => clause_tested(machine, &forms, &others, value),
-        Frame::Collect(action, rest, values) => next_value(machine, action, &rest, values, value),
+        Frame::Collect(action, rest, values) => next_value(machine, action, rest, values, value),
         Frame::Body(rest, saved, outer) => {
             next_of_body(machine, world, &rest, saved, outer, value)
         }
@@ -265,10 +266,10 @@ fn give(
 }
 
 /// A task begins, with less room.
-#[tactic(auto, using(clos_machine::proofs::Turns::grows_6_14, clos_machine::proofs::Turns::grows_8_14))]
+#[tactic(auto, using(clos_machine::proofs::Turns::grows_6_16, clos_machine::proofs::Turns::grows_9_16))]
 fn start(alloc: Global, machine: &mut Machine, world: &World, task: Task) -> Result<Doing, Stop>
     ensures leads { Leads (inside machine.old (begun (meaning machine.old.room) machine.old.context task)) (seen world.now) result machine.new }
-    ensures small { Grows 14 machine.old.levels result machine.new }
+    ensures small { Grows 16 machine.old.levels result machine.new }
 {
     match task {
         Task::Plain(form) => start_form(alloc, machine, world, &form),
@@ -286,7 +287,7 @@ fn begin_task(
     steps: &mut u64,
 ) -> Result<Doing, Stop>
     ensures turns { Turns (denote machine.old (Start task)) (seen world.now) steps.old result machine.new (seen world.now) steps.new }
-    ensures small { Grows 14 machine.old.levels result machine.new }
+    ensures small { Grows 16 machine.old.levels result machine.new }
     ensures fewer { OnOk result (steps.new < steps.old) }
 {
     if *steps == 0 {
@@ -340,6 +341,12 @@ pub fn evaluate(
                 Ok(next) => doing = next,
                 Err(stop) => return Err(stop),
             },
+            Doing::Collect(action, forms, values) => {
+                match collect_values(&mut machine, world, action, &forms, values, steps) {
+                    Ok(next) => doing = next,
+                    Err(stop) => return Err(stop),
+                }
+            }
             Doing::Act(action, values) => {
                 match act(alloc, &mut machine, world, action, values, steps) {
                     Ok(next) => doing = next,

@@ -69,7 +69,7 @@ fn make(
 ) -> Result<Doing, Stop>
     ensures turns { Turns (inside machine.old (λ w s. made (meaning machine.old.room) machine.old.context (designated w.classes (value_of value)) w s))
         (seen world.old) steps.old result machine.new (seen world.new) steps.new }
-    ensures small { Grows 5 machine.old.levels result machine.new }
+    ensures small { Grows 6 machine.old.levels result machine.new }
     ensures fewer { steps.new ≤ steps.old }
 {
     match designate(alloc, world, value) {
@@ -88,7 +88,7 @@ fn make_of(
     ensures turns { (run : Run)
         → ((t : ℕ) → made (meaning machine.old.room) machine.old.context (Ok class.0) (at machine.old (seen world.old)) t ≡ run (at machine.old (seen world.old)) t)
         → Turns (inside machine.old run) (seen world.old) steps.old result machine.new (seen world.new) steps.new }
-    ensures small { Grows 5 machine.old.levels result machine.new }
+    ensures small { Grows 6 machine.old.levels result machine.new }
     ensures fewer { steps.new ≤ steps.old }
 {
     let count = world.instance_count();
@@ -119,7 +119,7 @@ pub fn make_instance(
     steps: &mut u64,
 ) -> Result<Doing, Stop>
     ensures turns { Turns (inside machine.old (instance_made (meaning machine.old.room) machine.old.context (only_value values.now))) (seen world.old) steps.old result machine.new (seen world.new) steps.new }
-    ensures small { Grows 5 machine.old.levels result machine.new }
+    ensures small { Grows 6 machine.old.levels result machine.new }
     ensures fewer { steps.new ≤ steps.old }
 {
     match values.only() {

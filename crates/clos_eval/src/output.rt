@@ -56,7 +56,7 @@ fn write_giving(
     steps: &mut u64,
 ) -> Result<Doing, Stop>
     ensures turns { Turns (inside machine.now (step_then (written bytes.now (value_of value)))) (seen world.old) steps.old result machine.now (seen world.new) steps.new }
-    ensures small { Grows 5 machine.now.levels result machine.now }
+    ensures small { Grows 6 machine.now.levels result machine.now }
     ensures fewer { steps.new ≤ steps.old }
 {
     let _ = machine;
@@ -76,7 +76,7 @@ pub fn print(
     steps: &mut u64,
 ) -> Result<Doing, Stop>
     ensures turns { Turns (inside machine.old (output_of output (only_value values.now))) (seen world.old) steps.old result machine.new (seen world.new) steps.new }
-    ensures small { Grows 5 machine.old.levels result machine.new }
+    ensures small { Grows 6 machine.old.levels result machine.new }
     ensures fewer { steps.new ≤ steps.old }
 {
     let Some(value) = values.only() else {
@@ -96,7 +96,7 @@ pub fn end_line(
     steps: &mut u64,
 ) -> Result<Doing, Stop>
     ensures turns { Turns (inside machine.old (line_ended values.now)) (seen world.old) steps.old result machine.new (seen world.new) steps.new }
-    ensures small { Grows 5 machine.old.levels result machine.new }
+    ensures small { Grows 6 machine.old.levels result machine.new }
     ensures fewer { steps.new ≤ steps.old }
 {
     match values.as_slice() {

@@ -379,6 +379,11 @@ pub act_quiet : (m : Machine) (action : Action) (vs : List Val) (w : State) → 
 act_quiet m action vs w =
     resume_quiet m.levels m.context (acted (meaning m.room) m.context action vs (at m w) 0) (at m w) (acted_quiet m.room m.context action vs (at m w))
 
+pub collecting_quiet : (m : Machine) (action : Action) (fs : Frms) (vs : List Val) (w : State) → leaves (denote m (doing.Collect action fs vs) w 0) (unbound w) 0
+collecting_quiet m action fs vs w =
+    resume_quiet m.levels m.context (collect (meaning m.room) m.context fs vs (acted (meaning m.room) m.context action) (at m w) 0) (at m w)
+    (collect_quiet m.room m.context fs vs action (at m w))
+
 pub loop_quiet : (m : Machine) (l : Repetition) (counter : ℕ × ℕ) (w : State) → leaves (denote m (doing.Turn l counter) w 0) (unbound w) 0
 loop_quiet m l counter w =
     resume_quiet m.levels m.context (turns (meaning m.room) m.context (loop_of l) counter.0 counter.1 (at m w) 0) (at m w)

@@ -37,17 +37,13 @@ no_method m ev vs None c w t e k = stopped_through m.levels m.context (record { 
 no_method m ev vs (Some x) c w t e k = cc
 
 -- what adds little adds no more than something larger
-pub grows_6_14 : (old : List Level) (r : Result Doing Stop) (m : Machine) → Grows 6 old r m → Grows 14 old r m
-grows_6_14 old (Ok d) m h = omega (arith, h)
-grows_6_14 old (Err e) m h = tt
+pub grows_6_16 : (old : List Level) (r : Result Doing Stop) (m : Machine) → Grows 6 old r m → Grows 16 old r m
+grows_6_16 old (Ok d) m h = omega (arith, h)
+grows_6_16 old (Err e) m h = tt
 
-pub grows_8_14 : (old : List Level) (r : Result Doing Stop) (m : Machine) → Grows 8 old r m → Grows 14 old r m
-grows_8_14 old (Ok d) m h = omega (arith, h)
-grows_8_14 old (Err e) m h = tt
-
-pub grows_5_7 : (old : List Level) (r : Result Doing Stop) (m : Machine) → Grows 5 old r m → Grows 7 old r m
-grows_5_7 old (Ok d) m h = omega (arith, h)
-grows_5_7 old (Err e) m h = tt
+pub grows_9_16 : (old : List Level) (r : Result Doing Stop) (m : Machine) → Grows 9 old r m → Grows 16 old r m
+grows_9_16 old (Ok d) m h = omega (arith, h)
+grows_9_16 old (Err e) m h = tt
 
 pub grows_6_7 : (old : List Level) (r : Result Doing Stop) (m : Machine) → Grows 6 old r m → Grows 7 old r m
 grows_6_7 old (Ok d) m h = omega (arith, h)

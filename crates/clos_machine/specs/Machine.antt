@@ -5,7 +5,7 @@ use Rattle.lisp_data.specs.Value.{Val, list, nil}
 use Rattle.lisp_data.specs.ValueView.{value_of}
 use Rattle.lisp_data.specs.declared.ids.ClassId.{ClassId}
 use Rattle.lisp_data.specs.declared.value.Value.{Value}
-use Rattle.clos_forms.specs.Form.{Frm, operator_in}
+use Rattle.clos_forms.specs.Form.{Frm, Frms, operator_in}
 use Rattle.clos_forms.specs.Operator as of
 use Rattle.clos_forms.specs.Operator.{Opr, Bound}
 use Rattle.clos_world.specs.Globals.{Variables, is_global}
@@ -19,7 +19,7 @@ use Rattle.clos_machine.specs.Control.{followed, keeping, tested, clauses, seque
 use Rattle.clos_machine.specs.Meaning.{acted, changed_from, collect, setq, setf, meaning, closed}
 use Rattle.clos_machine.specs.Outcome.{Out, Gave, Stopped, Run, Eval, then_do, step_then, gave}
 use Rattle.clos_machine.specs.Parameters.{Sources, argument, refused, init}
-use Rattle.clos_machine.specs.Variables.{Loop, in_order, binding, within, aside, repeated, turns}
+use Rattle.clos_machine.specs.Variables.{Loop, found_value, in_order, binding, within, aside, repeated, turns}
 use Rattle.clos_machine.specs.declared.arguments.Context.{Context}
 use Rattle.clos_machine.specs.declared.machine.Action.{Action}
 use Rattle.clos_machine.specs.declared.machine.Action.TheVariants.{Call, CallSetter, Store, Change, NewValue, Amount, ChangeCall}
@@ -90,6 +90,7 @@ resume (l ∷ ls) env o = resume ls (below env l.frame) (then_do o (after (meani
 
 abbrev pub doing_run : ℕ → Context → Doing → Run
 doing_run room env (Start task) w s = meaning room env task w s
+doing_run room env (doing.Collect action forms values) w s = collect (meaning room) env forms values (acted (meaning room) env action) w s
 doing_run room env (Act action values) w s = acted (meaning room) env action values w s
 doing_run room env (doing.Turn l counter) w s = turns (meaning room) env (loop_of l) counter.0 counter.1 w s
 doing_run room env (Give value) w s = Gave (value_of value) w s
@@ -147,7 +148,7 @@ lift (CallSetter name) = 0
 lift (Store name) = 0
 lift (Change p name) = 0
 lift (NewValue name f) = 0
-lift (Amount p name fs) = 6
+lift (Amount p name fs) = 7
 lift (ChangeCall p name) = 5
 
 -- What is left to do, which each turn makes smaller: a frame that may lead to an action weighs more, an action yet more.
@@ -175,12 +176,13 @@ load (l ∷ ls) = weight_of l.frame + load ls
 
 abbrev pub given : Doing → ℕ
 given (Start task) = 0
+given (doing.Collect action forms values) = 9 + lift action
 given (Act action values) = 8 + lift action
 given (doing.Turn l counter) = 8
-given (Give value) = 5
+given (Give value) = 6
 
 abbrev pub weight : ℕ → Machine → Doing → ℕ
-weight steps m d = 16 * steps + (load m.levels + given d)
+weight steps m d = 18 * steps + (load m.levels + given d)
 
 -- A handler adds no more than this to what is left to do.
 abbrev pub Grows : ℕ → List Level → Result Doing Stop → Machine → Type 0
@@ -189,7 +191,7 @@ Grows n old (Err e) m = Unit {0}
 
 -- A turn makes less what is left to do, whether it takes a step or not.
 abbrev pub Shrinks : ℕ → ℕ → List Level → Result Doing Stop → Machine → Type 0
-Shrinks s s' old (Ok d) m = 16 * s' + (load m.levels + given d) < 16 * s + (load old + 8)
+Shrinks s s' old (Ok d) m = 18 * s' + (load m.levels + given d) < 18 * s + (load old + 8)
 Shrinks s s' old (Err e) m = Unit {0}
 
 -- the class that a value designates, or why there is none
@@ -234,6 +236,18 @@ pub record Reached (run : Run) (w0 : State) (s0 : ℕ) (rest : Run) (w : State) 
   pub taken : ℕ
   pub steps : s0 ≡ taken + s
   pub same : (t : ℕ) → rest w t ≡ run w0 (taken + t)
+
+-- the value of a form of this operator that is a constant, or a variable that has one
+abbrev pub at_once : State → Opr → Option Val
+at_once w (of.constant v) = Some v
+at_once w (of.variable name) = found_value w name
+at_once w o = None
+
+-- The first of the forms are gone: of each, a step was taken, and its value is there.
+pub record Took (n : ℕ) (env : Context) (w : State) (fs : Frms) (vs : List Val) (s : ℕ) (fs' : Frms) (vs' : List Val) (s' : ℕ) : Type 0 where
+  pub taken : ℕ
+  pub steps : s ≡ taken + s'
+  pub same : (go : List Val → Run) (t : ℕ) → collect (meaning n) env fs' vs' go w t ≡ collect (meaning n) env fs vs go w (taken + t)
 
 -- the parameters whose values are there, bound up to the next that has an init form
 abbrev pub settled : Variables → Sources → List Local → Result (List Local × Sources) Condition

@@ -66,6 +66,8 @@ pub struct Repetition {
 #[derive(Drop)]
 pub enum Doing {
     Start(Task),
+    /// The action is done with these values and those of these forms.
+    Collect(Action, Forms, Values),
     Act(Action, Values),
     /// The next turn of a loop, or its end.
     Turn(Repetition, Counter),

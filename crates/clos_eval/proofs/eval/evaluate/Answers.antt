@@ -9,7 +9,7 @@ use Rattle.clos_machine.specs.declared.machine.Doing.TheVariants.{Start, Act, Gi
 use Rattle.clos_machine.specs.declared.machine.Doing.TheVariants as doing
 use Rattle.clos_machine.specs.declared.machine.Machine.{Machine}
 use Rattle.clos_machine.specs.declared.machine.Task.TheVariants.{Plain}
-use Rattle.clos_machine.proofs.Quiet.{evaluation_quiet, start_quiet, act_quiet, loop_quiet, frame_quiet}
+use Rattle.clos_machine.proofs.Quiet.{evaluation_quiet, start_quiet, collecting_quiet, act_quiet, loop_quiet, frame_quiet}
 use Rattle.clos_machine.proofs.Running.{turns_of_leads, reached_on, reached_same, ended, popped}
 use Rattle.clos_eval.proofs.eval.evaluate.Goals as goal
 
@@ -59,6 +59,23 @@ returns-in-Err-give-clause-answer c =
     (subst (λ d. Reached run (seen c.args.world.now) c.args.steps.now (denote c.loop-doing.machine d) (seen c.loop-doing.world) c.loop-doing.steps)
     c.in-Give.is c.loop-doing.invariant))
     (turns_of_leads rest (seen c.loop-doing.world) c.loop-doing.steps (Err c.in-Err-give.stop) c.give.new.machine c.in-Err-give.ensures.leads)
+
+pub loop-doing-preserved-in-Collect : goal.loop-doing-preserved-in-Collect
+loop-doing-preserved-in-Collect c =
+    let run : Run = evaluation c.args.room c.args.form in
+    reached_on run (seen c.args.world.now) c.args.steps.now (denote c.loop-doing.machine (doing.Collect c.in-Collect.action c.in-Collect.forms c.in-Collect.values)) (seen c.loop-doing.world)
+    c.loop-doing.steps c.in-Ok-collect_values.next c.collect_values.new.machine (seen c.loop-doing.world) c.collect_values.new.steps
+    (subst (λ d. Reached run (seen c.args.world.now) c.args.steps.now (denote c.loop-doing.machine d) (seen c.loop-doing.world) c.loop-doing.steps)
+    c.in-Collect.is c.loop-doing.invariant) c.in-Ok-collect_values.ensures.turns
+
+pub returns-in-Err-collect_values-clause-answer : goal.returns-in-Err-collect_values-clause-answer
+returns-in-Err-collect_values-clause-answer c =
+    let run : Run = evaluation c.args.room c.args.form in
+    ended run (seen c.args.world.now) c.args.steps.now (denote c.loop-doing.machine (doing.Collect c.in-Collect.action c.in-Collect.forms c.in-Collect.values)) (seen c.loop-doing.world)
+    c.loop-doing.steps c.in-Err-collect_values.stop c.collect_values.new.machine (seen c.loop-doing.world) c.collect_values.new.steps
+    (collecting_quiet c.loop-doing.machine c.in-Collect.action c.in-Collect.forms c.in-Collect.values (seen c.loop-doing.world))
+    (subst (λ d. Reached run (seen c.args.world.now) c.args.steps.now (denote c.loop-doing.machine d) (seen c.loop-doing.world) c.loop-doing.steps)
+    c.in-Collect.is c.loop-doing.invariant) c.in-Err-collect_values.ensures.turns
 
 pub loop-doing-preserved-in-Ok-act : goal.loop-doing-preserved-in-Ok-act
 loop-doing-preserved-in-Ok-act c =

@@ -23,7 +23,7 @@ returns-in-Clause-clause-leads c =
 
 pub returns-in-Collect-clause-leads : goal.returns-in-Collect-clause-leads
 returns-in-Collect-clause-leads c =
-    subst (λ f. Leads (given_to c.args.machine.now f (value_of c.args.value)) (seen c.args.world.now) c.next_value.result c.next_value.new.machine) (sym c.in-Collect.is)
+    subst (λ f. Leads (given_to c.args.machine.now f (value_of c.args.value)) (seen c.args.world.now) c.next_value.result c.args.machine.now) (sym c.in-Collect.is)
     (c.next_value.ensures.leads (λ u k. after (meaning c.args.machine.now.room) c.args.machine.now.context (Collect c.in-Collect.action c.in-Collect.rest c.in-Collect.values) (value_of c.args.value) u k) (seen c.args.world.now) (λ t. refl))
 
 pub returns-in-Scope-clause-leads : goal.returns-in-Scope-clause-leads

@@ -1,0 +1,104 @@
+//! The values that actions are done with, from left to right (HyperSpec 3.1.2.1.2.3).
+ghost use Rattle.std.specs.Prelude.{◌≡◌, ℕ, ◌+◌, ◌≤◌, IfOk, option_map};
+ghost use Rattle.lisp_data.specs.ValueView.{value_of};
+ghost use Rattle.clos_forms.specs.OperatorView.{operator_of};
+ghost use Rattle.clos_world.specs.World.{State, seen};
+ghost use Rattle.clos_machine.specs.Machine.{Leads, Turns, Took, Grows, at, at_once, inside, lift};
+ghost use Rattle.clos_machine.specs.Meaning.{acted, collect, meaning};
+ghost use Rattle.clos_machine.specs.Outcome.{Run};
+
+use crate::binding::value_of_variable;
+use crate::control::begin;
+use clos_forms::{Forms, Operator};
+use clos_machine::machine::{Action, Doing, Frame, Machine, Task};
+use clos_world::{Stop, Values, World};
+use lisp_data::Value;
+use std::alloc::AllocError;
+
+/// The value of a form of this operator that is a constant, or a variable that has one.
+fn value_at_once<'a>(
+    machine: &'a Machine,
+    world: &'a World,
+    operator: &'a Operator,
+) -> Option<&'a Value>
+    ensures { option_map (λ v. value_of v.now) result ≡ at_once (at machine.now (seen world.now)) (operator_of operator.now) }
+{
+    match operator {
+        Operator::Constant(value) => Some(value),
+        Operator::Variable(name) => value_of_variable(machine, world, name),
+        _ => None,
+    }
+}
+
+/// Takes the values of the first forms, as long as they are constants and variables and steps are left: a step for each.
+/// Gives the other forms.
+fn take_values<'a>(
+    machine: &Machine,
+    world: &World,
+    forms: &'a Forms,
+    values: &mut Values,
+    steps: &mut u64,
+) -> Result<&'a Forms, AllocError>
+    ensures { IfOk result (λ rest. Took machine.now.room machine.now.context (at machine.now (seen world.now)) forms.now values.old steps.old rest.now values.new steps.new) }
+{
+    let mut rest = forms;
+    if machine.room == 0 {
+        return Ok(rest);
+    }
+    while let Some((first, others)) = rest.split_first() {
+        if *steps == 0 {
+            return Ok(rest);
+        }
+        let Some(value) = value_at_once(machine, world, first.operator()) else {
+            return Ok(rest);
+        };
+        values.push(value.copy()?)?;
+        *steps -= 1;
+        rest = others;
+    }
+    Ok(rest)
+}
+
+/// The next of the values that an action is done with, or the action itself.
+fn begin_next(
+    machine: &mut Machine,
+    action: Action,
+    forms: &Forms,
+    values: Values,
+) -> Result<Doing, Stop>
+    ensures leads { (run : Run) (w : State)
+        → ((t : ℕ) → collect (meaning machine.old.room) machine.old.context forms.now values (acted (meaning machine.old.room) machine.old.context action) (at machine.old w) t ≡ run (at machine.old w) t)
+        → Leads (inside machine.old run) w result machine.new }
+    ensures small { Grows (8 + lift action) machine.old.levels result machine.new }
+{
+    match forms.split_first() {
+        None => Ok(Doing::Act(action, values)),
+        Some((first, others)) => {
+            let next = Task::Plain(first.copy()?);
+            let rest = others.copy()?;
+            begin(machine, next, Frame::Collect(action, rest, values))
+        }
+    }
+}
+
+/// The values of these forms are collected up to the next that takes a level of its own, or all of them.
+pub fn collect_values(
+    machine: &mut Machine,
+    world: &World,
+    action: Action,
+    forms: &Forms,
+    mut values: Values,
+    steps: &mut u64,
+) -> Result<Doing, Stop>
+    ensures turns { Turns (inside machine.old (collect (meaning machine.old.room) machine.old.context forms.now values (acted (meaning machine.old.room) machine.old.context action))) (seen world.now) steps.old result machine.new (seen world.now) steps.new }
+    ensures small { Grows (8 + lift action) machine.old.levels result machine.new }
+    ensures fewer { steps.new ≤ steps.old }
+{
+    let mut left = *steps;
+    let rest = take_values(machine, world, forms, &mut values, &mut left)?;
+    let Ok(doing) = begin_next(machine, action, rest, values) else {
+        return Err(Stop::Storage);
+    };
+    *steps = left;
+    Ok(doing)
+}
