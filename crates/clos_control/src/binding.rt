@@ -10,7 +10,7 @@ ghost use Rattle.clos_machine.specs.Outcome.{Run, Gave, then_do};
 ghost use Rattle.clos_machine.specs.Variables.{found_value, variable_value, in_order, binding, within, leaving, aside, together, dotimes, repeated, turns, result_value, body_of, counted, with_count};
 
 use crate::control::begin;
-use clos_forms::Forms;
+use clos_forms::{Bindings, Forms};
 use clos_machine::counter::Counter;
 use clos_machine::locals::{Locals, Plan, bind_unset, put_unset_aside};
 use clos_machine::machine::{Doing, Frame, Machine, Repetition, Task};
@@ -88,8 +88,26 @@ pub fn continue_within(
     }
 }
 
+/// A `let*` form begins.
+pub fn start_let_in_order(
+    alloc: Global,
+    machine: &mut Machine,
+    world: &World,
+    bindings: &Bindings,
+    forms: &Forms,
+) -> Result<Doing, Stop>
+    ensures leads { (run : Run)
+        → ((t : ℕ) → in_order (meaning machine.old.room) machine.old.context (length machine.old.locals) bindings.now forms.now (at machine.old (seen world.now)) t ≡ run (at machine.old (seen world.now)) t)
+        → Leads (inside machine.old run) (seen world.now) result machine.new }
+    ensures small { Grows 6 machine.old.levels result machine.new }
+{
+    let plan = Plan::new(alloc, bindings.as_slice())?;
+    let outer = machine.locals.len();
+    bind_in_order(alloc, machine, world, outer, plan, forms)
+}
+
 /// Variables are bound one by one; then the body.
-pub fn bind_in_order(
+fn bind_in_order(
     alloc: Global,
     machine: &mut Machine,
     world: &World,
@@ -179,8 +197,27 @@ fn bind_one(
     bind_in_order(alloc, machine, world, outer, plan, forms)
 }
 
+/// A `let` form begins.
+pub fn start_let(
+    alloc: Global,
+    machine: &mut Machine,
+    world: &World,
+    bindings: &Bindings,
+    forms: &Forms,
+) -> Result<Doing, Stop>
+    ensures leads { (run : Run)
+        → ((t : ℕ) → aside (meaning machine.old.room) machine.old.context (length machine.old.locals) bindings.now forms.now [] (at machine.old (seen world.now)) t ≡ run (at machine.old (seen world.now)) t)
+        → Leads (inside machine.old run) (seen world.now) result machine.new }
+    ensures small { Grows 6 machine.old.levels result machine.new }
+{
+    let plan = Plan::new(alloc, bindings.as_slice())?;
+    let outer = machine.locals.len();
+    let locals = Locals::new(alloc);
+    set_aside(alloc, machine, world, outer, locals, plan, forms)
+}
+
 /// The variables of a `let` form get their values, and are then bound together.
-pub fn set_aside(
+fn set_aside(
     alloc: Global,
     machine: &mut Machine,
     world: &World,

@@ -21,14 +21,14 @@ use clos_control::assignment::{
     change, change_from, change_only, set_next, set_next_place, store_only, with_amount,
 };
 use clos_control::binding::{
-    bind_in_order, continue_turn, continue_within, next_aside, next_variable, repeat, set_aside,
-    start_loop, turn, variable,
+    continue_turn, continue_within, next_aside, next_variable, repeat, start_let,
+    start_let_in_order, start_loop, turn, variable,
 };
 use clos_control::control::{clause_tested, follow, go_on, keep, next_clause};
 use clos_forms::{Form, Forms, Operator};
 use clos_machine::arguments::{Arguments, Context};
 use clos_machine::callee::{Callee, callee_named};
-use clos_machine::locals::{Locals, Plan};
+use clos_machine::locals::Locals;
 use clos_machine::machine::{Action, Control, Doing, Frame, Level, Levels, Machine, Task};
 use clos_machine::truth::{nil, t};
 use clos_world::{ConditionKind, Stop, Values, World, plain};
@@ -76,24 +76,10 @@ fn operate(
         Operator::Or => go_on(machine, Control::Or, parts, nil()),
         Operator::Progn => go_on(machine, Control::Progn, parts, nil()),
         Operator::Prog1 => go_on(machine, Control::Prog1, parts, nil()),
-        Operator::Let(bindings) => {
-            let plan = Plan::new(alloc, bindings.as_slice())?;
-            let outer = machine.locals.len();
-            set_aside(
-                alloc,
-                machine,
-                world,
-                outer,
-                Locals::new(alloc),
-                plan,
-                parts,
-            )
-        }
-        Operator::LetInOrder(bindings) => {
-            let plan = Plan::new(alloc, bindings.as_slice())?;
-            let outer = machine.locals.len();
-            bind_in_order(alloc, machine, world, outer, plan, parts)
-        }
+        Operator::Let(bindings) => start_let(alloc, machine, world, bindings, parts),
+        Operator::LetInOrder(bindings) => start_let_in_order(
+            alloc, machine, world, bindings, parts,
+        ),
         Operator::Setq(_) => set_next(alloc, machine, form, 0, parts, nil()),
         Operator::Setf => set_next_place(alloc, machine, parts, nil()),
         Operator::Incf => change(alloc, machine, Primitive::Number(Arithmetic::Sum), parts),

@@ -60,12 +60,6 @@ local_named (l ∷ ls) name = if same_name l.0 name then Some l.1 else local_nam
 abbrev pub outermost : ℕ → List Local → List Local
 outermost n ls = reverse (take n (reverse ls))
 
--- these names bound to the values in turn, from left to right, within these
-abbrev pub bound_to : List Nam → List Val → List Local → List Local
-bound_to [] vs ls = ls
-bound_to (n ∷ ns) [] ls = ls
-bound_to (n ∷ ns) (v ∷ vs) ls = bound_to ns vs ((n, v) ∷ ls)
-
 abbrev pub instance_among : List ℕ → ℕ → Option ℕ
 instance_among is i = if i == 0 then None else slice_get is (i - 1)
 
