@@ -1,13 +1,13 @@
 -- Forms whose values are there at once.
-use Rattle.std.proofs.Common.{◌≡◌, ℕ, zero, suc, ◌+◌, ◌-◌, ◌<◌, arith, List, [], ◌∷◌, ◌++◌, Option, Some, None, Ok, ap, sym, ◌∙◌, add_assoc}
+use Rattle.std.proofs.Common.{◌≡◌, ℕ, zero, suc, ◌+◌, ◌-◌, ◌<◌, arith, List, [], ◌∷◌, ◌++◌, Some, Ok, ap, sym, ◌∙◌, add_assoc}
 use Rattle.lisp_data.specs.Value.{Val}
-use Rattle.clos_forms.specs.Form.{Frm, Frms, nil, cons, operator_in, parts_in}
+use Rattle.clos_forms.specs.Form.{Frm, Frms, cons, operator_in, parts_in}
 use Rattle.clos_forms.specs.Operator as of
 use Rattle.clos_forms.specs.Operator.{Opr}
 use Rattle.clos_world.specs.World.{State}
 use Rattle.clos_machine.specs.Machine.{Leads, Turns, Took, at, at_once, inside, resume}
 use Rattle.clos_machine.specs.Meaning.{acted, closed, collect, meaning, operated}
-use Rattle.clos_machine.specs.Outcome.{Run, Eval, Gave, then_do}
+use Rattle.clos_machine.specs.Outcome.{Eval, Gave, then_do}
 use Rattle.clos_machine.specs.Variables.{variable_value}
 use Rattle.clos_machine.specs.declared.arguments.Context.{Context}
 use Rattle.clos_machine.specs.declared.machine.Action.{Action}
