@@ -71,21 +71,33 @@ fn allocate(alloc: Global, times: u64) -> Result<(), AllocError> {
     Ok(())
 }
 
-/// The replies of a session to a script in which the form at the cut may take so many steps.
-fn replies_of(
-    session: &mut Session,
+/// How many steps the form at this place may take, if it is the one at the cut.
+fn steps_at(cut: Option<Cut>, place: usize) -> Option<u64> {
+    match cut {
+        Some(cut) if cut.form == place => Some(cut.steps),
+        _ => None,
+    }
+}
+
+fn reply_to(session: &mut Session, datum: &Datum, steps: Option<u64>) -> Reply {
+    match steps {
+        Some(steps) => session.submit_within(datum, steps),
+        None => session.submit(datum),
+    }
+}
+
+/// Performs a script in which the form at the cut may take so many steps, and adds the replies.
+fn perform_all(
+    performance: &mut Performance,
     script: &[Datum],
     cut: Option<Cut>,
-    mut replies: Vec<Reply>,
-) -> Result<Vec<Reply>, AllocError> {
+) -> Result<(), AllocError> {
     for (place, datum) in script.iter().enumerate() {
-        let reply = match cut {
-            Some(cut) if cut.form == place => session.submit_within(datum, cut.steps),
-            _ => session.submit(datum),
-        };
-        replies.push(reply)?;
+        let steps = steps_at(cut, place);
+        let reply = reply_to(&mut performance.session, datum, steps);
+        performance.replies.push(reply)?;
     }
-    Ok(replies)
+    Ok(())
 }
 
 /// A session that performs a script, where the program first allocates so many times.
@@ -95,11 +107,14 @@ fn perform(
     cut: Option<Cut>,
     times: u64,
 ) -> Result<Performance, AllocError> {
-    let replies = Vec::with_capacity(alloc, script.len())?;
-    let mut session = Session::new(alloc, Limits::default())?;
+    let mut performance = Performance {
+        session: Session::new(alloc, Limits::default())?,
+        replies: Vec::new(alloc),
+    };
+    performance.replies.reserve(script.len())?;
     allocate(alloc, times)?;
-    let replies = replies_of(&mut session, script, cut, replies)?;
-    Ok(Performance { session, replies })
+    perform_all(&mut performance, script, cut)?;
+    Ok(performance)
 }
 
 /// The first reply that tells of refused memory.
@@ -164,15 +179,20 @@ fn outcome_of(first: &Performance, second: &Performance, cut: Option<Cut>) -> Ou
     }
 }
 
-/// Performs the script in two sessions, after so many allocations.
-fn compare(alloc: Global, script: &[Datum], times: u64) -> Outcome {
-    let Ok(first) = perform(alloc, script, None, times) else {
-        return Outcome::Before;
-    };
+/// Performs the script in a second session, and compares it with the first.
+fn compare_with(alloc: Global, script: &[Datum], first: &Performance) -> Outcome {
     let cut = cut_of(first.replies.as_slice());
     match &perform(alloc, script, cut, 0) {
-        Ok(second) => outcome_of(&first, second, cut),
+        Ok(second) => outcome_of(first, second, cut),
         Err(_) => Outcome::Later,
+    }
+}
+
+/// Performs the script in two sessions, after so many allocations.
+fn compare(alloc: Global, script: &[Datum], times: u64) -> Outcome {
+    match &perform(alloc, script, None, times) {
+        Ok(first) => compare_with(alloc, script, first),
+        Err(_) => Outcome::Before,
     }
 }
 
