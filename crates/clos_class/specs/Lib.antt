@@ -1,0 +1,3 @@
+pub mod Precedence
+pub mod PrecedenceView
+mod Examples
