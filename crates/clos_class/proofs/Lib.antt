@@ -1,2 +1,9 @@
 pub mod Lists
+pub mod Truth
+pub mod Unique
+pub mod Before
+pub mod Next
+pub mod InTurn
+pub mod NoList
+pub mod Circle
 pub mod OnPrecedence
