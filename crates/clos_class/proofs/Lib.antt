@@ -7,3 +7,4 @@ pub mod InTurn
 pub mod NoList
 pub mod Circle
 pub mod OnPrecedence
+pub mod OneSuperclass

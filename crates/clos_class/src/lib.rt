@@ -3,4 +3,4 @@
 
 mod precedence;
 
-pub use precedence::{Superclasses, precedence_list};
+pub use precedence::{Superclasses, precedence_list, single_precedence_list};

@@ -1,7 +1,7 @@
 //! Class precedence lists (HyperSpec 4.3.5).
 ghost use Rattle.std.specs.List.{list_any};
-ghost use Rattle.std.specs.Prelude.{◌≡◌, ◌==◌, ◌++◌, ◌∷◌, [], ℕ, IfOk, OnErr, OnOk, length, map, option_map};
-ghost use Rattle.clos_class.specs.Precedence.{has, are_before_done, is_free, first_left, if_free, next_above, are_done, if_all_done, precedence_list, IsFamily, Tells};
+ghost use Rattle.std.specs.Prelude.{◌≡◌, ◌==◌, false, ◌++◌, ◌∷◌, [], ℕ, IfOk, OnErr, OnOk, length, map, option_map};
+ghost use Rattle.clos_class.specs.Precedence.{has, are_before_done, is_free, first_left, if_free, next_above, are_done, if_all_done, precedence_list, IsFamily, IsPrecedenceList, Supers, Tells};
 ghost use Rattle.clos_class.specs.PrecedenceView.{numbers, latest_first, supers_in};
 
 use lisp_data::ClassId;
@@ -214,5 +214,22 @@ pub fn precedence_list(
         → Tells (supers_in superclasses.now) (numbers family.now) (option_map (λ l. numbers l.items) r)) }
 {
     let list = order(alloc, superclasses, class, family)?;
+    Ok(list)
+}
+
+/// The class precedence list of a class that has one direct superclass, whose own list this is: the class before it.
+#[tactic(auto, using(crate::proofs::OneSuperclass::under))]
+pub fn single_precedence_list(
+    alloc: Global,
+    class: ClassId,
+    above: &[ClassId],
+) -> Result<Vec<ClassId>, AllocError>
+    ensures list { IfOk result (λ r. numbers r.items ≡ class.0 ∷ numbers above.now) }
+    ensures law { IfOk result (λ r. (f : Supers) (d : ℕ) → f class.0 ≡ d ∷ [] → has (numbers above.now) class.0 ≡ false → IsFamily f d (numbers above.now)
+        → IsPrecedenceList f (numbers above.now) (numbers above.now) → IsPrecedenceList f (numbers r.items) (numbers r.items)) }
+{
+    let mut list = Vec::new(alloc);
+    list.push(class)?;
+    list.extend_from_slice(above)?;
     Ok(list)
 }
