@@ -1,11 +1,11 @@
 //! Forms of data: that memory and the stack suffice, and that the definitions are the language.
 use crate::data::{datum, deepest, list, list_of, say};
 use clos_forms::{
-    Context, Form, FunctionName, Operator, Place, SyntaxFault, is_closed_function, is_definition,
-    is_function, is_special_operator, is_system_function, parse_body, parse_form, parse_forms,
-    parse_function_name, quoted_value, variable_name,
+    Context, Form, Forms, FunctionName, Operator, Place, SyntaxFault, is_closed_function,
+    is_definition, is_function, is_special_operator, is_system_function, parse_body, parse_form,
+    parse_forms, parse_function_name, quoted_value, variable_name,
 };
-use lisp_data::{Data, Datum, MethodId, Name, Text, Value};
+use lisp_data::{Data, Datum, ListFault, MethodId, Name, Text, Value};
 use std::alloc::Global;
 use std::process::Abort;
 use std::test::Fail;
@@ -143,14 +143,19 @@ fn tell(out: &mut String, form: &Form) {
     }
 }
 
+/// Tells what a datum was parsed to.
+fn tell_parsed(out: &mut String, parsed: &Result<Form, SyntaxFault>) {
+    match parsed {
+        Ok(form) => tell(out, form),
+        Err(SyntaxFault::Program) => say(out, "none"),
+        Err(_) => say(out, "no memory"),
+    }
+}
+
 /// Tells a datum as a form.
 fn told(alloc: Global, context: Context, datum: &Datum) -> String {
     let mut out = String::new(alloc);
-    match parse_form(alloc, context, datum) {
-        Ok(form) => tell(&mut out, &form),
-        Err(SyntaxFault::Program) => say(&mut out, "none"),
-        Err(_) => say(&mut out, "no memory"),
-    }
+    tell_parsed(&mut out, &parse_form(alloc, context, datum));
     out
 }
 
@@ -177,59 +182,98 @@ fn other_data_are_refused(rt: HostRuntime) -> Result<(), Fail> {
     tells(&rt, rt.alloc(), Context::Plain, OTHER_DATA)
 }
 
+/// Whether a datum is told so as a form.
+fn is_told(alloc: Global, datum: &Datum, wanted: &str) -> bool {
+    told(alloc, Context::Plain, datum).as_str() == wanted
+}
+
+/// A list of a symbol, a list of no elements, and others.
+fn with_nothing(alloc: Global, symbol: &'static str, others: Data) -> Result<Datum, Fail> {
+    list_of(alloc, symbol, Datum::List(Data::new()), others)
+}
+
 /// Texts spell such a list as the symbol NIL.
 #[test]
 fn lists_of_no_elements(rt: HostRuntime) -> Result<(), Fail> {
     let alloc = rt.alloc();
-    let alone = told(alloc, Context::Plain, &Datum::List(Data::new()));
-    assert_eq!(rt; alone.as_str(), "constant");
-    let clause = list_of(alloc, "COND", Datum::List(Data::new()), Data::new())?;
-    let cond = told(alloc, Context::Plain, &clause);
-    assert_eq!(rt; cond.as_str(), "none");
-    let body = list(alloc, r#"("a" "b" (declare))"#)?;
-    let bindings = list_of(alloc, "LET", Datum::List(Data::new()), body)?;
-    let let_form = told(alloc, Context::Plain, &bindings);
-    assert_eq!(rt; let_form.as_str(), "let constant");
+    assert!(rt; is_told(alloc, &Datum::List(Data::new()), "constant"));
+    let cond = with_nothing(alloc, "COND", Data::new())?;
+    assert!(rt; is_told(alloc, &cond, "none"));
+    let bindings = with_nothing(alloc, "LET", list(alloc, r#"("a" "b" (declare))"#)?)?;
+    assert!(rt; is_told(alloc, &bindings, "let constant"));
     Ok(())
+}
+
+/// The kind of value of a quoted datum.
+fn quoted(alloc: Global, datum: &Datum) -> &'static str {
+    match quoted_value(alloc, datum) {
+        Ok(None) => "none",
+        Ok(Some(Value::List(_))) => "list",
+        _ => "other",
+    }
 }
 
 #[test]
 fn quoted_values(rt: HostRuntime) -> Result<(), Fail> {
-    let alloc = rt.alloc();
-    let dotted = quoted_value(alloc, &datum(alloc, "(a . 1)")?)?;
-    assert!(rt; matches!(dotted, None));
-    let nil = quoted_value(alloc, &datum(alloc, "nil")?)?;
-    assert!(rt; matches!(nil, Some(Value::List(_))));
+    for (text, kind) in [("(a . 1)", "none"), ("nil", "list")] {
+        assert_eq!(rt;
+            quoted(rt.alloc(), &datum(rt.alloc(), text)?),
+            kind,
+            "of {text}"
+        );
+    }
     Ok(())
 }
 
-#[test]
-fn deep_and_long_forms(rt: HostRuntime) -> Result<(), Fail> {
-    let alloc = rt.alloc();
-    let deep = parse_form(alloc, Context::Plain, &deepest(alloc, "PROGN")?)?;
-    assert_eq!(rt; label(deep.operator()), "progn");
+/// The operator of the first of these forms, and whether it is the only one.
+fn first(forms: &Forms) -> (&'static str, bool) {
+    match forms.split_first() {
+        Some((form, others)) => (label(form.operator()), others.split_first().is_none()),
+        None => ("none", false),
+    }
+}
+
+fn deepest_form(alloc: Global) -> Result<Form, Fail> {
+    let form = parse_form(alloc, Context::Plain, &deepest(alloc, "PROGN")?)?;
+    Ok(form)
+}
+
+fn long_data(alloc: Global) -> Result<Data, ListFault> {
     let mut long = Data::new();
     for number in 0..200_000 {
         long = Data::cons(alloc, Datum::Int(number), long)?;
     }
-    let forms = parse_forms(alloc, Context::Plain, &long)?;
-    let (first, _) = forms.split_first().ok_or("a form")?;
-    assert_eq!(rt; label(first.operator()), "constant");
+    Ok(long)
+}
+
+fn long_forms(alloc: Global) -> Result<Forms, Fail> {
+    let forms = parse_forms(alloc, Context::Plain, &long_data(alloc)?)?;
+    Ok(forms)
+}
+
+#[test]
+fn deep_and_long_forms(rt: HostRuntime) -> Result<(), Fail> {
+    assert_eq!(rt; label(deepest_form(rt.alloc())?.operator()), "progn");
+    assert_eq!(rt; first(&long_forms(rt.alloc())?), ("constant", false));
     Ok(())
+}
+
+/// The operator of a copy of the first of these forms, and whether a copy of the others has none.
+fn copied(forms: &Forms) -> Option<(&'static str, bool)> {
+    let (form, others) = forms.split_first()?;
+    let is_last = others.copy().ok()?.split_first().is_none();
+    Some((label(form.copy().ok()?.operator()), is_last))
 }
 
 #[test]
 fn lists_of_forms(rt: HostRuntime) -> Result<(), Fail> {
-    let alloc = rt.alloc();
-    let body = list(alloc, r#"((declare) "text" (call-next-method))"#)?;
-    let forms = parse_body(alloc, Context::Method, &body)?;
-    let all = parse_forms(alloc, Context::Method, &body)?;
-    let (first, rest) = forms.split_first().ok_or("a form")?;
-    let again = first.copy()?;
-    assert_eq!(rt; label(again.operator()), "call-next-method");
-    assert!(rt; rest.copy()?.split_first().is_none());
-    let (declaration, _) = all.split_first().ok_or("a form")?;
-    assert_eq!(rt; label(declaration.operator()), "call");
+    let body = list(rt.alloc(), r#"((declare) "text" (call-next-method))"#)?;
+    let forms = parse_body(rt.alloc(), Context::Method, &body)?;
+    let (operator, is_last) = copied(&forms).ok_or("copies")?;
+    assert_eq!(rt; operator, "call-next-method");
+    assert!(rt; is_last);
+    let all = parse_forms(rt.alloc(), Context::Method, &body)?;
+    assert_eq!(rt; first(&all).0, "call");
     Ok(())
 }
 
@@ -254,33 +298,46 @@ fn tell_bindings(out: &mut String, operator: &Operator) {
     }
 }
 
+/// Tells the variables of the form that a text spells.
+fn told_bindings(alloc: Global, datum: &Datum) -> String {
+    let mut out = String::new(alloc);
+    if let Ok(form) = &parse_form(alloc, Context::Plain, datum) {
+        tell_bindings(&mut out, form.operator());
+    }
+    out
+}
+
 #[test]
 fn bindings_and_slots_are_told(rt: HostRuntime) -> Result<(), Fail> {
-    let alloc = rt.alloc();
     for (text, bindings) in [
         ("(let (x (y 1)))", "X Y= "),
         ("(with-slots (x (y z)) i)", "X of X Y of Z "),
     ] {
-        let form = parse_form(alloc, Context::Plain, &datum(alloc, text)?)?;
-        let mut told = String::new(alloc);
-        tell_bindings(&mut told, form.operator());
+        let told = told_bindings(rt.alloc(), &datum(rt.alloc(), text)?);
         assert_eq!(rt; told.as_str(), bindings);
     }
     Ok(())
 }
 
+/// Whether the keyword of this name is a special operator, as the symbol may be.
+fn is_special_keyword(alloc: Global, name: &str) -> Option<bool> {
+    let text = Text::from_str(alloc, name).ok()?;
+    Some(is_special_operator(&Name::new(text, true)))
+}
+
+fn names_setf(datum: &Datum) -> bool {
+    matches!(parse_function_name(datum), Ok(FunctionName::Setf(_)))
+}
+
 #[test]
 fn names_of_the_language(rt: HostRuntime) -> Result<(), Fail> {
-    let alloc = rt.alloc();
     assert!(rt; is_definition(&Name::fixed("DEFCLASS")));
     assert!(rt; is_special_operator(&Name::fixed("LET*")));
     assert!(rt; is_function(&Name::fixed("NATIVE-CALL")));
     assert!(rt; is_system_function(&Name::fixed("SLOT-UNBOUND")));
     assert!(rt; is_closed_function(&Name::fixed("PRINT-OBJECT")));
-    let keyword = Name::new(Text::from_str(alloc, "LET")?, true);
-    assert!(rt; !is_special_operator(&keyword));
-    let name = parse_function_name(&datum(alloc, "(setf f)")?)?;
-    assert!(rt; matches!(name, FunctionName::Setf(_)));
-    assert!(rt; variable_name(&datum(alloc, "t")?).is_none());
+    assert!(rt; is_special_keyword(rt.alloc(), "LET") == Some(false));
+    assert!(rt; names_setf(&datum(rt.alloc(), "(setf f)")?));
+    assert!(rt; variable_name(&datum(rt.alloc(), "t")?).is_none());
     Ok(())
 }

@@ -3,7 +3,7 @@ use crate::data::{datum, deepest, list_of};
 use clos_system::{Limits, Reply, RunFault, Session, Summary, run};
 use lisp_data::{Data, Datum, MAX_NESTING, MethodId, Value};
 use lisp_reader::ReadFault;
-use std::alloc::Global;
+use std::alloc::{AllocError, Global};
 use std::io::{self, Read, Write};
 use std::process::Abort;
 use std::str;
@@ -381,18 +381,17 @@ fn limits(setting: &str) -> Limits {
     limits
 }
 
-/// What a run of this text in a session with these limits writes, and how its forms ended.
-fn transcript(
+/// How the forms of a text end in a session with these limits, and what a run of it writes to the output.
+fn summary_of(
     alloc: Global,
     limits: Limits,
     text: &str,
     echo: bool,
-) -> Result<(Vec<u8>, Summary), Fail> {
+    output: &mut Vec<u8>,
+) -> Result<Summary, Fail> {
     let mut session = Session::new(alloc, limits)?;
     let mut source = text.as_bytes();
-    let mut output = Vec::new(alloc);
-    let summary = run(alloc, &mut session, &mut source, &mut output, echo)?;
-    Ok((output, summary))
+    Ok(run(alloc, &mut session, &mut source, output, echo)?)
 }
 
 /// Asserts what a text writes in a session of this setting, and that it has a condition where that is told.
@@ -403,7 +402,9 @@ fn writes(
     text: &str,
     output: &str,
 ) -> Result<(), Fail> {
-    let (written, summary) = transcript(alloc, limits(setting), text, setting == "echo")?;
+    let mut written = Vec::new(alloc);
+    let echo = setting == "echo";
+    let summary = summary_of(alloc, limits(setting), text, echo, &mut written)?;
     assert_eq!(rt;
         str::from_utf8(written.as_slice())?,
         output,
@@ -418,6 +419,11 @@ fn writes(
     Ok(())
 }
 
+/// A text with another before it and a new line for each `~`.
+fn with_lines(alloc: Global, before: &str, text: &str) -> Result<String, AllocError> {
+    format!(in alloc; "{before}{text}")?.replace(alloc, '~', "\n")
+}
+
 /// Asserts what each text of a table writes after those before it, or else `otherwise`.
 /// A row is `SETTING: TEXT => OUTPUT`, in which `~` is a new line.
 fn all_write(
@@ -430,8 +436,8 @@ fn all_write(
     for row in table.split('\n') {
         let (setting, case) = row.split_once(": ").unwrap_or(("", row));
         let (text, output) = case.split_once(" => ").unwrap_or((case, otherwise));
-        let text = format!(in alloc; "{before}{text}")?.replace(alloc, '~', "\n")?;
-        let output = output.replace(alloc, '~', "\n")?;
+        let text = with_lines(alloc, before, text)?;
+        let output = with_lines(alloc, "", output)?;
         writes(rt, alloc, setting, text.as_str(), output.as_str())?;
     }
     Ok(())
@@ -536,8 +542,10 @@ fn steps_and_depth(rt: HostRuntime) -> Result<(), Fail> {
 
 #[test]
 fn the_count_of_forms(rt: HostRuntime) -> Result<(), Fail> {
-    let text = format!(in rt.alloc(); "{ANIMALS}(princ (speak (make-instance 'dog)))")?;
-    let (_, summary) = transcript(rt.alloc(), Limits::default(), text.as_str(), false)?;
+    let text = with_lines(rt.alloc(), ANIMALS, "(princ (speak (make-instance 'dog)))")?;
+    let mut output = Vec::new(rt.alloc());
+    let limits = Limits::default();
+    let summary = summary_of(rt.alloc(), limits, text.as_str(), false, &mut output)?;
     let all = Summary {
         forms: 5,
         conditions: 0,
@@ -547,38 +555,55 @@ fn the_count_of_forms(rt: HostRuntime) -> Result<(), Fail> {
     Ok(())
 }
 
-/// The fault with which a run of a text ends, and what it wrote before.
+/// The fault with which a run of a text ends, which writes this before.
 fn fault(alloc: Global, text: &[u8], output: &mut Vec<u8>) -> Result<Option<RunFault>, Fail> {
     let mut session = Session::new(alloc, Limits::default())?;
     let mut source = text;
-    match run(alloc, &mut session, &mut source, output, false) {
-        Ok(_) => Ok(None),
-        Err(fault) => Ok(Some(fault)),
+    Ok(run(alloc, &mut session, &mut source, output, false).err())
+}
+
+/// Whether a fault of the reader is this one.
+fn is_fault(fault: &Option<RunFault>, wanted: ReadFault) -> bool {
+    match fault {
+        Some(RunFault::Reader(fault)) => *fault == wanted,
+        _ => false,
     }
 }
 
 #[test]
 fn texts_that_can_not_be_read(rt: HostRuntime) -> Result<(), Fail> {
-    let alloc = rt.alloc();
-    let mut output = Vec::new(alloc);
-    let ended = fault(alloc, b"(princ 1) (defclass a", &mut output)?;
-    assert!(rt; matches!(ended, Some(RunFault::Reader(ReadFault::EndInside(10)))));
-    assert_eq!(rt; output.as_slice(), b"1".as_slice());
-    let ended = fault(alloc, &[b'('; 201], &mut output)?;
-    assert!(rt; matches!(ended, Some(RunFault::Reader(ReadFault::TooDeep(200)))));
+    let cases = [
+        (
+            b"(princ 1) (defclass a".as_slice(),
+            ReadFault::EndInside(10),
+            b"1".as_slice(),
+        ),
+        (&[b'('; 201], ReadFault::TooDeep(200), b""),
+    ];
+    for (text, wanted, written) in cases {
+        let mut output = Vec::new(rt.alloc());
+        let ended = fault(rt.alloc(), text, &mut output)?;
+        assert!(rt; is_fault(&ended, wanted));
+        assert_eq!(rt; output.as_slice(), written);
+    }
     Ok(())
 }
 
 #[test]
 fn the_longest_source(rt: HostRuntime) -> Result<(), Fail> {
-    let alloc = rt.alloc();
-    let mut output = Vec::new(alloc);
-    let mut blanks = vec![in alloc; b' '; 16_777_216]?;
-    let ended = fault(alloc, blanks.as_slice(), &mut output)?;
-    assert!(rt; matches!(ended, None));
-    blanks.push(b' ')?;
-    let ended = fault(alloc, blanks.as_slice(), &mut output)?;
-    assert!(rt; matches!(ended, Some(RunFault::TooLong)));
+    let mut output = Vec::new(rt.alloc());
+    for (length, is_served) in [(16_777_216, true), (16_777_217, false)] {
+        let blanks = vec![in rt.alloc(); b' '; length]?;
+        let ended = fault(rt.alloc(), blanks.as_slice(), &mut output)?;
+        assert!(rt;
+            if is_served {
+                ended.is_none()
+            } else {
+                matches!(ended, Some(RunFault::TooLong))
+            },
+            "of {length} bytes"
+        );
+    }
     assert_eq!(rt; output.len(), 0);
     Ok(())
 }
@@ -633,93 +658,136 @@ impl Read for OneByOne {
 
 #[test]
 fn the_longest_source_byte_by_byte(rt: HostRuntime) -> Result<(), Fail> {
-    let alloc = rt.alloc();
-    let mut session = Session::new(alloc, Limits::default())?;
-    let mut output = Vec::new(alloc);
+    let mut session = Session::new(rt.alloc(), Limits::default())?;
     let mut longest = OneByOne { left: 16_777_216 };
-    let summary = run(alloc, &mut session, &mut longest, &mut output, false)?;
+    let mut output = Vec::new(rt.alloc());
+    let summary = run(rt.alloc(), &mut session, &mut longest, &mut output, false)?;
     assert_eq!(rt; summary.forms, 0);
     Ok(())
 }
 
+/// Whether a run with this reader fails to read, and writes nothing to this output.
+fn fails_to_read(alloc: Global, session: &mut Session, left: u64, output: &mut Vec<u8>) -> bool {
+    let ended = run(alloc, session, &mut Failing { left }, output, false);
+    matches!(ended, Err(RunFault::Read))
+}
+
 #[test]
 fn readers_that_fail(rt: HostRuntime) -> Result<(), Fail> {
-    let alloc = rt.alloc();
     for left in [0, 1, 2] {
-        let mut session = Session::new(alloc, Limits::default())?;
-        let mut output = Vec::new(alloc);
-        let ended = run(
-            alloc,
-            &mut session,
-            &mut Failing { left },
-            &mut output,
-            false,
-        );
-        assert!(rt; matches!(ended, Err(RunFault::Read)), "after {left} reads");
+        let mut session = Session::new(rt.alloc(), Limits::default())?;
+        let mut output = Vec::new(rt.alloc());
+        let fails = fails_to_read(rt.alloc(), &mut session, left, &mut output);
+        assert!(rt; fails, "after {left} reads");
         assert_eq!(rt; output.len(), 0);
         assert_eq!(rt; session.written().len(), 0);
     }
     Ok(())
 }
 
+/// Whether a run with a writer that takes so many writes fails to write.
+fn fails_to_write(alloc: Global, session: &mut Session, left: u64) -> bool {
+    let mut source = b"(princ 1) (defclass a () ()) (princ 2) (princ 3)".as_slice();
+    let ended = run(alloc, session, &mut source, &mut Failing { left }, false);
+    matches!(ended, Err(RunFault::Write))
+}
+
 #[test]
 fn writers_that_fail(rt: HostRuntime) -> Result<(), Fail> {
-    let alloc = rt.alloc();
     for (left, written) in [(0, "1"), (1, "12"), (2, "123")] {
-        let mut session = Session::new(alloc, Limits::default())?;
-        let mut source = b"(princ 1) (defclass a () ()) (princ 2) (princ 3)".as_slice();
-        let ended = run(
-            alloc,
-            &mut session,
-            &mut source,
-            &mut Failing { left },
-            false,
-        );
-        assert!(rt;
-            matches!(ended, Err(RunFault::Write)),
-            "after {left} writes"
-        );
+        let mut session = Session::new(rt.alloc(), Limits::default())?;
+        let fails = fails_to_write(rt.alloc(), &mut session, left);
+        assert!(rt; fails, "after {left} writes");
         assert_eq!(rt; str::from_utf8(session.written())?, written);
     }
     Ok(())
 }
 
-/// The number of the condition that ends a form, or 0.
-fn condition(session: &mut Session, datum: &Datum) -> u64 {
-    match session.submit(datum) {
-        Reply::Condition { number, items: _ } => number,
+/// The number of the condition that a reply tells, or 0.
+fn number_in(reply: &Reply) -> u64 {
+    match reply {
+        Reply::Condition { number, .. } => *number,
         _ => 0,
     }
+}
+
+/// The integer that a reply tells.
+fn integer_in(reply: &Reply) -> Option<i64> {
+    match reply {
+        Reply::Value(Value::Int(number)) => Some(*number),
+        _ => None,
+    }
+}
+
+/// The number of the condition that ends a form, or 0.
+fn condition(session: &mut Session, datum: &Datum) -> u64 {
+    number_in(&session.submit(datum))
+}
+
+/// The number of the condition that ends a form that may take so many steps, or 0.
+fn condition_within(session: &mut Session, datum: &Datum, steps: u64) -> u64 {
+    number_in(&session.submit_within(datum, steps))
+}
+
+/// The integer that a form gives.
+fn integer(session: &mut Session, datum: &Datum) -> Option<i64> {
+    integer_in(&session.submit(datum))
+}
+
+fn is_list(reply: &Reply) -> bool {
+    matches!(reply, Reply::Value(Value::List(_)))
+}
+
+/// A quoted method, in so many further quotations.
+fn quoted_method(alloc: Global, times: u64) -> Result<Datum, Fail> {
+    let mut datum = list_of(alloc, "QUOTE", Datum::Method(MethodId(0)), Data::new())?;
+    for _ in 0..times {
+        datum = list_of(alloc, "QUOTE", datum, Data::new())?;
+    }
+    Ok(datum)
 }
 
 #[test]
 fn submitted_data(rt: HostRuntime) -> Result<(), Fail> {
     let alloc = rt.alloc();
     let mut session = Session::new(alloc, Limits::default())?;
-    let value = session.submit(&datum(alloc, "(princ 1)")?);
-    assert!(rt; matches!(value, Reply::Value(Value::Int(1))));
+    assert_eq!(rt; integer(&mut session, &datum(alloc, "(princ 1)")?), Some(1));
     assert_eq!(rt; session.written(), b"1".as_slice());
-    assert_eq!(rt; condition(&mut session, &datum(alloc, "(1 . 2)")?), 1);
-    assert_eq!(rt; condition(&mut session, &datum(alloc, "'(1 . 2)")?), 28);
-    let method = list_of(alloc, "QUOTE", Datum::Method(MethodId(0)), Data::new())?;
-    assert_eq!(rt; condition(&mut session, &method), 1);
-    let nested = list_of(alloc, "QUOTE", method, Data::new())?;
-    assert_eq!(rt; condition(&mut session, &nested), 1);
+    for (text, number) in [("(1 . 2)", 1), ("'(1 . 2)", 28)] {
+        assert_eq!(rt; condition(&mut session, &datum(alloc, text)?), number);
+    }
+    for times in [0, 1] {
+        assert_eq!(rt; condition(&mut session, &quoted_method(alloc, times)?), 1);
+    }
+    Ok(())
+}
+
+/// Steps, and the number of the condition of `(princ 1)` within them, in a session that allows three.
+#[test]
+fn submitted_within_steps(rt: HostRuntime) -> Result<(), Fail> {
+    let mut session = Session::new(rt.alloc(), limits("steps 3"))?;
+    let form = datum(rt.alloc(), "(princ 1)")?;
+    for (steps, number, written) in [(0, 29, 0), (2, 29, 0), (3, 0, 1), (u64::MAX, 0, 2)] {
+        assert_eq!(rt; condition_within(&mut session, &form, steps), number);
+        assert_eq!(rt; session.written().len(), written);
+    }
     Ok(())
 }
 
 #[test]
 fn the_deepest_datum(rt: HostRuntime) -> Result<(), Fail> {
-    let alloc = rt.alloc();
-    let mut session = Session::new(alloc, Limits::default())?;
-    let quoted = deepest(alloc, "QUOTE")?;
-    let call = deepest(alloc, "F")?;
-    assert_eq!(rt;
-        (quoted.nesting(), call.nesting()),
-        (MAX_NESTING, MAX_NESTING)
-    );
-    let value = session.submit(&quoted);
-    assert!(rt; matches!(value, Reply::Value(Value::List(_))));
+    let mut session = Session::new(rt.alloc(), Limits::default())?;
+    let call = deepest(rt.alloc(), "F")?;
+    assert_eq!(rt; call.nesting(), MAX_NESTING);
     assert_eq!(rt; condition(&mut session, &call), 30);
+    Ok(())
+}
+
+#[test]
+fn the_deepest_quoted_datum(rt: HostRuntime) -> Result<(), Fail> {
+    let mut session = Session::new(rt.alloc(), Limits::default())?;
+    let quoted = deepest(rt.alloc(), "QUOTE")?;
+    assert_eq!(rt; quoted.nesting(), MAX_NESTING);
+    assert!(rt; is_list(&session.submit(&quoted)));
     Ok(())
 }

@@ -390,14 +390,19 @@ fn tell(out: &mut String, top: &Top) {
     }
 }
 
+/// Tells what a datum was parsed to.
+fn tell_parsed(out: &mut String, parsed: &Result<Top, SyntaxFault>) {
+    match parsed {
+        Ok(top) => tell(out, top),
+        Err(SyntaxFault::Program) => say(out, "none"),
+        Err(_) => say(out, "no memory"),
+    }
+}
+
 /// Tells a datum as a top-level form.
 fn told(alloc: Global, datum: &Datum) -> String {
     let mut out = String::new(alloc);
-    match parse_top(alloc, datum) {
-        Ok(top) => tell(&mut out, &top),
-        Err(SyntaxFault::Program) => say(&mut out, "none"),
-        Err(_) => say(&mut out, "no memory"),
-    }
+    tell_parsed(&mut out, &parse_top(alloc, datum));
     out
 }
 
@@ -432,15 +437,21 @@ fn other_lambda_lists_are_refused(rt: HostRuntime) -> Result<(), Fail> {
     Ok(())
 }
 
+/// A quoted list that ends in a method, behind a dot.
+fn quoted_method(alloc: Global) -> Result<Datum, Fail> {
+    let front = Data::cons(alloc, Datum::Method(MethodId(1)), Data::new())?;
+    let dotted = Dot::new(alloc, front, Datum::Int(1))?;
+    list_of(alloc, "QUOTE", Datum::Dotted(dotted), Data::new())
+}
+
 #[test]
 fn methods_stand_nowhere(rt: HostRuntime) -> Result<(), Fail> {
-    let alloc = rt.alloc();
-    let method = Data::cons(alloc, Datum::Method(MethodId(1)), Data::new())?;
-    let dotted = Datum::Dotted(Dot::new(alloc, method, Datum::Int(1))?);
-    let quoted = told(alloc, &list_of(alloc, "QUOTE", dotted, Data::new())?);
+    let quoted = told(rt.alloc(), &quoted_method(rt.alloc())?);
     assert_eq!(rt; quoted.as_str(), "none");
-    let alone = told(alloc, &Datum::Method(MethodId(1)));
-    assert_eq!(rt; alone.as_str(), "none");
+    assert_eq!(rt;
+        told(rt.alloc(), &Datum::Method(MethodId(1))).as_str(),
+        "none"
+    );
     Ok(())
 }
 
