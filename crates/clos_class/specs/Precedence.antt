@@ -94,7 +94,7 @@ Upward f all = (k x : ℕ) → has all k ≡ true → has (f k) x ≡ true → h
 abbrev pub Below : Supers → ℕ → List ℕ → Type 0
 Below f c all = (y : ℕ) → has all y ≡ true → (y ≡ c) ⊎ ((k : ℕ) × (has all k ≡ true) × (has (f k) y ≡ true))
 
--- these are a class and all its superclasses
+-- A class and all its superclasses are so; what is told of such a family is told of them.
 pub record IsFamily (f : Supers) (c : ℕ) (all : List ℕ) : Type 0 where
   pub self : has all c ≡ true
   pub upward : Upward f all

@@ -141,7 +141,7 @@ abbrev pub Takes : Run → State → ℕ → Result Value Stop → State → ℕ
 Takes run w s (Ok v) w' s' = (k : ℕ) × (s ≡ k + s') × ((t : ℕ) → run w (k + t) ≡ Gave (value_of v) w' t)
 Takes run w s (Err e) w' s' = Unit {0}
 
--- How many actions more may follow an action with no step between them.
+-- What an action weighs more than others, since some may follow it with no step between.
 abbrev pub lift : Action → ℕ
 lift (Call name) = 0
 lift (CallSetter name) = 0
