@@ -2,20 +2,21 @@
 ghost use Rattle.std.specs.Prelude.{◌≡◌, ◌∷◌, ◌++◌, [], ℕ, ◌≤◌, length, option_map, OnOk, pos};
 ghost use Rattle.lisp_data.specs.Value.{list, nil};
 ghost use Rattle.lisp_data.specs.ValueView.{value_of};
-ghost use Rattle.clos_world.specs.World.{State, seen, bound_as};
+ghost use Rattle.clos_world.specs.Globals.{global_value};
+ghost use Rattle.clos_world.specs.World.{State, seen, bound_as, local_named};
 ghost use Rattle.clos_machine.specs.Control.{sequence};
 ghost use Rattle.clos_machine.specs.Machine.{Leads, Turns, Grows, Shrinks, at, with_next, inside, loop_of};
 ghost use Rattle.clos_machine.specs.Meaning.{meaning};
 ghost use Rattle.clos_machine.specs.Outcome.{Run, Gave, then_do};
-ghost use Rattle.clos_machine.specs.Variables.{found_value, variable_value, in_order, binding, within, leaving, aside, together, dotimes, repeated, turns, result_value, body_of, counted, with_count};
+ghost use Rattle.clos_machine.specs.Variables.{found_value, or_global, variable_value, in_order, binding, within, leaving, aside, together, dotimes, repeated, turns, result_value, body_of, counted, with_count};
 
-use crate::control::begin;
+use crate::control::{begin, split};
 use clos_forms::{Bindings, Forms};
 use clos_machine::counter::Counter;
 use clos_machine::locals::{Locals, Plan, bind_unset, put_unset_aside};
 use clos_machine::machine::{Doing, Frame, Machine, Repetition, Task};
 use clos_machine::truth::nil;
-use clos_world::{ConditionKind, Stop, World, about, about_name, plain};
+use clos_world::{ConditionKind, Globals, Stop, World, about, about_name, plain};
 use lisp_data::{Name, Value};
 use std::alloc::{AllocError, Global};
 
@@ -27,9 +28,15 @@ pub fn value_of_variable<'a>(
 ) -> Option<&'a Value>
     ensures { option_map (λ v. value_of v.now) result ≡ found_value (at machine.now (seen world.now)) name.now }
 {
-    match machine.locals.get(name) {
+    innermost_value(&machine.locals, &world.globals, name)
+}
+
+fn innermost_value<'a>(locals: &'a Locals, globals: &'a Globals, name: &Name) -> Option<&'a Value>
+    ensures { option_map (λ v. value_of v.now) result ≡ or_global (local_named locals.now name.now) (global_value globals.now name.now) }
+{
+    match locals.get(name) {
         Some(value) => Some(value),
-        None => world.globals.value(name),
+        None => globals.value(name),
     }
 }
 
@@ -75,15 +82,14 @@ pub fn continue_within(
         → Leads (inside machine.old run) w result machine.new }
     ensures small { Grows 6 machine.old.levels result machine.new }
 {
-    match forms.split_first() {
+    match split(forms)? {
         None => {
             machine.locals.leave(outer);
             Ok(Doing::Give(value))
         }
-        Some((first, others)) => {
-            let next = Task::Plain(first.copy()?);
-            let rest = others.copy()?;
-            begin(machine, next, Frame::Scope(outer, rest))
+        Some((first, rest)) => {
+            drop(value);
+            begin(machine, Task::Plain(first), Frame::Scope(outer, rest))
         }
     }
 }
@@ -143,12 +149,11 @@ fn bind_next(
 {
     match next {
         None => run_within(machine, outer, forms),
-        Some(name) => match forms.split_first() {
+        Some(name) => match split(forms)? {
             None => Err(Stop::Refused(plain(alloc, ConditionKind::ProgramError))),
-            Some((first, others)) => {
-                let init = Task::Plain(first.copy()?);
-                let rest = others.copy()?;
-                begin(machine, init, Frame::InOrder(outer, name, plan, rest))
+            Some((init, rest)) => {
+                let frame = Frame::InOrder(outer, name, plan, rest);
+                begin(machine, Task::Plain(init), frame)
             }
         },
     }
@@ -254,12 +259,11 @@ fn aside_next(
 {
     match next {
         None => bind_together(alloc, machine, world, outer, locals, forms),
-        Some(name) => match forms.split_first() {
+        Some(name) => match split(forms)? {
             None => Err(Stop::Refused(plain(alloc, ConditionKind::ProgramError))),
-            Some((first, others)) => {
-                let init = Task::Plain(first.copy()?);
-                let rest = others.copy()?;
-                begin(machine, init, Frame::Aside(outer, locals, name, plan, rest))
+            Some((init, rest)) => {
+                let frame = Frame::Aside(outer, locals, name, plan, rest);
+                begin(machine, Task::Plain(init), frame)
             }
         },
     }
@@ -337,17 +341,16 @@ pub fn start_loop(
         → Leads (inside machine.old run) w result machine.new }
     ensures small { Grows 6 machine.old.levels result machine.new }
 {
-    match forms.split_first() {
+    match split(forms)? {
         None => Err(Stop::Refused(plain(alloc, ConditionKind::ProgramError))),
-        Some((count, others)) => {
-            let next = Task::Plain(count.copy()?);
+        Some((count, forms)) => {
             let repetition = Repetition {
                 outer: machine.locals.len(),
                 name: name.copy()?,
                 has_result,
-                forms: others.copy()?,
+                forms,
             };
-            begin(machine, next, Frame::Count(repetition))
+            begin(machine, Task::Plain(count), Frame::Count(repetition))
         }
     }
 }
@@ -418,12 +421,11 @@ pub fn continue_turn(
         → Leads (inside machine.old run) w result machine.new }
     ensures small { Grows 8 machine.old.levels result machine.new }
 {
-    match forms.split_first() {
+    match split(forms)? {
         None => Ok(Doing::Turn(repetition, counter)),
-        Some((first, others)) => {
-            let next = Task::Plain(first.copy()?);
-            let rest = others.copy()?;
-            begin(machine, next, Frame::Turn(repetition, counter, rest))
+        Some((first, rest)) => {
+            let frame = Frame::Turn(repetition, counter, rest);
+            begin(machine, Task::Plain(first), frame)
         }
     }
 }
