@@ -2,13 +2,12 @@
 ghost use Rattle.std.specs.Prelude.{◌≡◌, ◌∷◌, ◌++◌, [], ℕ, ◌≤◌, length, option_map, OnOk, pos};
 ghost use Rattle.lisp_data.specs.Value.{list, nil};
 ghost use Rattle.lisp_data.specs.ValueView.{value_of};
-ghost use Rattle.clos_world.specs.Globals.{global_value};
-ghost use Rattle.clos_world.specs.World.{State, seen, bound_as, local_named};
+ghost use Rattle.clos_world.specs.World.{State, seen, bound_as};
 ghost use Rattle.clos_machine.specs.Control.{sequence};
 ghost use Rattle.clos_machine.specs.Machine.{Leads, Turns, Grows, Shrinks, at, with_next, inside, loop_of};
 ghost use Rattle.clos_machine.specs.Meaning.{meaning};
 ghost use Rattle.clos_machine.specs.Outcome.{Run, Gave, then_do};
-ghost use Rattle.clos_machine.specs.Variables.{found_value, or_global, variable_value, in_order, binding, within, leaving, aside, together, dotimes, repeated, turns, result_value, body_of, counted, with_count};
+ghost use Rattle.clos_machine.specs.Variables.{found_value, variable_value, in_order, binding, within, leaving, aside, together, dotimes, repeated, turns, result_value, body_of, counted, with_count};
 
 use crate::control::{begin, split};
 use clos_forms::{Bindings, Forms};
@@ -16,7 +15,7 @@ use clos_machine::counter::Counter;
 use clos_machine::locals::{Locals, Plan, bind_unset, put_unset_aside};
 use clos_machine::machine::{Doing, Frame, Machine, Repetition, Task};
 use clos_machine::truth::nil;
-use clos_world::{ConditionKind, Globals, Stop, World, about, about_name, plain};
+use clos_world::{ConditionKind, Stop, World, about, about_name, plain};
 use lisp_data::{Name, Value};
 use std::alloc::{AllocError, Global};
 
@@ -28,15 +27,9 @@ pub fn value_of_variable<'a>(
 ) -> Option<&'a Value>
     ensures { option_map (λ v. value_of v.now) result ≡ found_value (at machine.now (seen world.now)) name.now }
 {
-    innermost_value(&machine.locals, &world.globals, name)
-}
-
-fn innermost_value<'a>(locals: &'a Locals, globals: &'a Globals, name: &Name) -> Option<&'a Value>
-    ensures { option_map (λ v. value_of v.now) result ≡ or_global (local_named locals.now name.now) (global_value globals.now name.now) }
-{
-    match locals.get(name) {
+    match machine.locals.get(name) {
         Some(value) => Some(value),
-        None => globals.value(name),
+        None => world.globals.value(name),
     }
 }
 
