@@ -8,7 +8,7 @@ ghost use Rattle.clos_machine.specs.Meaning.{acted, collect, meaning};
 ghost use Rattle.clos_machine.specs.Outcome.{Run};
 
 use crate::binding::value_of_variable;
-use crate::control::begin;
+use crate::control::{begin, give_up, split};
 use clos_forms::{Forms, Operator};
 use clos_machine::machine::{Action, Doing, Frame, Machine, Task};
 use clos_world::{Stop, Values, World};
@@ -71,12 +71,14 @@ fn begin_next(
         → Leads (inside machine.old run) w result machine.new }
     ensures small { Grows (8 + lift action) machine.old.levels result machine.new }
 {
-    match forms.split_first() {
+    let Ok(next) = split(forms) else {
+        return Err(give_up(action, values));
+    };
+    match next {
         None => Ok(Doing::Act(action, values)),
-        Some((first, others)) => {
-            let next = Task::Plain(first.copy()?);
-            let rest = others.copy()?;
-            begin(machine, next, Frame::Collect(action, rest, values))
+        Some((first, rest)) => {
+            let frame = Frame::Collect(action, rest, values);
+            begin(machine, Task::Plain(first), frame)
         }
     }
 }

@@ -81,11 +81,14 @@ fn set_target(
     match forms.split_first() {
         None => Err(Stop::Refused(plain(alloc, ConditionKind::ProgramError))),
         Some((first, others)) => {
-            let value = Task::Plain(first.copy()?);
-            let action = Action::Store(name.copy()?);
-            let outer = Frame::Setq(form.copy()?, next, others.copy()?);
+            let value = first.copy()?;
+            let name = name.copy()?;
+            let form = form.copy()?;
+            let others = others.copy()?;
+            let action = Action::Store(name);
             let frame = Frame::Collect(action, Forms::new(), Values::new(alloc));
-            begin_under(machine, value, frame, outer)
+            let outer = Frame::Setq(form, next, others);
+            begin_under(machine, Task::Plain(value), frame, outer)
         }
     }
 }
@@ -186,11 +189,11 @@ fn set_variable(
         → Leads (inside machine.old run) w result machine.new }
     ensures small { Grows 6 machine.old.levels result machine.new }
 {
-    let value = Task::Plain(form.copy()?);
-    let action = Action::Store(name.copy()?);
-    let outer = Frame::Setf(others.copy()?);
-    let inner = Frame::Collect(action, Forms::new(), Values::new(alloc));
-    begin_under(machine, value, inner, outer)
+    let value = form.copy()?;
+    let name = name.copy()?;
+    let others = others.copy()?;
+    let inner = Frame::Collect(Action::Store(name), Forms::new(), Values::new(alloc));
+    begin_under(machine, Task::Plain(value), inner, Frame::Setf(others))
 }
 
 /// What a call is set by gets the call's arguments and the value of a form; then the next one of these places its own.
@@ -225,11 +228,11 @@ fn set_alone(
         → Leads (inside machine.old run) w result machine.new }
     ensures small { Grows 6 machine.old.levels result machine.new }
 {
-    let value = Task::Plain(form.copy()?);
-    let action = Action::CallSetter(name.copy()?);
-    let outer = Frame::Setf(others.copy()?);
-    let inner = Frame::Collect(action, Forms::new(), Values::new(alloc));
-    begin_under(machine, value, inner, outer)
+    let value = form.copy()?;
+    let name = name.copy()?;
+    let others = others.copy()?;
+    let inner = Frame::Collect(Action::CallSetter(name), Forms::new(), Values::new(alloc));
+    begin_under(machine, Task::Plain(value), inner, Frame::Setf(others))
 }
 
 fn set_after(
@@ -246,28 +249,30 @@ fn set_after(
         → Leads (inside machine.old run) w result machine.new }
     ensures small { Grows 6 machine.old.levels result machine.new }
 {
-    let action = Action::NewValue(name.copy()?, form.copy()?);
-    set_by(alloc, machine, action, first, rest, others)
+    let name = name.copy()?;
+    let form = form.copy()?;
+    set_by(alloc, machine, name, form, first, rest, others)
 }
 
-/// An action is done with the values of these forms; then the next one of these places gets its own.
 fn set_by(
     alloc: Global,
     machine: &mut Machine,
-    action: Action,
+    name: Name,
+    form: Form,
     first: &Form,
     rest: &Forms,
     others: &Forms,
 ) -> Result<Doing, Stop>
     ensures leads { (run : Run) (w : State)
-        → ((t : ℕ) → then_do (collected (meaning machine.old.room) machine.old.context (cons first.now rest.now) action (at machine.old w) t) (λ u. setf (meaning machine.old.room) machine.old.context others.now u) ≡ run (at machine.old w) t)
+        → ((t : ℕ) → then_do (collected (meaning machine.old.room) machine.old.context (cons first.now rest.now) (NewValue name form) (at machine.old w) t) (λ u. setf (meaning machine.old.room) machine.old.context others.now u) ≡ run (at machine.old w) t)
         → Leads (inside machine.old run) w result machine.new }
-    ensures small { Grows (6 + lift action) machine.old.levels result machine.new }
+    ensures small { Grows 6 machine.old.levels result machine.new }
 {
-    let next = Task::Plain(first.copy()?);
-    let outer = Frame::Setf(others.copy()?);
-    let inner = Frame::Collect(action, rest.copy()?, Values::new(alloc));
-    begin_under(machine, next, inner, outer)
+    let next = first.copy()?;
+    let others = others.copy()?;
+    let rest = rest.copy()?;
+    let inner = Frame::Collect(Action::NewValue(name, form), rest, Values::new(alloc));
+    begin_under(machine, Task::Plain(next), inner, Frame::Setf(others))
 }
 
 /// A place is changed by an amount.
@@ -379,7 +384,10 @@ pub fn change_from(
     ensures leads { (w : State) → Leads (inside machine.old (changed_from (meaning machine.old.room) primitive name values (value_of amount) (value_of old))) w result machine.new }
     ensures small { Grows 10 machine.old.levels result machine.new }
 {
-    match combine(alloc, primitive, &old, amount) {
+    let made = combine(alloc, primitive, &old, &amount);
+    drop(old);
+    drop(amount);
+    match made {
         Ok(value) => set_call(machine, name, values, value),
         Err(stop) => Err(stop),
     }
@@ -486,15 +494,7 @@ pub fn change_only(
 {
     match values.only() {
         None => Err(Stop::Refused(plain(alloc, ConditionKind::ProgramError))),
-        Some(amount) => change_by_value(
-            alloc,
-            machine,
-            world,
-            primitive,
-            name,
-            amount.copy()?,
-            steps,
-        ),
+        Some(amount) => change_by_value(alloc, machine, world, primitive, name, amount, steps),
     }
 }
 
@@ -504,10 +504,10 @@ fn change_by_value(
     world: &mut World,
     primitive: Primitive,
     name: &Name,
-    amount: Value,
+    amount: &Value,
     steps: &mut u64,
 ) -> Result<Doing, Stop>
-    ensures turns { Turns (inside machine.old (changed primitive name.now (value_of amount))) (seen world.old) steps.old result machine.new (seen world.new) steps.new }
+    ensures turns { Turns (inside machine.old (changed primitive name.now (value_of amount.now))) (seen world.old) steps.old result machine.new (seen world.new) steps.new }
     ensures small { Grows 6 machine.old.levels result machine.new }
     ensures fewer { steps.new ≤ steps.old }
 {
@@ -524,9 +524,9 @@ fn new_value_of(
     world: &World,
     primitive: Primitive,
     name: &Name,
-    amount: Value,
+    amount: &Value,
 ) -> Result<Value, Stop>
-    ensures { Becomes (made_of primitive name.now (value_of amount)) (at machine.now (seen world.now)) result }
+    ensures { Becomes (made_of primitive name.now (value_of amount.now)) (at machine.now (seen world.now)) result }
 {
     match value_of_variable(machine, world, name) {
         None => {
@@ -538,12 +538,12 @@ fn new_value_of(
 }
 
 /// What the function makes of these values.
-fn combine(alloc: Global, primitive: Primitive, old: &Value, amount: Value) -> Result<Value, Stop>
-    ensures { (w : State) → Becomes (answered (answer primitive (value_of old.now ∷ value_of amount ∷ []))) w result }
+fn combine(alloc: Global, primitive: Primitive, old: &Value, amount: &Value) -> Result<Value, Stop>
+    ensures { (w : State) → Becomes (answered (answer primitive (value_of old.now ∷ value_of amount.now ∷ []))) w result }
 {
     let mut values = Values::new(alloc);
     values.push(old.copy()?)?;
-    values.push(amount)?;
+    values.push(amount.copy()?)?;
     match primitive.call(alloc, values.as_slice()) {
         Ok(value) => Ok(value),
         Err(fault) => Err(of_function(alloc, fault)),

@@ -9,7 +9,7 @@ ghost use Rattle.clos_machine.specs.Meaning.{meaning};
 ghost use Rattle.clos_machine.specs.Outcome.{Run, Gave, then_do};
 ghost use Rattle.clos_machine.specs.Variables.{found_value, variable_value, in_order, binding, within, leaving, aside, together, dotimes, repeated, turns, result_value, body_of, counted, with_count};
 
-use crate::control::begin;
+use crate::control::{begin, split};
 use clos_forms::{Bindings, Forms};
 use clos_machine::counter::Counter;
 use clos_machine::locals::{Locals, Plan, bind_unset, put_unset_aside};
@@ -75,15 +75,14 @@ pub fn continue_within(
         → Leads (inside machine.old run) w result machine.new }
     ensures small { Grows 6 machine.old.levels result machine.new }
 {
-    match forms.split_first() {
+    match split(forms)? {
         None => {
             machine.locals.leave(outer);
             Ok(Doing::Give(value))
         }
-        Some((first, others)) => {
-            let next = Task::Plain(first.copy()?);
-            let rest = others.copy()?;
-            begin(machine, next, Frame::Scope(outer, rest))
+        Some((first, rest)) => {
+            drop(value);
+            begin(machine, Task::Plain(first), Frame::Scope(outer, rest))
         }
     }
 }
@@ -143,12 +142,11 @@ fn bind_next(
 {
     match next {
         None => run_within(machine, outer, forms),
-        Some(name) => match forms.split_first() {
+        Some(name) => match split(forms)? {
             None => Err(Stop::Refused(plain(alloc, ConditionKind::ProgramError))),
-            Some((first, others)) => {
-                let init = Task::Plain(first.copy()?);
-                let rest = others.copy()?;
-                begin(machine, init, Frame::InOrder(outer, name, plan, rest))
+            Some((init, rest)) => {
+                let frame = Frame::InOrder(outer, name, plan, rest);
+                begin(machine, Task::Plain(init), frame)
             }
         },
     }
@@ -254,12 +252,11 @@ fn aside_next(
 {
     match next {
         None => bind_together(alloc, machine, world, outer, locals, forms),
-        Some(name) => match forms.split_first() {
+        Some(name) => match split(forms)? {
             None => Err(Stop::Refused(plain(alloc, ConditionKind::ProgramError))),
-            Some((first, others)) => {
-                let init = Task::Plain(first.copy()?);
-                let rest = others.copy()?;
-                begin(machine, init, Frame::Aside(outer, locals, name, plan, rest))
+            Some((init, rest)) => {
+                let frame = Frame::Aside(outer, locals, name, plan, rest);
+                begin(machine, Task::Plain(init), frame)
             }
         },
     }
@@ -337,17 +334,16 @@ pub fn start_loop(
         → Leads (inside machine.old run) w result machine.new }
     ensures small { Grows 6 machine.old.levels result machine.new }
 {
-    match forms.split_first() {
+    match split(forms)? {
         None => Err(Stop::Refused(plain(alloc, ConditionKind::ProgramError))),
-        Some((count, others)) => {
-            let next = Task::Plain(count.copy()?);
+        Some((count, forms)) => {
             let repetition = Repetition {
                 outer: machine.locals.len(),
                 name: name.copy()?,
                 has_result,
-                forms: others.copy()?,
+                forms,
             };
-            begin(machine, next, Frame::Count(repetition))
+            begin(machine, Task::Plain(count), Frame::Count(repetition))
         }
     }
 }
@@ -418,12 +414,11 @@ pub fn continue_turn(
         → Leads (inside machine.old run) w result machine.new }
     ensures small { Grows 8 machine.old.levels result machine.new }
 {
-    match forms.split_first() {
+    match split(forms)? {
         None => Ok(Doing::Turn(repetition, counter)),
-        Some((first, others)) => {
-            let next = Task::Plain(first.copy()?);
-            let rest = others.copy()?;
-            begin(machine, next, Frame::Turn(repetition, counter, rest))
+        Some((first, rest)) => {
+            let frame = Frame::Turn(repetition, counter, rest);
+            begin(machine, Task::Plain(first), frame)
         }
     }
 }

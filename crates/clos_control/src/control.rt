@@ -1,18 +1,44 @@
 //! Forms one after another, and conditionals (HyperSpec 5.3).
-ghost use Rattle.std.specs.Prelude.{◌≡◌, ℕ, ◌+◌};
+ghost use Rattle.std.specs.Prelude.{◌≡◌, ℕ, ◌+◌, ◌∷◌, IfOk, OnOk, MatchOption};
 ghost use Rattle.lisp_data.specs.ValueView.{value_of};
+ghost use Rattle.clos_forms.specs.Form.{cons, nil};
 ghost use Rattle.clos_world.specs.World.{State};
+ghost use Rattle.clos_world.specs.declared.condition.Stop.TheVariants.{Storage};
 ghost use Rattle.clos_machine.specs.Control.{going, followed, branch, keeping, clauses, clause, tested};
 ghost use Rattle.clos_machine.specs.Machine.{Leads, Grows, at, inside, below, after, given, lift, weight_of};
 ghost use Rattle.clos_machine.specs.Meaning.{acted, collect, meaning};
 ghost use Rattle.clos_machine.specs.Outcome.{Run, Gave, then_do};
 ghost use Rattle.clos_machine.specs.declared.machine.Doing.TheVariants.{Act};
 
-use clos_forms::Forms;
-use clos_machine::machine::{Action, Control, Doing, Frame, Level, Machine, Task};
+use clos_forms::{Form, Forms};
+use clos_machine::machine::{Action, Control, Doing, Frame, Level, Levels, Machine, Task};
 use clos_machine::truth::{is_true, nil};
 use clos_world::{Stop, Values};
 use lisp_data::Value;
+use std::alloc::AllocError;
+
+/// An action is not done, since memory was refused. A function of its own: each way out that drops an action is proved
+/// variant by variant.
+pub fn give_up(action: Action, values: Values) -> Stop
+    ensures { result ≡ Storage }
+{
+    drop(action);
+    drop(values);
+    Stop::Storage
+}
+
+/// Copies of the first of these forms and of the others.
+pub fn split(forms: &Forms) -> Result<Option<(Form, Forms)>, AllocError>
+    ensures { IfOk result (λ r. MatchOption r (forms.now ≡ nil) (λ p. forms.now ≡ cons p.0 p.1)) }
+{
+    match forms.split_first() {
+        None => Ok(None),
+        Some((first, others)) => {
+            let first = first.copy()?;
+            Ok(Some((first, others.copy()?)))
+        }
+    }
+}
 
 /// Evaluates this next, and then does what the frame does with its value.
 pub fn begin(machine: &mut Machine, next: Task, frame: Frame) -> Result<Doing, Stop>
@@ -24,6 +50,17 @@ pub fn begin(machine: &mut Machine, next: Task, frame: Frame) -> Result<Doing, S
     let room = machine.room;
     machine.levels.push(Level { frame, room })?;
     Ok(Doing::Start(next))
+}
+
+/// Two levels of this room: the frame, and the outer one under it.
+fn push_both(levels: &mut Levels, frame: Frame, outer: Frame, room: u64) -> Result<(), AllocError>
+    ensures { OnOk result (levels.new ≡ record { frame = frame; room = room } ∷ record { frame = outer; room = room } ∷ levels.old) }
+{
+    let Ok(()) = levels.push(Level { frame: outer, room }) else {
+        drop(frame);
+        return Err(AllocError);
+    };
+    levels.push(Level { frame, room })
 }
 
 /// The same, and after the frame what another does with its value.
@@ -39,8 +76,10 @@ pub fn begin_under(
     ensures small { Grows (weight_of frame + weight_of outer) machine.old.levels result machine.new }
 {
     let room = machine.room;
-    machine.levels.push(Level { frame: outer, room })?;
-    machine.levels.push(Level { frame, room })?;
+    let Ok(()) = push_both(&mut machine.levels, frame, outer, room) else {
+        drop(next);
+        return Err(Stop::Storage);
+    };
     Ok(Doing::Start(next))
 }
 
@@ -57,7 +96,9 @@ pub fn act_under(
     ensures small { Grows (weight_of frame + given (Act action values)) machine.old.levels result machine.new }
 {
     let room = machine.room;
-    machine.levels.push(Level { frame, room })?;
+    let Ok(()) = machine.levels.push(Level { frame, room }) else {
+        return Err(give_up(action, values));
+    };
     Ok(Doing::Act(action, values))
 }
 
@@ -94,7 +135,10 @@ pub fn collect_next(
     ensures small { Grows (9 + lift action) machine.old.levels result machine.new }
 {
     let _ = machine;
-    Ok(Doing::Collect(action, forms.copy()?, values))
+    let Ok(forms) = forms.copy() else {
+        return Err(give_up(action, values));
+    };
+    Ok(Doing::Collect(action, forms, values))
 }
 
 /// The next of these forms, or this value where there is none.
@@ -109,12 +153,11 @@ pub fn go_on(
         → Leads (inside machine.old run) w result machine.new }
     ensures small { Grows 6 machine.old.levels result machine.new }
 {
-    match forms.split_first() {
+    match split(forms)? {
         None => Ok(done(machine, value)),
-        Some((first, others)) => {
-            let next = Task::Plain(first.copy()?);
-            let rest = others.copy()?;
-            begin(machine, next, Frame::Rest(control, rest))
+        Some((first, rest)) => {
+            drop(value);
+            begin(machine, Task::Plain(first), Frame::Rest(control, rest))
         }
     }
 }
@@ -189,13 +232,9 @@ pub fn keep(machine: &mut Machine, forms: &Forms, value: Value) -> Result<Doing,
         → Leads (inside machine.old run) w result machine.new }
     ensures small { Grows 6 machine.old.levels result machine.new }
 {
-    match forms.split_first() {
+    match split(forms)? {
         None => Ok(done(machine, value)),
-        Some((first, others)) => {
-            let next = Task::Plain(first.copy()?);
-            let rest = others.copy()?;
-            begin(machine, next, Frame::Keep(rest, value))
-        }
+        Some((first, rest)) => begin(machine, Task::Plain(first), Frame::Keep(rest, value)),
     }
 }
 
@@ -219,13 +258,11 @@ fn test_clause(machine: &mut Machine, forms: &Forms, others: &Forms) -> Result<D
         → Leads (inside machine.old run) w result machine.new }
     ensures small { Grows 6 machine.old.levels result machine.new }
 {
-    match forms.split_first() {
+    match split(forms)? {
         None => Ok(done(machine, nil())),
         Some((test, body)) => {
-            let next = Task::Plain(test.copy()?);
-            let body = body.copy()?;
             let others = others.copy()?;
-            begin(machine, next, Frame::Clause(body, others))
+            begin(machine, Task::Plain(test), Frame::Clause(body, others))
         }
     }
 }

@@ -20,7 +20,7 @@ ghost use Rattle.clos_machine.specs.declared.machine.Action.TheVariants.{Call};
 ghost use Rattle.clos_machine.specs.declared.machine.Frame.TheVariants.{Bind, Body};
 ghost use Rattle.clos_machine.specs.declared.machine.Task.TheVariants.{Plain};
 
-use clos_control::control::{begin, collect_next, done};
+use clos_control::control::{begin, collect_next, done, give_up, split};
 use clos_forms::{Form, Forms, FunctionName, is_function, is_system_function, value_named};
 use clos_machine::arguments::{Arguments, Context};
 use clos_machine::effective::{EffectiveForm, EffectiveNode, combined};
@@ -68,7 +68,9 @@ pub fn next_value(
     ensures small { Grows (9 + lift action) machine.now.levels result machine.now }
 {
     let _ = machine;
-    values.push(value)?;
+    let Ok(()) = values.push(value) else {
+        return Err(give_up(action, values));
+    };
     Ok(Doing::Collect(action, rest, values))
 }
 
@@ -362,7 +364,10 @@ fn enter_effect(machine: &mut Machine, context: Context, next: Task) -> Result<D
     let room = machine.room;
     let saved = mem::replace(&mut machine.context, context);
     let frame = Frame::Known(saved);
-    machine.levels.push(Level { frame, room })?;
+    let Ok(()) = machine.levels.push(Level { frame, room }) else {
+        drop(next);
+        return Err(Stop::Storage);
+    };
     Ok(Doing::Start(next))
 }
 
@@ -447,14 +452,20 @@ fn run_scoped(
         → Leads (inside machine.old run) w result machine.new }
     ensures small { Grows 6 machine.old.levels result machine.new }
 {
-    match forms.split_first() {
+    match split(forms)? {
         None => Ok(done(machine, nil())),
-        Some((first, others)) => {
-            let first = first.copy()?;
-            let rest = others.copy()?;
-            enter_body(machine, context, locals, first, rest)
-        }
+        Some((first, rest)) => enter_body(machine, context, locals, first, rest),
     }
+}
+
+/// The machine's context and variables are now these; the others come back.
+fn enter(machine: &mut Machine, context: Context, locals: Locals) -> (Context, Locals)
+    ensures left { (result.0 ≡ machine.old.context) × (result.1 ≡ machine.old.locals) }
+    ensures entered { machine.new ≡ record machine.old { context = context; locals = locals } }
+{
+    let saved = mem::replace(&mut machine.context, context);
+    let outer = mem::replace(&mut machine.locals, locals);
+    (saved, outer)
 }
 
 /// Evaluates the forms of a body, of which this is the first, in a context of their own and with these variables.
@@ -470,9 +481,8 @@ fn enter_body(
         → Leads (inside machine.old run) w result machine.new }
     ensures small { Grows 6 machine.old.levels result machine.new }
 {
+    let (saved, outer) = enter(machine, context, locals);
     let room = machine.room;
-    let saved = mem::replace(&mut machine.context, context);
-    let outer = mem::replace(&mut machine.locals, locals);
     let frame = Frame::Body(rest, saved, outer);
     machine.levels.push(Level { frame, room })?;
     Ok(Doing::Start(Task::Plain(first)))
@@ -491,19 +501,18 @@ pub fn next_of_body(
     ensures small { Grows 6 machine.old.levels result machine.new }
 {
     let _ = world;
-    match rest.split_first() {
+    match split(rest)? {
         None => {
             machine.context = saved;
             machine.locals = outer;
             Ok(Doing::Give(value))
         }
-        Some((first, others)) => {
+        Some((first, rest)) => {
+            drop(value);
             let room = machine.room;
-            let next = Task::Plain(first.copy()?);
-            let rest = others.copy()?;
             let frame = Frame::Body(rest, saved, outer);
             machine.levels.push(Level { frame, room })?;
-            Ok(Doing::Start(next))
+            Ok(Doing::Start(Task::Plain(first)))
         }
     }
 }

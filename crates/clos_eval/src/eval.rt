@@ -162,8 +162,14 @@ fn read_call(
     ensures fewer { steps.new ≤ steps.old }
 {
     let room = machine.room;
-    let called = name.copy()?;
-    let arguments = values.copy(alloc)?;
+    let Ok(called) = name.copy() else {
+        drop(amount);
+        return Err(Stop::Storage);
+    };
+    let Ok(arguments) = values.copy(alloc) else {
+        drop(amount);
+        return Err(Stop::Storage);
+    };
     let frame = Frame::Changed(primitive, name, values, amount);
     machine.levels.push(Level { frame, room })?;
     apply(alloc, machine, world, &called, arguments, steps)

@@ -104,6 +104,7 @@ fn make_of(
         return Err(Stop::Storage);
     };
     let Ok(()) = world.add_instance(class) else {
+        drop(doing);
         return Err(Stop::Storage);
     };
     *steps -= 1;

@@ -1,5 +1,5 @@
 //! Output (HyperSpec 22.4).
-ghost use Rattle.std.specs.Prelude.{◌≡◌, ℕ, List, ◌≤◌, IfOk};
+ghost use Rattle.std.specs.Prelude.{◌≡◌, ◌++◌, ℕ, List, ◌≤◌, IfOk, codes};
 ghost use Rattle.lisp_data.specs.Value.{Val};
 ghost use Rattle.lisp_data.specs.ValueView.{value_of};
 ghost use Rattle.clos_world.specs.Values.{only_value};
@@ -22,15 +22,19 @@ fn text(alloc: Global, world: &World, output: Output, value: &Value) -> Result<V
     match output {
         Output::Princ => princ(alloc, value, world),
         Output::Prin1 => prin1(alloc, value, world),
-        Output::Print => {
-            let text = prin1(alloc, value, world)?;
-            let mut line = Vec::new(alloc);
-            line.push(b'\n')?;
-            line.extend_from_slice(text.as_slice())?;
-            line.push(b' ')?;
-            Ok(line)
-        }
+        Output::Print => line_of(alloc, prin1(alloc, value, world)?.as_slice()),
     }
+}
+
+/// What `print` writes: the text on a line of its own.
+fn line_of(alloc: Global, text: &[u8]) -> Result<Vec<u8>, AllocError>
+    ensures { IfOk result (λ r. r.items ≡ codes "\n" ++ (text.now ++ codes " ")) }
+{
+    let mut line = Vec::new(alloc);
+    line.push(b'\n')?;
+    line.extend_from_slice(text)?;
+    line.push(b' ')?;
+    Ok(line)
 }
 
 /// Writes bytes, which takes a step.

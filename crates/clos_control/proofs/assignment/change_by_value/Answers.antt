@@ -5,5 +5,5 @@ use Rattle.clos_control.proofs.assignment.change_by_value.Goals as goal
 
 pub returns-in-Err-clause-turns : goal.returns-in-Err-clause-turns
 returns-in-Err-clause-turns c =
-    not_changed c.args.machine.now c.args.primitive c.args.name.now (value_of c.args.amount) (seen c.args.world.now) c.args.steps.now c.in-Err.stop
+    not_changed c.args.machine.now c.args.primitive c.args.name.now (value_of c.args.amount.now) (seen c.args.world.now) c.args.steps.now c.in-Err.stop
     c.args.machine.now c.in-Err.ensures

@@ -6,5 +6,5 @@ use Rattle.clos_control.proofs.assignment.new_value_of.Goals as goal
 
 pub returns-in-Some : goal.returns-in-Some
 returns-in-Some c =
-    made_from c.args.primitive c.args.name.now (value_of c.args.amount) (at c.args.machine.now (seen c.args.world.now)) (value_of c.in-Some.old.now)
+    made_from c.args.primitive c.args.name.now (value_of c.args.amount.now) (at c.args.machine.now (seen c.args.world.now)) (value_of c.in-Some.old.now)
     c.combine.result c.in-Some.ensures (c.combine.ensures (at c.args.machine.now (seen c.args.world.now)))

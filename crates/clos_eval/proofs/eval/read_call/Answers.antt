@@ -12,6 +12,6 @@ returns-clause-turns c =
     subst (λ ls. Turns (inside (record m { levels = ls }) (called (meaning m.room) m.context c.args.name c.args.values)) (seen c.args.world.now) c.args.steps.now
     c.apply.result c.apply.new.machine (seen c.apply.new.world) c.apply.new.steps) c.in_ok-push.ensures.ok
     (subst (λ vs. Turns (inside (record m { levels = c.push.new.self }) (called (meaning m.room) m.context c.args.name vs)) (seen c.args.world.now) c.args.steps.now
-    c.apply.result c.apply.new.machine (seen c.apply.new.world) c.apply.new.steps) c.in_ok-arguments.ensures
-    (subst (λ n. Turns (inside (record m { levels = c.push.new.self }) (called (meaning m.room) m.context n c.in_ok-arguments.arguments)) (seen c.args.world.now)
-    c.args.steps.now c.apply.result c.apply.new.machine (seen c.apply.new.world) c.apply.new.steps) c.in_ok-called.ensures c.apply.ensures.turns))
+    c.apply.result c.apply.new.machine (seen c.apply.new.world) c.apply.new.steps) c.in-Ok-copy.ensures
+    (subst (λ n. Turns (inside (record m { levels = c.push.new.self }) (called (meaning m.room) m.context n c.in-Ok-copy.arguments)) (seen c.args.world.now)
+    c.args.steps.now c.apply.result c.apply.new.machine (seen c.apply.new.world) c.apply.new.steps) c.in-Ok.ensures c.apply.ensures.turns))
