@@ -1,5 +1,5 @@
-//! Functions of classes (HyperSpec 4.3.7, the entries class-of, class-name, find-class and typep; AMOP 5.3 class-precedence-list).
-ghost use Rattle.std.specs.Prelude.{◌≡◌, ℕ, IfOk, map};
+//! Functions of classes (HyperSpec 4.3.7, the entries class-of, class-name, find-class and typep; AMOP 6 class-precedence-list).
+ghost use Rattle.std.specs.Prelude.{◌≡◌, IfOk, map};
 ghost use Rattle.lisp_data.specs.Value.{class};
 ghost use Rattle.lisp_data.specs.ValueView.{value_of};
 ghost use Rattle.lisp_prims.specs.Primitive.{truth};

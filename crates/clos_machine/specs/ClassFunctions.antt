@@ -1,4 +1,4 @@
--- Functions of classes (HyperSpec 4.3.7, the entries class-of, class-name, find-class and typep; AMOP 5.3 class-precedence-list).
+-- Functions of classes (HyperSpec 4.3.7, the entries class-of, class-name, find-class and typep; AMOP 6 class-precedence-list).
 use Rattle.std.specs.Prelude.{◌≡◌, ℕ, ◌==◌, List, [], ◌∷◌, Bool, true, false, map, Option, Some, None, Result, Ok, Err}
 use Rattle.std.specs.List.{list_any}
 use Rattle.lisp_data.specs.Name.{Nam}
@@ -63,7 +63,7 @@ class_name_of classes [] = wrong_number
 class_name_of classes (v ∷ []) = name_of_class classes v
 class_name_of classes (v ∷ (u ∷ vs)) = wrong_number
 
--- ---- class-precedence-list: the list of a class, from the class itself on (AMOP 5.3; HyperSpec 4.3.5)
+-- ---- class-precedence-list: the list of a class, from the class itself on (AMOP 6; HyperSpec 4.3.5)
 
 abbrev pub in_words_of_conditions : Result Val prims.Condition → Answer
 in_words_of_conditions (Ok v) = Ok v

@@ -17,7 +17,7 @@ pub enum Output {
     Print,
 }
 
-/// A function of classes (HyperSpec 4.3.7; AMOP 5.3 `class-precedence-list`).
+/// A function of classes (HyperSpec 4.3.7; AMOP 6 `class-precedence-list`).
 #[derive(Clone, Copy, Debug, Drop, PartialEq, Eq)]
 pub enum ClassFunction {
     /// The class of a value.

@@ -1,4 +1,4 @@
-use Rattle.std.proofs.Common.{map, ap, subst, sym, ◌∙◌, Err}
+use Rattle.std.proofs.Common.{map, ap, subst, ◌∙◌, Err}
 use Rattle.lisp_data.specs.Value.{class}
 use Rattle.lisp_data.specs.ValueView.{value_of}
 use Rattle.lisp_prims.specs.Fault.{AnswersUnlessMemory}
