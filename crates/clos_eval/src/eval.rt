@@ -14,6 +14,7 @@ use crate::calls::{
     call, call_setter, compute, function_named, new_value, next_of_body, next_parameter,
     next_value, start_call, start_effective, start_system,
 };
+use crate::class_functions::call_class_function;
 use crate::objects::make_instance;
 use crate::output::{end_line, print};
 use clos_control::arguments::collect_values;
@@ -120,6 +121,9 @@ fn apply(
         Callee::Terpri => end_line(alloc, machine, world, &values, steps),
         Callee::Primitive(primitive) => compute(alloc, machine, world, primitive, &values),
         Callee::MakeInstance => make_instance(alloc, machine, world, &values, steps),
+        Callee::ClassFunction(function) => {
+            call_class_function(alloc, machine, world, function, &values)
+        }
         Callee::Defined => call(alloc, machine, world, name, values),
     }
 }

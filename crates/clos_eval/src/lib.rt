@@ -2,6 +2,7 @@
 #![tactic(auto)]
 
 mod calls;
+mod class_functions;
 pub mod eval;
 mod objects;
 mod output;

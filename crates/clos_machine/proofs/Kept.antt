@@ -19,7 +19,7 @@ use Rattle.clos_world.specs.Functions.{function_in}
 use Rattle.clos_world.specs.Generic.{function_named, ordered}
 use Rattle.clos_world.specs.Globals.{is_global, any_global}
 use Rattle.clos_world.specs.Values.{only_value, last_first}
-use Rattle.clos_world.specs.World.{State, Local, bound_as, unbound, local_named, names_of, lists_of}
+use Rattle.clos_world.specs.World.{State, Local, bound_as, unbound, local_named, names_of, class_of, lists_of}
 use Rattle.clos_world.specs.declared.condition.Condition.{Condition}
 use Rattle.clos_world.specs.declared.condition.ConditionKind.TheVariants.{DepthLimit}
 use Rattle.clos_world.specs.declared.functions.Function.{Function}
@@ -27,6 +27,7 @@ use Rattle.clos_world.specs.declared.generic.Generic.{Generic}
 use Rattle.clos_world.specs.declared.generic.Method.{Method}
 use Rattle.clos_machine.specs.Assignment.{stored, stored_globally, stored_only, made_of, changed_only, global_set}
 use Rattle.clos_machine.specs.Callee.{callee_of}
+use Rattle.clos_machine.specs.ClassFunctions.{Answer, class_answer, comes_to}
 use Rattle.clos_machine.specs.Calls.{known, restoring, parameters_run, body_run, applied_to, called_defined, called, called_setter, setter_value, dispatched, called_generic, called_function, method_run, combined, system, applied}
 use Rattle.clos_machine.specs.Control.{keeping, sequence, while_true, until_true, branch, followed, going, tested, clause, clauses}
 use Rattle.clos_machine.specs.Effective.{Effective, call_method, progn, prog1}
@@ -39,7 +40,7 @@ use Rattle.clos_machine.specs.Parameters.{Sources, argument, refused, init, fits
 use Rattle.clos_machine.specs.Variables.{Loop, found_value, variable_value, inner, leaving, init_form, within, binding, in_order, together, aside, name_in, counted, body_of, result_value, turns, turns_in, repeated, dotimes}
 use Rattle.clos_machine.specs.declared.arguments.Context.{Context}
 use Rattle.clos_machine.specs.declared.callee.Callee.{Callee}
-use Rattle.clos_machine.specs.declared.callee.Callee.TheVariants.{Output, Terpri, Primitive, MakeInstance, Defined}
+use Rattle.clos_machine.specs.declared.callee.Callee.TheVariants.{Output, Terpri, Primitive, MakeInstance, ClassFunction, Defined}
 use Rattle.clos_machine.specs.declared.callee.Output as output
 use Rattle.clos_machine.specs.declared.machine.Action.{Action}
 use Rattle.clos_machine.specs.declared.machine.Action.TheVariants.{Call, CallSetter, Store, Change, NewValue, Amount, ChangeCall}
@@ -213,6 +214,10 @@ answered_kept : (x : Result Val prims.Condition) (w : State) (k : ℕ) → Kept 
 answered_kept (Ok v) w k = same w
 answered_kept (Err c) w k = same w
 
+comes_kept : (x : Answer) (w : State) (k : ℕ) → Kept w (comes_to x w k)
+comes_kept (Ok v) w k = same w
+comes_kept (Err c) w k = same w
+
 instance_kept : (ev : Eval) → Keeps ev → (env : Context) (x : Option Val) (w : State) (k : ℕ) → Kept w (instance_made ev env x w k)
 instance_kept ev h env None w k = same w
 instance_kept ev h env (Some v) w k = made_kept ev h env (designated w.classes v) w k
@@ -222,6 +227,7 @@ applied_kept ev h env (Output o) name vs w k = output_kept o (only_value vs) w k
 applied_kept ev h env Terpri name vs w k = line_kept vs w k
 applied_kept ev h env (Primitive p) name vs w k = answered_kept (answer p vs) w k
 applied_kept ev h env MakeInstance name vs w k = instance_kept ev h env (only_value vs) w k
+applied_kept ev h env (ClassFunction f) name vs w k = comes_kept (class_answer f w.classes (class_of w) vs) w k
 applied_kept ev h env Defined name vs w k = function_kept ev h name vs (function_named w.generics name) w k
 
 -- ---- variables

@@ -15,13 +15,14 @@ use Rattle.clos_world.specs.Functions.{function_in}
 use Rattle.clos_world.specs.Generic.{function_named, ordered}
 use Rattle.clos_world.specs.Globals.{is_global, any_global}
 use Rattle.clos_world.specs.Values.{only_value, last_first}
-use Rattle.clos_world.specs.World.{State, Local, unbound, bound_as, local_named, lists_of}
+use Rattle.clos_world.specs.World.{State, Local, unbound, bound_as, local_named, class_of, lists_of}
 use Rattle.clos_world.specs.declared.condition.Condition.{Condition}
 use Rattle.clos_world.specs.declared.condition.ConditionKind.TheVariants.{StepLimit}
 use Rattle.clos_world.specs.declared.functions.Function.{Function}
 use Rattle.clos_world.specs.declared.generic.Generic.{Generic}
 use Rattle.clos_machine.specs.Assignment.{stored, stored_globally, stored_only, made_of, changed_only, with_local}
 use Rattle.clos_machine.specs.Callee.{callee_of}
+use Rattle.clos_machine.specs.ClassFunctions.{Answer, class_answer, comes_to}
 use Rattle.clos_machine.specs.Calls.{known, restoring, parameters_run, body_run, applied_to, called_defined, called, called_setter, setter_value, dispatched, called_generic, called_function, applied}
 use Rattle.clos_machine.specs.Control.{keeping, sequence, while_true, until_true, branch, followed, tested, clause, clauses}
 use Rattle.clos_machine.specs.Fault.{answered}
@@ -34,7 +35,7 @@ use Rattle.clos_machine.specs.Parameters.{Sources, argument, refused, init, fits
 use Rattle.clos_machine.specs.Variables.{Loop, found_value, variable_value, inner, leaving, init_form, within, binding, in_order, together, aside, name_in, counted, result_value, turns, turns_in, repeated}
 use Rattle.clos_machine.specs.declared.arguments.Context.{Context}
 use Rattle.clos_machine.specs.declared.callee.Callee.{Callee}
-use Rattle.clos_machine.specs.declared.callee.Callee.TheVariants.{Output, Terpri, Primitive, MakeInstance, Defined}
+use Rattle.clos_machine.specs.declared.callee.Callee.TheVariants.{Output, Terpri, Primitive, MakeInstance, ClassFunction, Defined}
 use Rattle.clos_machine.specs.declared.callee.Output as output
 use Rattle.clos_machine.specs.declared.machine.Action.{Action}
 use Rattle.clos_machine.specs.declared.machine.Action.TheVariants.{Call, CallSetter, Store, Change, NewValue, Amount, ChangeCall}
@@ -145,6 +146,10 @@ answered_quiet : (x : Result Val prims.Condition) (w : State) → leaves (closed
 answered_quiet (Ok v) w = (refl, refl)
 answered_quiet (Err c) w = (refl, refl)
 
+comes_quiet : (x : Answer) (w : State) → Quiet (comes_to x w 0) w
+comes_quiet (Ok v) w = (refl, refl)
+comes_quiet (Err c) w = (refl, refl)
+
 instance_quiet : (n : ℕ) (env : Context) (x : Option Val) (w : State) → leaves (closed (instance_made (meaning n) env x w 0)) (unbound w) 0
 instance_quiet n env None w = (refl, refl)
 instance_quiet n env (Some v) w = made_quiet (meaning n) env (designated w.classes v) w
@@ -154,6 +159,7 @@ applied_quiet n env (Output o) name vs w = output_quiet o (only_value vs) w
 applied_quiet n env Terpri name vs w = line_quiet vs w
 applied_quiet n env (Primitive p) name vs w = answered_quiet (answer p vs) w
 applied_quiet n env MakeInstance name vs w = instance_quiet n env (only_value vs) w
+applied_quiet n env (ClassFunction f) name vs w = comes_quiet (class_answer f w.classes (class_of w) vs) w
 applied_quiet n env Defined name vs w = function_quiet n name vs (function_named w.generics name) w
 
 -- ---- assignment

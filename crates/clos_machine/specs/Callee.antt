@@ -5,12 +5,27 @@ use Rattle.lisp_prims.specs.Primitive.{primitive_of}
 use Rattle.lisp_prims.specs.declared.primitive.Primitive as of_values
 use Rattle.clos_forms.specs.Names.{is_called}
 use Rattle.clos_machine.specs.declared.callee.Callee.{Callee}
-use Rattle.clos_machine.specs.declared.callee.Callee.TheVariants.{Output, Terpri, Primitive, MakeInstance, Defined}
+use Rattle.clos_machine.specs.declared.callee.Callee.TheVariants.{Output, Terpri, Primitive, MakeInstance, ClassFunction, Defined}
+use Rattle.clos_machine.specs.declared.callee.ClassFunction as of_classes
+use Rattle.clos_machine.specs.declared.callee.ClassFunction.TheVariants.{ClassOf, ClassName, ClassPrecedenceList, FindClass, Typep}
 use Rattle.clos_machine.specs.declared.callee.Output.TheVariants.{Princ, Prin1, Print}
 
 abbrev pub value_function : Option of_values.Primitive → Callee
 value_function None = Defined
 value_function (Some p) = Primitive p
+
+abbrev pub class_function_of : Nam → Option of_classes.ClassFunction
+class_function_of name =
+    if is_called (codes "CLASS-OF") name then Some ClassOf
+    else if is_called (codes "CLASS-NAME") name then Some ClassName
+    else if is_called (codes "CLASS-PRECEDENCE-LIST") name then Some ClassPrecedenceList
+    else if is_called (codes "FIND-CLASS") name then Some FindClass
+    else if is_called (codes "TYPEP") name then Some Typep
+    else None
+
+abbrev pub class_function : Option of_classes.ClassFunction → Callee → Callee
+class_function None other = other
+class_function (Some f) other = ClassFunction f
 
 -- what a call of the name calls
 abbrev pub callee_of : Nam → Callee
@@ -20,4 +35,4 @@ callee_of name =
     else if is_called (codes "PRINT") name then Output Print
     else if is_called (codes "TERPRI") name then Terpri
     else if is_called (codes "MAKE-INSTANCE") name then MakeInstance
-    else value_function (primitive_of name)
+    else class_function (class_function_of name) (value_function (primitive_of name))

@@ -8,12 +8,13 @@ use Rattle.clos_forms.specs.Quotation.{name_value}
 use Rattle.clos_world.specs.Functions.{function_in}
 use Rattle.clos_world.specs.Generic.{function_named, ordered}
 use Rattle.clos_world.specs.Values.{only_value, last_first}
-use Rattle.clos_world.specs.World.{State, Local, bound_as, lists_of}
+use Rattle.clos_world.specs.World.{State, Local, bound_as, class_of, lists_of}
 use Rattle.clos_world.specs.declared.condition.ConditionKind.TheVariants.{ProgramError, UndefinedFunction, NoApplicableMethod, Unsupported}
 use Rattle.clos_world.specs.declared.functions.Function.{Function}
 use Rattle.clos_world.specs.declared.generic.Generic.{Generic}
 use Rattle.clos_world.specs.declared.generic.Method.{Method}
 use Rattle.clos_machine.specs.Callee.{callee_of}
+use Rattle.clos_machine.specs.ClassFunctions.{class_answer, comes_to}
 use Rattle.clos_machine.specs.Control.{sequence}
 use Rattle.clos_machine.specs.Effective.{Effective, call_method, progn, prog1, effective_form}
 use Rattle.clos_machine.specs.Fault.{answered}
@@ -24,7 +25,7 @@ use Rattle.clos_machine.specs.Parameters.{Source, Sources, argument, refused, in
 use Rattle.clos_machine.specs.Variables.{binding}
 use Rattle.clos_machine.specs.declared.arguments.Context.{Context}
 use Rattle.clos_machine.specs.declared.callee.Callee.{Callee}
-use Rattle.clos_machine.specs.declared.callee.Callee.TheVariants.{Output, Terpri, Primitive, MakeInstance, Defined}
+use Rattle.clos_machine.specs.declared.callee.Callee.TheVariants.{Output, Terpri, Primitive, MakeInstance, ClassFunction, Defined}
 use Rattle.clos_machine.specs.declared.machine.SystemCall.{SystemCall}
 use Rattle.clos_machine.specs.declared.machine.SystemCall.TheVariants.{SignalNoApplicable, Initialize, InitializeShared}
 use Rattle.clos_machine.specs.declared.machine.Task.{Task}
@@ -107,6 +108,7 @@ applied ev env (Output o) name vs w s = output_of o (only_value vs) w s
 applied ev env Terpri name vs w s = line_ended vs w s
 applied ev env (Primitive p) name vs w s = answered (answer p vs) w s
 applied ev env MakeInstance name vs w s = instance_made ev env (only_value vs) w s
+applied ev env (ClassFunction f) name vs w s = comes_to (class_answer f w.classes (class_of w) vs) w s
 applied ev env Defined name vs w s = called_function ev name vs (function_named w.generics name) w s
 
 abbrev pub called : Eval → Context → Nam → List Val → Run

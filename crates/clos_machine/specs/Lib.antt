@@ -10,6 +10,7 @@ pub mod Variables
 pub mod Assignment
 pub mod Objects
 pub mod Output
+pub mod ClassFunctions
 pub mod Parameters
 pub mod ParametersCode
 pub mod ParametersView

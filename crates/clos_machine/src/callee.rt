@@ -1,6 +1,6 @@
 //! What the functions of the language are, by their names.
 ghost use Rattle.std.specs.Prelude.{◌≡◌};
-ghost use Rattle.clos_machine.specs.Callee.{callee_of, value_function};
+ghost use Rattle.clos_machine.specs.Callee.{callee_of, class_function, class_function_of, value_function};
 
 use clos_forms::is_the;
 use lisp_data::Name;
@@ -17,6 +17,21 @@ pub enum Output {
     Print,
 }
 
+/// A function of classes (HyperSpec 4.3.7; AMOP 6 `class-precedence-list`).
+#[derive(Clone, Copy, Debug, Drop, PartialEq, Eq)]
+pub enum ClassFunction {
+    /// The class of a value.
+    ClassOf,
+    /// The name of a class.
+    ClassName,
+    /// A class and its superclasses, the most specific first.
+    ClassPrecedenceList,
+    /// The class of a name.
+    FindClass,
+    /// Whether a value is of a class.
+    Typep,
+}
+
 /// What a call of a name calls.
 #[derive(Clone, Copy, Debug, Drop, PartialEq, Eq)]
 pub enum Callee {
@@ -27,6 +42,8 @@ pub enum Callee {
     /// A function of values.
     Primitive(Primitive),
     MakeInstance,
+    /// A function of classes.
+    ClassFunction(ClassFunction),
     /// A function of the program's, if there is one.
     Defined,
 }
@@ -50,7 +67,32 @@ pub fn callee_named(name: &Name) -> Callee
     if is_the(name, "MAKE-INSTANCE") {
         return Callee::MakeInstance;
     }
-    value_function(Primitive::named(name))
+    match class_function_named(name) {
+        Some(function) => Callee::ClassFunction(function),
+        None => value_function(Primitive::named(name)),
+    }
+}
+
+/// The function of classes of this name.
+fn class_function_named(name: &Name) -> Option<ClassFunction>
+    ensures { result ≡ class_function_of name.now }
+{
+    if is_the(name, "CLASS-OF") {
+        return Some(ClassFunction::ClassOf);
+    }
+    if is_the(name, "CLASS-NAME") {
+        return Some(ClassFunction::ClassName);
+    }
+    if is_the(name, "CLASS-PRECEDENCE-LIST") {
+        return Some(ClassFunction::ClassPrecedenceList);
+    }
+    if is_the(name, "FIND-CLASS") {
+        return Some(ClassFunction::FindClass);
+    }
+    if is_the(name, "TYPEP") {
+        return Some(ClassFunction::Typep);
+    }
+    None
 }
 
 fn value_function(primitive: Option<Primitive>) -> Callee

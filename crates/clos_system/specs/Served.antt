@@ -29,7 +29,7 @@ use Rattle.clos_forms.specs.Operator as of
 use Rattle.clos_machine.specs.Callee.{callee_of}
 use Rattle.clos_machine.specs.Parameters.{requires_only}
 use Rattle.clos_machine.specs.declared.callee.Callee.{Callee}
-use Rattle.clos_machine.specs.declared.callee.Callee.TheVariants.{Output, Terpri, Primitive, MakeInstance, Defined}
+use Rattle.clos_machine.specs.declared.callee.Callee.TheVariants.{Output, Terpri, Primitive, MakeInstance, ClassFunction, Defined}
 
 abbrev pub is_one : Frms → Bool
 is_one nil = false
@@ -42,6 +42,7 @@ is_served_as (Output o) name = true
 is_served_as Terpri name = true
 is_served_as (Primitive p) name = true
 is_served_as MakeInstance name = true
+is_served_as (ClassFunction f) name = true
 is_served_as Defined name = not (is_one_of functions name) && not (is_one_of system_functions name)
 
 abbrev pub names_served : Called → Bool
@@ -60,6 +61,7 @@ calls_as (Output o) name arguments = true
 calls_as Terpri name arguments = true
 calls_as (Primitive p) name arguments = true
 calls_as MakeInstance name arguments = is_one arguments
+calls_as (ClassFunction f) name arguments = true
 calls_as Defined name arguments = is_served_as Defined name
 
 abbrev pub calls : Nam → Frms → Bool

@@ -1,5 +1,5 @@
 -- What a top-level form does (HyperSpec 3.1.2.1, and the entries defclass and defmethod).
-use Rattle.std.specs.Prelude.{◌≡◌, ℕ, ◌+◌, ◌<◌, ◌==◌, ◌||◌, ◌&&◌, nat_lt, nat_le, min, List, [], ◌∷◌, ◌++◌, Option, Some, None, Result, Ok, Err, if◌then◌else◌, length, slice_get, slice_set, is_some}
+use Rattle.std.specs.Prelude.{◌≡◌, ℕ, ◌+◌, ◌<◌, ◌==◌, ◌&&◌, nat_lt, nat_le, min, List, [], ◌∷◌, ◌++◌, Option, Some, None, Result, Ok, Err, if◌then◌else◌, length, slice_get, slice_set, is_some}
 use Rattle.std.specs.Str.{bytes_eq}
 use Rattle.lisp_data.specs.Name.{Nam}
 use Rattle.lisp_data.specs.Value.{class, method, list, nil}
@@ -59,11 +59,11 @@ abbrev pub define_class : Nam → Option Nam → Option ℕ → Run
 define_class name super None w k = new_class name (superclass_number w super) w k
 define_class name super (Some n) w k = if nat_lt n first_defined then stopped ProgramError [] w k else stopped Unsupported [] w k
 
--- ---- defmethod on classes that defclass made, on T and on STANDARD-OBJECT
+-- ---- defmethod, on any class
 
 abbrev pub specializer_number : Nam → Option ℕ → Result ℕ Condition
 specializer_number name None = Err (record { kind = UndefinedClass; items = name_value name ∷ [] })
-specializer_number name (Some n) = if nat_le n 1 || nat_le first_defined n then Ok n else Err (record { kind = Unsupported; items = [] })
+specializer_number name (Some n) = Ok n
 
 abbrev pub if_found : Result ℕ Condition → (ℕ → Result (List ℕ) Condition) → Result (List ℕ) Condition
 if_found (Ok n) go = go n

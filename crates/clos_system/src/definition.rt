@@ -88,12 +88,7 @@ fn specializer(alloc: Global, world: &World, name: &Name) -> Result<ClassId, Sto
             let condition = about_name(alloc, ConditionKind::UndefinedClass, name)?;
             Err(Stop::Refused(condition))
         }
-        Some(id) => {
-            if id.0 <= 1 || id.0 >= 22 {
-                return Ok(id);
-            }
-            Err(Stop::Refused(plain(alloc, ConditionKind::Unsupported)))
-        }
+        Some(id) => Ok(id),
     }
 }
 

@@ -350,6 +350,7 @@ fn is_served_as(callee: Callee, name: &Name) -> bool
         Callee::Terpri => true,
         Callee::Primitive(_) => true,
         Callee::MakeInstance => true,
+        Callee::ClassFunction(_) => true,
     }
 }
 
@@ -373,6 +374,7 @@ fn calls(name: &Name, arguments: &Forms) -> bool
         Callee::Terpri => true,
         Callee::Primitive(_) => true,
         Callee::MakeInstance => is_one(arguments),
+        Callee::ClassFunction(_) => true,
         Callee::Defined => is_served_as(Callee::Defined, name),
     }
 }

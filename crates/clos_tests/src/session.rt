@@ -47,14 +47,14 @@ const ORDERS: &str =
 
 const UNSUPPORTED: &str = "; 28 (UNSUPPORTED)~";
 
-const NOT_SERVED: &str = "(defvar x (princ (typep 1 'integer)))
+const NOT_SERVED: &str = "(defvar x (princ (slot-boundp 1 'a)))
 (with-slots (a) (princ 1) a)
-(f (princ 1) (typep 1 'integer))
+(f (princ 1) (slot-boundp 1 'a))
 (progn (princ 1) (cond (nil (incf (slot-value 1 2)))))
 (progn (princ 1) (setf (slot-value 1 'a) 2))
 (progn (princ 1) #'initialize-instance)
-(defun f () (princ 1)) (defun f (&optional (x (typep 1 'integer))) 2) (f) => ; 28 (UNSUPPORTED)~1
-(defun f (&key (x (princ 1)) (y (typep 1 'integer))) x)
+(defun f () (princ 1)) (defun f (&optional (x (slot-boundp 1 'a))) 2) (f) => ; 28 (UNSUPPORTED)~1
+(defun f (&key (x (princ 1)) (y (slot-boundp 1 'a))) x)
 (defmethod f (x) (call-next-method))
 (initialize-instance (princ 1))
 (defgeneric f (x))
@@ -65,12 +65,12 @@ const NOT_SERVED: &str = "(defvar x (princ (typep 1 'integer)))
 (defclass a () () (:default-initargs :s 1))
 (define-method-combination c)
 (defmethod f :before (x) x)
-(defmethod f ((x integer)) x)
+(defmethod f :around ((x integer)) x)
 (defmethod f ((x (eql 1))) x)
 (defmethod f (x &rest y) x)
 (defmethod f (x &optional y) x)
 (defmethod f (x &key) x)
-(defmethod f (x) (typep x 'integer))
+(defmethod f (x) (class-of (slot-boundp x 'a)))
 (defmethod initialize-instance (x) x)
 (defclass a () ()) (defclass a () ()) (princ (make-instance 'a)) => ; 28 (UNSUPPORTED)~#<A 1>";
 
@@ -426,7 +426,7 @@ fn with_lines(alloc: Global, before: &str, text: &str) -> Result<String, AllocEr
 
 /// Asserts what each text of a table writes after those before it, or else `otherwise`.
 /// A row is `SETTING: TEXT => OUTPUT`, in which `~` is a new line.
-fn all_write(
+pub fn all_write(
     rt: &impl Abort,
     alloc: Global,
     before: &str,

@@ -1,8 +1,9 @@
 use Rattle.std.proofs.Common.{sym, subst, ◌∙◌}
 use Rattle.lisp_prims.specs.Primitive.{answer}
 use Rattle.clos_world.specs.Generic.{function_named}
-use Rattle.clos_world.specs.World.{seen}
+use Rattle.clos_world.specs.World.{class_of, seen}
 use Rattle.clos_machine.specs.Calls.{applied, called_function}
+use Rattle.clos_machine.specs.ClassFunctions.{class_answer, comes_to}
 use Rattle.clos_machine.specs.Fault.{answered}
 use Rattle.clos_machine.specs.Meaning.{meaning}
 use Rattle.clos_machine.specs.Machine.{Turns, inside}
@@ -16,6 +17,14 @@ returns-in-Primitive-clause-turns c =
     (sym c.in-Primitive.is ∙ c.callee_named.ensures)
     (turns_of_leads (inside c.args.machine.now (answered (answer c.in-Primitive.primitive c.args.values))) (seen c.args.world.now) c.args.steps.now
     c.compute.result c.compute.new.machine c.compute.ensures.leads)
+
+pub returns-in-ClassFunction-clause-turns : goal.returns-in-ClassFunction-clause-turns
+returns-in-ClassFunction-clause-turns c =
+    subst (λ k. Turns (inside c.args.machine.now (applied (meaning c.args.machine.now.room) c.args.machine.now.context k c.args.name.now c.args.values))
+    (seen c.args.world.now) c.args.steps.now c.call_class_function.result c.call_class_function.new.machine (seen c.args.world.now) c.args.steps.now)
+    (sym c.in-ClassFunction.is ∙ c.callee_named.ensures)
+    (turns_of_leads (inside c.args.machine.now (λ w. comes_to (class_answer c.in-ClassFunction.function w.classes (class_of w) c.args.values) w)) (seen c.args.world.now)
+    c.args.steps.now c.call_class_function.result c.call_class_function.new.machine c.call_class_function.ensures.leads)
 
 pub returns-in-Defined-clause-turns : goal.returns-in-Defined-clause-turns
 returns-in-Defined-clause-turns c =
