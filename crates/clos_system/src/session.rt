@@ -35,10 +35,16 @@ pub enum Reply {
 }
 
 /// A session. It begins with the predefined classes, and each form that is submitted to it may define more.
-#[derive(Drop)]
 pub struct Session {
     pub(crate) world: World,
     alloc: Global,
+}
+
+/// By hand: to drop a session is then one call, and not one for each of its tables at each way out.
+impl Drop for Session {
+    fn drop(self) {
+        let Session { world: _, alloc: _ } = self;
+    }
 }
 
 impl Session {
