@@ -6,7 +6,7 @@ use Rattle.lisp_data.specs.declared.ids.ClassId.{ClassId}
 use Rattle.clos_class.specs.Precedence.{Supers, has, next_above, are_done, if_all_done, with_first, in_turn}
 use Rattle.clos_class.specs.PrecedenceView.{numbers, latest_first}
 
-or_false : (a : Bool) → (a || false) ≡ a
+pub or_false : (a : Bool) → (a || false) ≡ a
 or_false true = refl
 or_false false = refl
 
@@ -52,3 +52,7 @@ one_turn f all cs c n m e h =
     ∙ ap (option_map (λ xs. numbers cs ++ xs))
     (sym (ap (λ k. in_turn k f all (latest_first cs)) e
     ∙ ap (λ o. with_first o (if_all_done (are_done (latest_first cs) all)) (λ x. in_turn m f all (x ∷ latest_first cs))) h))
+
+pub any_number : (cs : List ClassId) (x : ℕ) → list_any (λ c. c.0 == x) cs ≡ has (numbers cs) x
+any_number [] x = refl
+any_number (c ∷ cs) x = ap (λ v. (c.0 == x) || v) (any_number cs x)

@@ -179,7 +179,3 @@ pub one_superclass : (f : Supers) (c d : ℕ) (all l : List ℕ) → IsFamily f 
 one_superclass f c d all l m s n p =
     let o : Other c all = λ y e. other c y all (c == y) refl e n in
     ((c_first f c d all m s o, turn_more f c d all [] l m.upward s o p.0), covers_more c all l p.1)
-
--- the same, of the list and the class as they are built
-pub under : (f : Supers) (c d : ℕ) (all l : List ℕ) → l ≡ c ∷ all → f c ≡ d ∷ [] → has all c ≡ false → IsFamily f d all → IsPrecedenceList f all all → IsPrecedenceList f l l
-under f c d all l e s n m p = subst (λ v. IsPrecedenceList f v v) (sym e) (one_superclass f c d all all m s n p)

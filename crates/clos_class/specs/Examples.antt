@@ -1,11 +1,10 @@
 -- The example of the standard (HyperSpec 4.3.5.2).
-use Rattle.std.specs.Prelude.{◌≡◌, [], ◌∷◌, Some, None, refl}
+use Rattle.std.specs.Prelude.{◌≡◌, [], ◌∷◌, Some, None, slice_get, unwrap_or, refl}
 use Rattle.clos_class.specs.Precedence.{Supers, precedence_list}
-use Rattle.clos_class.specs.PrecedenceView.{supers_in}
 
 -- T, STANDARD-OBJECT, FOOD, FRUIT, SPICE, APPLE, CINNAMON, PIE, and NEW-CLASS
 abbrev food : Supers
-food = supers_in ([] ∷ (0 ∷ []) ∷ (1 ∷ []) ∷ (2 ∷ []) ∷ (2 ∷ []) ∷ (3 ∷ []) ∷ (4 ∷ []) ∷ (5 ∷ 6 ∷ []) ∷ (3 ∷ 5 ∷ []) ∷ [])
+food n = unwrap_or (slice_get ([] ∷ (0 ∷ []) ∷ (1 ∷ []) ∷ (2 ∷ []) ∷ (2 ∷ []) ∷ (3 ∷ []) ∷ (4 ∷ []) ∷ (5 ∷ 6 ∷ []) ∷ (3 ∷ 5 ∷ []) ∷ []) n) []
 
 pie : precedence_list food 7 (7 ∷ 5 ∷ 6 ∷ 3 ∷ 4 ∷ 2 ∷ 1 ∷ 0 ∷ []) ≡ Some (7 ∷ 5 ∷ 3 ∷ 6 ∷ 4 ∷ 2 ∷ 1 ∷ 0 ∷ [])
 pie = refl

@@ -1,3 +1,8 @@
 pub mod Precedence
 pub mod PrecedenceView
-mod Examples
+pub mod Examples
+pub mod Classes
+pub mod Kept
+pub mod Table
+pub mod TableView
+pub mod Initial

@@ -1,6 +1,19 @@
 //! Classes and their precedence (HyperSpec 4.3).
 #![tactic(auto)]
 
+mod admit;
+mod cycle;
+mod definitions;
+mod fault;
+mod fill;
+mod find;
+mod kept;
+mod names;
+mod place;
 mod precedence;
+mod predefined;
+mod relist;
+mod table;
 
-pub use precedence::{Superclasses, precedence_list, single_precedence_list};
+pub use fault::ClassFault;
+pub use table::Classes;

@@ -1,69 +1,31 @@
 //! Class precedence lists (HyperSpec 4.3.5).
 ghost use Rattle.std.specs.List.{list_any};
 ghost use Rattle.std.specs.Prelude.{◌≡◌, ◌==◌, false, ◌++◌, ◌∷◌, [], ℕ, IfOk, OnErr, OnOk, length, map, option_map};
-ghost use Rattle.clos_class.specs.Precedence.{has, are_before_done, is_free, first_left, if_free, next_above, are_done, if_all_done, precedence_list, IsFamily, IsPrecedenceList, Supers, Tells};
-ghost use Rattle.clos_class.specs.PrecedenceView.{numbers, latest_first, supers_in};
+ghost use Rattle.clos_class.specs.Precedence.{has, are_before_done, is_free, first_left, if_free, next_above, are_done, if_all_done, precedence_list, IsFamily, Tells};
+ghost use Rattle.clos_class.specs.PrecedenceView.{numbers, latest_first, above_in};
 
+use crate::kept::Above;
 use lisp_data::ClassId;
 use std::alloc::{AllocError, Global};
-use std::marker::Model;
-
-/// Of each class, by its number, the direct superclasses in the order of its definition. Contracts see the lists.
-#[derive(Drop)]
-pub struct Superclasses {
-    lists: Vec<Vec<ClassId>>,
-}
-
-impl Model for Superclasses {
-    ghost use Rattle.std.specs.Prelude.{List, ℕ, map};
-    ghost use Rattle.clos_class.specs.PrecedenceView.{numbers};
-
-    ghost Value = { List (List ℕ) };
-
-    ghost view = { λ a. map (λ v. numbers v.items) a.lists.items };
-}
-
-impl Superclasses {
-    /// Of no classes.
-    pub fn new(alloc: Global) -> Superclasses
-        ensures { result ≡ [] }
-    {
-        Superclasses {
-            lists: Vec::new(alloc),
-        }
-    }
-
-    /// One more class, with these.
-    pub fn push(&mut self, superclasses: Vec<ClassId>) -> Result<(), AllocError>
-        ensures ok { OnOk result (self.new ≡ self.old ++ numbers superclasses.items ∷ []) }
-        ensures err { OnErr result (self.new ≡ self.old) }
-    {
-        self.lists.push(superclasses)?;
-        Ok(())
-    }
-
-    /// Those of this class.
-    fn of(&self, class: ClassId) -> &[ClassId]
-        ensures { numbers result.now ≡ supers_in self.now class.0 }
-    {
-        match self.lists.get(class.0 as usize) {
-            Some(list) => list.as_slice(),
-            None => &[],
-        }
-    }
-}
 
 /// Whether a class is done.
 fn is_done(done: &[ClassId], class: ClassId) -> bool
     ensures { result ≡ has (latest_first done.now) class.0 }
 {
-    contains(done, class)
+    any(done, class)
 }
 
-fn contains(classes: &[ClassId], class: ClassId) -> bool
+fn any(classes: &[ClassId], class: ClassId) -> bool
     ensures { result ≡ list_any (λ c. c.0 == class.0) classes.now }
 {
     classes.iter().any(|other| other.0 == class.0)
+}
+
+/// Whether a class is among these.
+pub fn contains(classes: &[ClassId], class: ClassId) -> bool
+    ensures { result ≡ has (numbers classes.now) class.0 }
+{
+    any(classes, class)
 }
 
 /// Whether what stands before this class, directly, in the list of another and its direct superclasses, is done.
@@ -88,13 +50,8 @@ fn are_before_done(
 }
 
 /// Whether all that come before this class, by the classes of the family, are done.
-fn is_free(
-    superclasses: &Superclasses,
-    family: &[ClassId],
-    done: &[ClassId],
-    class: ClassId,
-) -> bool
-    ensures { result ≡ is_free (supers_in superclasses.now) (numbers family.now) (latest_first done.now) class.0 }
+fn is_free(superclasses: &Above<'_>, family: &[ClassId], done: &[ClassId], class: ClassId) -> bool
+    ensures { result ≡ is_free (above_in superclasses.now) (numbers family.now) (latest_first done.now) class.0 }
 {
     let mut left = family;
     while let Some((member, others)) = left.split_first() {
@@ -122,12 +79,12 @@ fn first_left(done: &[ClassId], superclasses: &[ClassId]) -> Option<ClassId>
 
 /// The first class that is left among direct superclasses, if it is free.
 fn free_above(
-    superclasses: &Superclasses,
+    superclasses: &Above<'_>,
     family: &[ClassId],
     done: &[ClassId],
     below: ClassId,
 ) -> Option<ClassId>
-    ensures { option_map (λ c. c.0) result ≡ if_free (supers_in superclasses.now) (numbers family.now) (latest_first done.now) (first_left (latest_first done.now) (supers_in superclasses.now below.0)) }
+    ensures { option_map (λ c. c.0) result ≡ if_free (above_in superclasses.now) (numbers family.now) (latest_first done.now) (first_left (latest_first done.now) (above_in superclasses.now below.0)) }
 {
     let class = first_left(done, superclasses.of(below))?;
     if !is_free(superclasses, family, done, class) {
@@ -138,8 +95,8 @@ fn free_above(
 
 /// Going back from the latest of these, the first class that is left and free among direct superclasses.
 #[tactic(auto, using(crate::proofs::Lists::latest))]
-fn next_above(superclasses: &Superclasses, family: &[ClassId], done: &[ClassId]) -> Option<ClassId>
-    ensures { option_map (λ c. c.0) result ≡ next_above (supers_in superclasses.now) (numbers family.now) (latest_first done.now) (latest_first done.now) }
+fn next_above(superclasses: &Above<'_>, family: &[ClassId], done: &[ClassId]) -> Option<ClassId>
+    ensures { option_map (λ c. c.0) result ≡ next_above (above_in superclasses.now) (numbers family.now) (latest_first done.now) (latest_first done.now) }
 {
     let mut rest = done;
     while let Some((latest, earlier)) = rest.split_last() {
@@ -178,11 +135,11 @@ fn if_all_done(done: Vec<ClassId>, family: &[ClassId]) -> Option<Vec<ClassId>>
 /// The classes of the family in the order of precedence, if there is one.
 fn order(
     alloc: Global,
-    superclasses: &Superclasses,
+    superclasses: &Above<'_>,
     class: ClassId,
     family: &[ClassId],
 ) -> Result<Option<Vec<ClassId>>, AllocError>
-    ensures { IfOk result (λ r. option_map (λ l. numbers l.items) r ≡ precedence_list (supers_in superclasses.now) class.0 (numbers family.now)) }
+    ensures { IfOk result (λ r. option_map (λ l. numbers l.items) r ≡ precedence_list (above_in superclasses.now) class.0 (numbers family.now)) }
 {
     let mut done = Vec::new(alloc);
     if !is_free(superclasses, family, &[], class) {
@@ -205,31 +162,14 @@ fn order(
 #[tactic(auto, using(crate::proofs::OnPrecedence::tells))]
 pub fn precedence_list(
     alloc: Global,
-    superclasses: &Superclasses,
+    superclasses: &Above<'_>,
     class: ClassId,
     family: &[ClassId],
 ) -> Result<Option<Vec<ClassId>>, AllocError>
-    ensures found { IfOk result (λ r. option_map (λ l. numbers l.items) r ≡ precedence_list (supers_in superclasses.now) class.0 (numbers family.now)) }
-    ensures law { IfOk result (λ r. IsFamily (supers_in superclasses.now) class.0 (numbers family.now)
-        → Tells (supers_in superclasses.now) (numbers family.now) (option_map (λ l. numbers l.items) r)) }
+    ensures found { IfOk result (λ r. option_map (λ l. numbers l.items) r ≡ precedence_list (above_in superclasses.now) class.0 (numbers family.now)) }
+    ensures law { IfOk result (λ r. IsFamily (above_in superclasses.now) class.0 (numbers family.now)
+        → Tells (above_in superclasses.now) (numbers family.now) (option_map (λ l. numbers l.items) r)) }
 {
     let list = order(alloc, superclasses, class, family)?;
-    Ok(list)
-}
-
-/// The class precedence list of a class that has one direct superclass, whose own list this is: the class before it.
-#[tactic(auto, using(crate::proofs::OneSuperclass::under))]
-pub fn single_precedence_list(
-    alloc: Global,
-    class: ClassId,
-    above: &[ClassId],
-) -> Result<Vec<ClassId>, AllocError>
-    ensures list { IfOk result (λ r. numbers r.items ≡ class.0 ∷ numbers above.now) }
-    ensures law { IfOk result (λ r. (f : Supers) (d : ℕ) → f class.0 ≡ d ∷ [] → has (numbers above.now) class.0 ≡ false → IsFamily f d (numbers above.now)
-        → IsPrecedenceList f (numbers above.now) (numbers above.now) → IsPrecedenceList f (numbers r.items) (numbers r.items)) }
-{
-    let mut list = Vec::new(alloc);
-    list.push(class)?;
-    list.extend_from_slice(above)?;
     Ok(list)
 }

@@ -3,4 +3,4 @@ use Rattle.clos_class.proofs.Lists.{done_among}
 use Rattle.clos_class.proofs.precedence.is_done.Goals as goal
 
 pub returns : goal.returns
-returns c = c.contains.ensures ∙ done_among c.args.done.now c.args.class.0
+returns c = c.any.ensures ∙ done_among c.args.done.now c.args.class.0

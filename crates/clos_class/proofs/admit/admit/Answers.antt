@@ -1,0 +1,33 @@
+use Rattle.std.proofs.Common.{◌≡◌, None, subst}
+use Rattle.std.specs.Prelude.{not, ◌||◌}
+use Rattle.clos_class.specs.Classes.{Classes, is_lacking}
+use Rattle.clos_class.specs.Kept.{Changes, Knows}
+use Rattle.clos_class.specs.PrecedenceView.{numbers, listing_at}
+use Rattle.clos_class.specs.Table.{misplaced, changed}
+use Rattle.clos_class.specs.TableView.{Refuses}
+use Rattle.clos_class.proofs.Admitted.{placed_own, not_placed_own}
+use Rattle.clos_class.proofs.admit.admit.Goals as goal
+
+pub returns-in-Ok-clause-knows : goal.returns-in-Ok-clause-knows
+returns-in-Ok-clause-knows c = λ k.
+    (placed_own c.args.definitions.now c.put.new.self c.args.kept.now.items c.in-Ok.placed.kept.items c.in_ok-put.put.class.0 c.in_ok-copy.field-0 c.args.name.now (numbers c.in-Ok.placed.changed.items) c.args.above.items c.args.has_shared_slots c.must_be_complete-whole.result c.in_ok-copy.ensures c.len-rows.ensures.rows c.in_ok-put.ensures.ok c.in_ok-put.ensures.number.0
+    (subst (λ v. c.must_be_complete-whole.result ≡ (c.args.has_shared_slots || not (is_lacking (listing_at v c.in_ok-put.put.class.0)))) c.as_slice.ensures.value c.must_be_complete-whole.ensures)
+    (subst (λ v. (ds : Classes) → Knows ds v → Changes ds c.put.new.self c.in_ok-put.put.class.0 → Knows c.put.new.self c.in-Ok.placed.kept.items × (misplaced c.put.new.self c.in_ok-put.put.class.0 c.args.name.now c.must_be_complete-whole.result ≡ None) × (numbers c.in-Ok.placed.changed.items ≡ changed ds c.put.new.self)) c.as_slice-2.ensures.value (λ ds e m. (c.in-Ok.ensures.knows ds e m, c.in-Ok.ensures.well ds e m, c.in-Ok.ensures.changed ds e m))) k).0
+
+pub returns-in-Ok-clause-well : goal.returns-in-Ok-clause-well
+returns-in-Ok-clause-well c = λ k.
+    (placed_own c.args.definitions.now c.put.new.self c.args.kept.now.items c.in-Ok.placed.kept.items c.in_ok-put.put.class.0 c.in_ok-copy.field-0 c.args.name.now (numbers c.in-Ok.placed.changed.items) c.args.above.items c.args.has_shared_slots c.must_be_complete-whole.result c.in_ok-copy.ensures c.len-rows.ensures.rows c.in_ok-put.ensures.ok c.in_ok-put.ensures.number.0
+    (subst (λ v. c.must_be_complete-whole.result ≡ (c.args.has_shared_slots || not (is_lacking (listing_at v c.in_ok-put.put.class.0)))) c.as_slice.ensures.value c.must_be_complete-whole.ensures)
+    (subst (λ v. (ds : Classes) → Knows ds v → Changes ds c.put.new.self c.in_ok-put.put.class.0 → Knows c.put.new.self c.in-Ok.placed.kept.items × (misplaced c.put.new.self c.in_ok-put.put.class.0 c.args.name.now c.must_be_complete-whole.result ≡ None) × (numbers c.in-Ok.placed.changed.items ≡ changed ds c.put.new.self)) c.as_slice-2.ensures.value (λ ds e m. (c.in-Ok.ensures.knows ds e m, c.in-Ok.ensures.well ds e m, c.in-Ok.ensures.changed ds e m))) k).1
+
+pub returns-in-Ok-clause-changed : goal.returns-in-Ok-clause-changed
+returns-in-Ok-clause-changed c = λ k.
+    (placed_own c.args.definitions.now c.put.new.self c.args.kept.now.items c.in-Ok.placed.kept.items c.in_ok-put.put.class.0 c.in_ok-copy.field-0 c.args.name.now (numbers c.in-Ok.placed.changed.items) c.args.above.items c.args.has_shared_slots c.must_be_complete-whole.result c.in_ok-copy.ensures c.len-rows.ensures.rows c.in_ok-put.ensures.ok c.in_ok-put.ensures.number.0
+    (subst (λ v. c.must_be_complete-whole.result ≡ (c.args.has_shared_slots || not (is_lacking (listing_at v c.in_ok-put.put.class.0)))) c.as_slice.ensures.value c.must_be_complete-whole.ensures)
+    (subst (λ v. (ds : Classes) → Knows ds v → Changes ds c.put.new.self c.in_ok-put.put.class.0 → Knows c.put.new.self c.in-Ok.placed.kept.items × (misplaced c.put.new.self c.in_ok-put.put.class.0 c.args.name.now c.must_be_complete-whole.result ≡ None) × (numbers c.in-Ok.placed.changed.items ≡ changed ds c.put.new.self)) c.as_slice-2.ensures.value (λ ds e m. (c.in-Ok.ensures.knows ds e m, c.in-Ok.ensures.well ds e m, c.in-Ok.ensures.changed ds e m))) k).2
+
+pub returns-in-Err-clause-fault : goal.returns-in-Err-clause-fault
+returns-in-Err-clause-fault c = λ k.
+    not_placed_own c.args.definitions.now c.put.new.self c.args.kept.now.items c.in_ok-put.put.class.0 c.in_ok-copy.field-0 c.args.name.now c.args.above.items c.args.has_shared_slots c.must_be_complete-whole.result c.in-Err.fault c.in_ok-copy.ensures c.len-rows.ensures.rows c.in_ok-put.ensures.ok c.in_ok-put.ensures.number.0
+    (subst (λ v. c.must_be_complete-whole.result ≡ (c.args.has_shared_slots || not (is_lacking (listing_at v c.in_ok-put.put.class.0)))) c.as_slice.ensures.value c.must_be_complete-whole.ensures)
+    (subst (λ v. (ds : Classes) → Knows ds v → Changes ds c.put.new.self c.in_ok-put.put.class.0 → Refuses c.in-Err.fault (misplaced c.put.new.self c.in_ok-put.put.class.0 c.args.name.now c.must_be_complete-whole.result)) c.as_slice-2.ensures.value c.in-Err.ensures.fault) k

@@ -1,0 +1,126 @@
+//! A session's table of classes (HyperSpec 4.3).
+ghost use Rattle.std.specs.Prelude.{◌≡◌, ℕ, None, IfOk, IfErr, IfSome, OnOk, OnErr, length, option_map, option_copied, slice_get};
+ghost use Rattle.clos_class.specs.Classes.{named, with_class, listing, broken, list_in};
+ghost use Rattle.clos_class.specs.Precedence.{has};
+ghost use Rattle.clos_class.specs.Initial.{initial};
+ghost use Rattle.clos_class.specs.PrecedenceView.{numbers};
+ghost use Rattle.clos_class.specs.Table.{Table, refusal, or_standard, changed, list_if};
+ghost use Rattle.clos_class.specs.TableView.{Refuses, IsListOf, HasCircle};
+
+use crate::admit::admit;
+use crate::definitions::Definitions;
+use crate::fault::ClassFault;
+use crate::find::{list_of, listed};
+use crate::kept::Kept;
+use crate::names::{check_names, or_standard};
+use crate::precedence::contains;
+use crate::predefined::define_predefined;
+use lisp_data::{ClassId, Name};
+use std::alloc::{AllocError, Global};
+use std::marker::Model;
+
+/// Classes by their numbers, in the order of first definition, the predefined ones first. A class may name superclasses
+/// that are defined later, and may be defined again.
+#[derive(Drop)]
+pub struct Classes {
+    definitions: Definitions,
+    kept: Vec<Kept>,
+    /// So many stand first.
+    predefined: u64,
+    /// So many more there may be.
+    limit: u64,
+}
+
+impl Model for Classes {
+    ghost use Rattle.std.specs.Prelude.{length};
+    ghost use Rattle.clos_class.specs.Table.{Table};
+    ghost use Rattle.clos_class.specs.Kept.{Knows};
+
+    ghost Value = { Table };
+
+    ghost view = { λ a. record { classes = a.definitions; predefined = a.predefined; limit = a.limit } };
+
+    ghost invariant = { λ a. Knows a.definitions a.kept.items };
+}
+
+impl Classes {
+    /// The predefined classes (HyperSpec 4.3.7), and room for so many more.
+    pub fn new(alloc: Global, limit: u64) -> Result<Classes, AllocError>
+        ensures { IfOk result (λ r. r ≡ initial limit) }
+    {
+        let mut definitions = Definitions::new(alloc);
+        let mut kept = Vec::new(alloc);
+        define_predefined(alloc, &mut definitions, &mut kept)?;
+        let predefined = definitions.len() as u64;
+        Ok(Classes {
+            definitions,
+            kept,
+            predefined,
+            limit,
+        })
+    }
+
+    /// Defines the class of this name, or defines it again, with these direct superclasses; without any it has
+    /// STANDARD-OBJECT. Answers the classes whose class precedence lists differ from before, or arose.
+    #[tactic(auto, using(crate::proofs::NoListing::circle))]
+    pub fn define(
+        &mut self,
+        alloc: Global,
+        name: &Name,
+        superclasses: Vec<Name>,
+        has_shared_slots: bool,
+    ) -> Result<Vec<ClassId>, ClassFault>
+        ensures ok { OnOk result ((refusal self.old name.now (or_standard superclasses.items) has_shared_slots ≡ None) × (self.new ≡ record self.old { classes = with_class self.old.classes name.now (or_standard superclasses.items) })) }
+        ensures changed { IfOk result (λ r. numbers r.items ≡ changed self.old.classes self.new.classes) }
+        ensures err { OnErr result (self.new ≡ self.old) }
+        ensures fault { IfErr result (λ e. Refuses e (refusal self.old name.now (or_standard superclasses.items) has_shared_slots)) }
+        ensures law { (n : ℕ) → listing (with_class self.old.classes name.now (or_standard superclasses.items)) n ≡ broken → HasCircle (with_class self.old.classes name.now (or_standard superclasses.items)) }
+    {
+        let above = or_standard(alloc, superclasses)?;
+        check_names(
+            &self.definitions,
+            self.predefined,
+            self.limit,
+            name,
+            above.as_slice(),
+        )?;
+        admit(
+            alloc,
+            &mut self.definitions,
+            &mut self.kept,
+            name,
+            above,
+            has_shared_slots,
+        )
+    }
+
+    /// The class of this name.
+    pub fn named(&self, name: &Name) -> Option<ClassId>
+        ensures { option_map (λ c. c.0) result ≡ named self.now.classes name.now }
+    {
+        self.definitions.named(name)
+    }
+
+    /// The name of a class.
+    pub fn name(&self, class: ClassId) -> Option<&Name>
+        ensures { option_copied result ≡ slice_get self.now.classes.names class.0 }
+    {
+        self.definitions.name(class)
+    }
+
+    /// The class precedence list of a class (HyperSpec 4.3.5), if all its superclasses are defined.
+    #[tactic(auto, using(crate::proofs::Listed::found_list, crate::proofs::Listed::told_list))]
+    pub fn precedence(&self, class: ClassId) -> Option<&[ClassId]>
+        ensures found { option_map (λ l. numbers l.now) result ≡ list_if (listing self.now.classes class.0) }
+        ensures law { IfSome result (λ l. IsListOf self.now.classes class.0 (numbers l.now)) }
+    {
+        listed(self.kept.as_slice(), class)
+    }
+
+    /// Whether a class that has a class precedence list is this other one, or below it.
+    pub fn is_sub(&self, class: ClassId, above: ClassId) -> bool
+        ensures { result ≡ has (list_in (listing self.now.classes class.0)) above.0 }
+    {
+        contains(list_of(self.kept.as_slice(), class), above)
+    }
+}
