@@ -1,0 +1,107 @@
+//! Definitions that are drawn, against the slow search.
+use crate::model::{Model, name};
+use crate::script::{PREDEFINED, lists, told};
+use clos_class::Classes;
+use lisp_data::Name;
+use std::alloc::{AllocError, Global};
+use std::process::Abort;
+use std::test::Fail;
+
+/// How many tables are drawn, and how many definitions of each.
+const TABLES: u64 = 4_000;
+
+const STEPS: u64 = 16;
+
+/// A linear congruential generator.
+#[derive(Drop)]
+struct Draw {
+    state: u64,
+}
+
+impl Draw {
+    fn next(&mut self) -> u64 {
+        self.state = self
+            .state
+            .wrapping_mul(6_364_136_223_846_793_005)
+            .wrapping_add(1_442_695_040_888_963_407);
+        self.state >> 33
+    }
+
+    /// One of five classes.
+    fn class(&mut self) -> u8 {
+        (self.next() % 5) as u8 + 2
+    }
+
+    /// Mostly a class that comes after this one, so that few are above themselves.
+    fn superclass(&mut self, class: u8) -> u8 {
+        match self.next() % 32 {
+            0 => 0,
+            1 | 2 => 1,
+            3..=5 => self.class(),
+            _ if class == 6 => 1,
+            _ => self.class().max(class.saturating_add(1)),
+        }
+    }
+
+    /// Up to three, of which few stand twice.
+    fn superclasses(&mut self, alloc: Global, class: u8) -> Result<Vec<u8>, AllocError> {
+        let mut above = Vec::new(alloc);
+        for _ in 0..self.next() % 4 {
+            let superclass = self.superclass(class);
+            if !above.contains(&superclass) || self.next() % 16 == 0 {
+                above.push(superclass)?;
+            }
+        }
+        Ok(above)
+    }
+}
+
+fn names(alloc: Global, above: &[u8]) -> Result<Vec<Name>, AllocError> {
+    let mut names = Vec::new(alloc);
+    for class in above {
+        names.push(Name::fixed(name(*class)))?;
+    }
+    Ok(names)
+}
+
+/// Whether one more definition answers as the rules say, and leaves the lists that they say.
+fn agrees(
+    alloc: Global,
+    draw: &mut Draw,
+    classes: &mut Classes,
+    model: &mut Model,
+) -> Result<bool, AllocError> {
+    let class = draw.class();
+    let above = draw.superclasses(alloc, class)?;
+    let shared = draw.next() % 4 == 0;
+    let wanted = model.define(alloc, class, above.as_slice(), shared)?;
+    let names = names(alloc, above.as_slice())?;
+    let answer = classes.define(alloc, &Name::fixed(name(class)), names, shared);
+    let found = told(alloc, classes, &answer)?;
+    Ok(
+        found.as_str() == wanted.as_str()
+            && lists(alloc, classes, PREDEFINED)?.as_str() == model.lists(alloc)?.as_str(),
+    )
+}
+
+/// Whether each definition of a table agrees.
+fn table_agrees(alloc: Global, table: u64) -> Result<bool, AllocError> {
+    let mut draw = Draw { state: table };
+    let limit = 3 + draw.next() % 3;
+    let mut classes = Classes::new(alloc, limit)?;
+    let mut model = Model::new(alloc, limit as usize)?;
+    for _ in 0..STEPS {
+        if !agrees(alloc, &mut draw, &mut classes, &mut model)? {
+            return Ok(false);
+        }
+    }
+    Ok(true)
+}
+
+#[test]
+fn drawn_tables_are_as_the_rules_say(rt: HostRuntime) -> Result<(), Fail> {
+    for table in 0..TABLES {
+        assert!(rt; table_agrees(rt.alloc(), table)?, "table {table}");
+    }
+    Ok(())
+}

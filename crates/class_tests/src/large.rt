@@ -1,0 +1,93 @@
+//! Many classes.
+use clos_class::{ClassFault, Classes};
+use lisp_data::{ClassId, Name, Text};
+use std::alloc::{AllocError, Global};
+use std::ops::Range;
+use std::process::Abort;
+use std::test::Fail;
+
+/// How the superclasses of a class follow from its place.
+#[derive(Clone, Copy)]
+enum Shape {
+    /// The class before it.
+    Chain,
+    /// The first class.
+    Fan,
+    /// The four of the level above it.
+    Lattice,
+}
+
+impl Shape {
+    fn above(self, place: u64) -> Range<u64> {
+        match self {
+            Shape::Chain => place.saturating_sub(1)..place,
+            Shape::Fan => 0..place.min(1),
+            Shape::Lattice => (place & !3).saturating_sub(4)..place & !3,
+        }
+    }
+}
+
+fn name(alloc: Global, place: u64) -> Result<Name, AllocError> {
+    let text = format!(in alloc; "C{place}")?;
+    Ok(Name::new(Text::new(text)?, false))
+}
+
+fn names(alloc: Global, places: Range<u64>) -> Result<Vec<Name>, AllocError> {
+    let mut names = Vec::new(alloc);
+    for place in places {
+        names.push(name(alloc, place)?)?;
+    }
+    Ok(names)
+}
+
+/// Defines so many classes, and then the first one again, below another. Answers how many that changed.
+fn define(
+    alloc: Global,
+    classes: &mut Classes,
+    shape: Shape,
+    count: u64,
+) -> Result<usize, ClassFault> {
+    for place in 0..count {
+        let above = names(alloc, shape.above(place))?;
+        classes.define(alloc, &name(alloc, place)?, above, true)?;
+    }
+    let root = names(alloc, count..count)?;
+    classes.define(alloc, &name(alloc, count)?, root, true)?;
+    let above = names(alloc, count..count.saturating_add(1))?;
+    let changed = classes.define(alloc, &name(alloc, 0)?, above, true)?;
+    Ok(changed.len())
+}
+
+/// How long the class precedence list of the class of this place is.
+fn length(alloc: Global, classes: &Classes, place: u64) -> Result<usize, AllocError> {
+    let length = match classes.named(&name(alloc, place)?) {
+        Some(class) => classes.precedence(class).map_or(0, |list| list.len()),
+        None => 0,
+    };
+    Ok(length)
+}
+
+/// So many classes of a shape: how many change with the first, and how long the last one's list is.
+fn figures(alloc: Global, shape: Shape, count: u64) -> Result<(usize, usize), ClassFault> {
+    let mut classes = Classes::new(alloc, count.saturating_add(1))?;
+    let changed = define(alloc, &mut classes, shape, count)?;
+    Ok((changed, length(alloc, &classes, count.saturating_sub(1))?))
+}
+
+#[test]
+fn a_long_chain(rt: HostRuntime) -> Result<(), Fail> {
+    assert_eq!(rt; figures(rt.alloc(), Shape::Chain, 2_000)?, (2_000, 2_003));
+    Ok(())
+}
+
+#[test]
+fn a_wide_fan(rt: HostRuntime) -> Result<(), Fail> {
+    assert_eq!(rt; figures(rt.alloc(), Shape::Fan, 2_000)?, (2_000, 5));
+    Ok(())
+}
+
+#[test]
+fn a_full_lattice(rt: HostRuntime) -> Result<(), Fail> {
+    assert_eq!(rt; figures(rt.alloc(), Shape::Lattice, 48)?, (45, 48));
+    Ok(())
+}
