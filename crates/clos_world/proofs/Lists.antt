@@ -1,6 +1,6 @@
 -- Lists seen through a function.
-use Rattle.std.proofs.Common.{◌≡◌, ℕ, suc, List, [], ◌∷◌, Bool, ◌||◌, ◌++◌, reverse, map, take, drop, refl, ap, ◌∙◌, sym}
-use Rattle.std.specs.Prelude.{insert, remove, slice_get, Option, option_map}
+use Rattle.std.proofs.Common.{◌≡◌, ℕ, zero, suc, List, [], ◌∷◌, Bool, ◌||◌, ◌++◌, reverse, map, take, drop, refl, ap, ◌∙◌, sym}
+use Rattle.std.specs.Prelude.{insert, remove, slice_get, slice_index_or, Option, option_map, unwrap_or}
 use Rattle.std.specs.List.{list_any}
 use Rattle.std.proofs.lemmas.List.{map-append, take-map, drop-map, reverse-append, reverse-reverse}
 use Rattle.lisp_data.specs.Value.{Val}
@@ -25,3 +25,9 @@ told_class ns i o e = ap (option_map on_class) e ∙ sym (slice_get-map on_class
 -- the last of some values before the others
 pub last_before : (xs : List Val) (x : Val) → x ∷ xs ≡ last_first (xs ++ x ∷ [])
 last_before xs x = sym (ap turned (reverse-append xs (x ∷ [])) ∙ ap (λ l. x ∷ l) (reverse-reverse xs))
+
+-- a member of a list of lists that functions give
+pub at_of_map : {A : Type 0} (f : Val → List ℕ) (g : A → Val) (xs : List A) (i : ℕ) → slice_index_or (map f (map g xs)) i [] ≡ unwrap_or (option_map (λ x. f (g x)) (slice_get xs i)) []
+at_of_map f g [] i = refl
+at_of_map f g (x ∷ xs) zero = refl
+at_of_map f g (x ∷ xs) (suc i) = at_of_map f g xs i
