@@ -1,6 +1,6 @@
 //! Definitions that are drawn, against the slow search.
 use crate::model::{Model, name};
-use crate::script::{PREDEFINED, lists, told};
+use crate::script::{PREDEFINED, is_same, lists, told};
 use clos_class::Classes;
 use lisp_data::Name;
 use std::alloc::{AllocError, Global};
@@ -64,7 +64,7 @@ fn names(alloc: Global, above: &[u8]) -> Result<Vec<Name>, AllocError> {
     Ok(names)
 }
 
-/// Whether one more definition answers as the rules say, and leaves the lists that they say.
+/// Whether one more definition answers as the rules say, also where it is only asked, and leaves the lists that they say.
 fn agrees(
     alloc: Global,
     draw: &mut Draw,
@@ -75,11 +75,13 @@ fn agrees(
     let above = draw.superclasses(alloc, class)?;
     let shared = draw.next() % 4 == 0;
     let wanted = model.define(alloc, class, above.as_slice(), shared)?;
-    let names = names(alloc, above.as_slice())?;
-    let answer = classes.define(alloc, &Name::fixed(name(class)), names, shared);
+    let own = Name::fixed(name(class));
+    let asked = classes.check(alloc, &own, names(alloc, above.as_slice())?, shared);
+    let answer = classes.define(alloc, &own, names(alloc, above.as_slice())?, shared);
     let found = told(alloc, classes, &answer)?;
     Ok(
-        found.as_str() == wanted.as_str()
+        is_same(alloc, &asked, &answer)?
+            && found.as_str() == wanted.as_str()
             && lists(alloc, classes, PREDEFINED)?.as_str() == model.lists(alloc)?.as_str(),
     )
 }

@@ -55,7 +55,7 @@ fn define(
     classes.define(alloc, &name(alloc, count)?, root, true)?;
     let above = names(alloc, count..count.saturating_add(1))?;
     let changed = classes.define(alloc, &name(alloc, 0)?, above, true)?;
-    Ok(changed.len())
+    Ok(changed.lists.len())
 }
 
 /// How long the class precedence list of the class of this place is.

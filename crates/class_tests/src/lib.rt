@@ -8,6 +8,8 @@ mod large;
 #[cfg(test)]
 mod model;
 #[cfg(test)]
+mod numbers;
+#[cfg(test)]
 mod script;
 #[cfg(test)]
 mod worked;

@@ -1,5 +1,5 @@
 //! Tables of classes as texts: what a definition answers, and class precedence lists.
-use clos_class::{ClassFault, Classes};
+use clos_class::{Changed, ClassFault, Classes};
 use lisp_data::{ClassId, Name};
 use std::alloc::{AllocError, Global};
 
@@ -18,25 +18,44 @@ fn names(alloc: Global, classes: &Classes, list: &[ClassId]) -> Result<String, A
     Ok(line)
 }
 
+fn told_fault(alloc: Global, fault: &ClassFault) -> Result<String, AllocError> {
+    match fault {
+        ClassFault::InvalidSuperclass(name) => format!(in alloc; " invalid: {}", name.as_str()),
+        ClassFault::InconsistentPrecedence(name) => {
+            format!(in alloc; " inconsistent: {}", name.as_str())
+        }
+        ClassFault::ProgramError => String::from_str(alloc, " program error"),
+        ClassFault::TableLimit => String::from_str(alloc, " table limit"),
+        ClassFault::SuperclassCycle => String::from_str(alloc, " cycle"),
+        ClassFault::IncompleteClass => String::from_str(alloc, " incomplete"),
+        ClassFault::Memory => String::from_str(alloc, " out of memory"),
+    }
+}
+
 /// What a definition answered: the names of the classes, or the fault.
 pub fn told(
     alloc: Global,
     classes: &Classes,
-    answer: &Result<Vec<ClassId>, ClassFault>,
+    answer: &Result<Changed, ClassFault>,
 ) -> Result<String, AllocError> {
     match answer {
-        Ok(changed) => names(alloc, classes, changed.as_slice()),
-        Err(ClassFault::InvalidSuperclass(name)) => {
-            format!(in alloc; " invalid: {}", name.as_str())
+        Ok(changed) => names(alloc, classes, changed.lists.as_slice()),
+        Err(fault) => told_fault(alloc, fault),
+    }
+}
+
+/// Whether it was asked what stands against a definition, and the definition answered just that.
+pub fn is_same(
+    alloc: Global,
+    asked: &Result<(), ClassFault>,
+    answer: &Result<Changed, ClassFault>,
+) -> Result<bool, AllocError> {
+    match (asked, answer) {
+        (Ok(_), Ok(_)) => Ok(true),
+        (Err(asked), Err(fault)) => {
+            Ok(told_fault(alloc, asked)?.as_str() == told_fault(alloc, fault)?.as_str())
         }
-        Err(ClassFault::InconsistentPrecedence(name)) => {
-            format!(in alloc; " inconsistent: {}", name.as_str())
-        }
-        Err(ClassFault::ProgramError) => String::from_str(alloc, " program error"),
-        Err(ClassFault::TableLimit) => String::from_str(alloc, " table limit"),
-        Err(ClassFault::SuperclassCycle) => String::from_str(alloc, " cycle"),
-        Err(ClassFault::IncompleteClass) => String::from_str(alloc, " incomplete"),
-        Err(ClassFault::Memory) => String::from_str(alloc, " out of memory"),
+        _ => Ok(false),
     }
 }
 
@@ -45,10 +64,15 @@ fn list_of(alloc: Global, classes: &Classes, name: &Name) -> Result<String, Allo
     let Some(class) = classes.named(name) else {
         return String::from_str(alloc, " undefined");
     };
-    match classes.precedence(class) {
-        Some(list) => names(alloc, classes, list),
-        None => String::from_str(alloc, " no list"),
+    let mut line = match classes.precedence(class) {
+        Some(list) => names(alloc, classes, list)?,
+        None => String::from_str(alloc, " no list")?,
+    };
+    let count = classes.precedence(class).map_or(0, |list| list.len());
+    if classes.precedence_or_none(class).len() != count {
+        line.push_str(", and another list")?;
     }
+    Ok(line)
 }
 
 /// Of each class from this number on its name and its list, in a line.
@@ -65,34 +89,117 @@ pub fn lists(alloc: Global, classes: &Classes, first: u64) -> Result<String, All
     Ok(lines)
 }
 
-/// Defines a class of `NAME SUPERCLASS ..`; one with shared slots has a `+` before its name. Tells what that answers, and
-/// whether a fault left another table.
-fn define(alloc: Global, classes: &mut Classes, form: &'static str) -> Result<String, AllocError> {
-    let before = lists(alloc, classes, 0)?;
+/// A class as a program defines it.
+#[derive(Drop)]
+struct Form {
+    name: Name,
+    superclasses: Vec<Name>,
+    has_shared_slots: bool,
+}
+
+/// A class of `NAME SUPERCLASS ..`; one with shared slots has a `+` before its name.
+fn read_form(alloc: Global, text: &'static str) -> Result<Form, AllocError> {
     let mut superclasses = Vec::new(alloc);
-    let mut words = form.split_whitespace();
+    let mut words = text.split_whitespace();
     let first = words.next().unwrap_or("");
     for word in words {
         superclasses.push(Name::fixed(word))?;
     }
-    let (name, shared) = match first.strip_prefix('+') {
+    let (name, has_shared_slots) = match first.strip_prefix('+') {
         Some(name) => (name, true),
         None => (first, false),
     };
-    let answer = classes.define(alloc, &Name::fixed(name), superclasses, shared);
+    Ok(Form {
+        name: Name::fixed(name),
+        superclasses,
+        has_shared_slots,
+    })
+}
+
+/// What stands against defining a class.
+fn check(
+    alloc: Global,
+    classes: &mut Classes,
+    text: &'static str,
+) -> Result<Result<(), ClassFault>, AllocError> {
+    let form = read_form(alloc, text)?;
+    Ok(classes.check(alloc, &form.name, form.superclasses, form.has_shared_slots))
+}
+
+/// Whether a definition that was let pass answered the class of this name.
+fn is_named(classes: &Classes, answer: &Result<Changed, ClassFault>, name: &Name) -> bool {
+    match answer {
+        Ok(changed) => match classes.name(changed.class) {
+            Some(own) => own.is(name),
+            None => false,
+        },
+        Err(_) => true,
+    }
+}
+
+/// Asks what stands against defining a class, and defines it. Tells what that answers, whether asking or a fault left another
+/// table, and whether asking answered otherwise.
+fn define(alloc: Global, classes: &mut Classes, text: &'static str) -> Result<String, AllocError> {
+    let before = lists(alloc, classes, 0)?;
+    let asked = check(alloc, classes, text)?;
+    let between = lists(alloc, classes, 0)?;
+    let form = read_form(alloc, text)?;
+    let answer = classes.define(alloc, &form.name, form.superclasses, form.has_shared_slots);
     let mut line = told(alloc, classes, &answer)?;
+    if between.as_str() != before.as_str() {
+        line.push_str(", and asking left another table")?;
+    }
     if answer.is_err() && lists(alloc, classes, 0)?.as_str() != before.as_str() {
         line.push_str(", and another table")?;
+    }
+    if !is_same(alloc, &asked, &answer)? {
+        line.push_str(", and asked otherwise")?;
+    }
+    if !is_named(classes, &answer, &form.name) {
+        line.push_str(", and another class")?;
     }
     Ok(line)
 }
 
-/// What a line comes to: a definition's answer, or after a question mark a class's list.
-fn outcome(alloc: Global, classes: &mut Classes, form: &'static str) -> Result<String, AllocError> {
-    match form.strip_prefix("? ") {
-        Some(name) => list_of(alloc, classes, &Name::fixed(name)),
-        None => define(alloc, classes, form),
+/// The name of a class's class, and whether it is a standard class.
+fn class_of(alloc: Global, classes: &Classes, name: &Name) -> Result<String, AllocError> {
+    let Some(class) = classes.named(name) else {
+        return String::from_str(alloc, " undefined");
+    };
+    let mut line = names(alloc, classes, &[classes.class_of_class(class)])?;
+    if classes.is_standard(class) {
+        line.push_str(", standard")?;
     }
+    Ok(line)
+}
+
+/// Whether the class of the first of two names is that of the second, or below it.
+fn is_sub(alloc: Global, classes: &Classes, text: &'static str) -> Result<String, AllocError> {
+    let (name, above) = text.split_once(' ').unwrap_or((text, ""));
+    let line = match (
+        classes.named(&Name::fixed(name)),
+        classes.named(&Name::fixed(above)),
+    ) {
+        (Some(class), Some(above)) if classes.is_sub(class, above) => " yes",
+        (Some(_), Some(_)) => " no",
+        _ => " undefined",
+    };
+    String::from_str(alloc, line)
+}
+
+/// What a line comes to: a definition's answer; or after `?` a class's list, after `@` its class, and after `<` whether it
+/// is another class or below it.
+fn outcome(alloc: Global, classes: &mut Classes, form: &'static str) -> Result<String, AllocError> {
+    if let Some(name) = form.strip_prefix("? ") {
+        return list_of(alloc, classes, &Name::fixed(name));
+    }
+    if let Some(name) = form.strip_prefix("@ ") {
+        return class_of(alloc, classes, &Name::fixed(name));
+    }
+    if let Some(pair) = form.strip_prefix("< ") {
+        return is_sub(alloc, classes, pair);
+    }
+    define(alloc, classes, form)
 }
 
 /// The lines again, each with what stands behind its arrow as it is in a new table with room for so many classes.

@@ -141,6 +141,37 @@ X Y =>
 Y => X Y
 ";
 
+/// The class of a class.
+const CLASSES_OF_CLASSES: &str = "A => A
+@ A => STANDARD-CLASS, standard
+B C =>
+@ B => STANDARD-CLASS, standard
+@ STANDARD-OBJECT => STANDARD-CLASS, standard
+@ T => BUILT-IN-CLASS
+@ INTEGER => BUILT-IN-CLASS
+@ STANDARD-CLASS => BUILT-IN-CLASS
+@ METHOD => BUILT-IN-CLASS
+@ C => undefined
+";
+
+/// Whether a class is another, or below it.
+const BELOW: &str = "B A =>
+< B B => no
+< B A => undefined
+A => B A
+< A A => yes
+< B A => yes
+< A B => no
+< B STANDARD-OBJECT => yes
+< B T => yes
+< B STANDARD-CLASS => no
+< INTEGER NUMBER => yes
+< NUMBER INTEGER => no
+< STANDARD-OBJECT T => yes
+< T T => yes
+< T STANDARD-OBJECT => no
+";
+
 /// Each with the room for its classes.
 const SCRIPTS: &[(u64, &str)] = &[
     (7, PIE),
@@ -151,6 +182,8 @@ const SCRIPTS: &[(u64, &str)] = &[
     (0, FULL),
     (1, ROOM_FOR_ONE),
     (7, CHANGED),
+    (2, CLASSES_OF_CLASSES),
+    (2, BELOW),
 ];
 
 #[test]

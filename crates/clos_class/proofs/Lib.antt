@@ -29,3 +29,4 @@ pub mod Turned
 pub mod Single
 pub mod NoListing
 pub mod Listed
+pub mod Numbered

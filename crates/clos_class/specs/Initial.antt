@@ -1,5 +1,7 @@
 -- The classes that a session begins with (HyperSpec 4.3.7, figure 4-8; AMOP 5.3).
-use Rattle.std.specs.Prelude.{ℕ, List, [], ◌∷◌, map, codes, false, length}
+use Rattle.std.specs.Prelude.{ℕ, ◌==◌, nat_le, Bool, ◌||◌, List, [], ◌∷◌, ◌++◌, map, codes, false, length, if◌then◌else◌}
+use Rattle.std.specs.List.{position_or_len}
+use Rattle.std.specs.Str.{bytes_eq}
 use Rattle.lisp_data.specs.Name.{Nam}
 use Rattle.clos_class.specs.Classes.{Classes, with_class}
 use Rattle.clos_class.specs.Table.{Table}
@@ -53,8 +55,24 @@ functions_and_metaobjects =
     ∷ (codes "METHOD", codes "T" ∷ [])
     ∷ []
 
+-- all of them, in order
+abbrev pub rows : List Row
+rows = objects_and_numbers ++ (symbols_and_sequences ++ functions_and_metaobjects)
+
+-- the number of the predefined class of this name: its place among them
+abbrev pub number : List ℕ → ℕ
+number text = position_or_len (λ r. bytes_eq text r.0) rows
+
 abbrev pub predefined : Classes
 predefined = all_defined (all_defined (all_defined (record { names = []; above = [] }) objects_and_numbers) symbols_and_sequences) functions_and_metaobjects
 
 abbrev pub initial : ℕ → Table
 initial limit = record { classes = predefined; predefined = length predefined.names; limit = limit }
+
+-- a class that defclass makes, or STANDARD-OBJECT: programs may make instances of it (4.3.7)
+abbrev pub is_standard : Table → ℕ → Bool
+is_standard t n = (n == number (codes "STANDARD-OBJECT")) || nat_le t.predefined n
+
+-- the class of a class
+abbrev pub class_of_class : Table → ℕ → ℕ
+class_of_class t n = if is_standard t n then number (codes "STANDARD-CLASS") else number (codes "BUILT-IN-CLASS")

@@ -9,11 +9,13 @@ mod fill;
 mod find;
 mod kept;
 mod names;
+pub mod numbers;
 mod place;
 mod precedence;
 mod predefined;
 mod relist;
 mod table;
 
+pub use admit::Changed;
 pub use fault::ClassFault;
 pub use table::Classes;

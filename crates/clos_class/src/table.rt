@@ -1,18 +1,19 @@
 //! A session's table of classes (HyperSpec 4.3).
 ghost use Rattle.std.specs.Prelude.{◌≡◌, ℕ, None, IfOk, IfErr, IfSome, OnOk, OnErr, length, option_map, option_copied, slice_get};
-ghost use Rattle.clos_class.specs.Classes.{named, with_class, listing, broken, list_in};
+ghost use Rattle.clos_class.specs.Classes.{named, number_of, with_class, listing, broken, list_in};
 ghost use Rattle.clos_class.specs.Precedence.{has};
-ghost use Rattle.clos_class.specs.Initial.{initial};
+ghost use Rattle.clos_class.specs.Initial.{initial, is_standard, class_of_class};
 ghost use Rattle.clos_class.specs.PrecedenceView.{numbers};
 ghost use Rattle.clos_class.specs.Table.{Table, refusal, or_standard, changed, list_if};
 ghost use Rattle.clos_class.specs.TableView.{Refuses, IsListOf, HasCircle};
 
-use crate::admit::admit;
+use crate::admit::{Changed, admit, check_place};
 use crate::definitions::Definitions;
 use crate::fault::ClassFault;
 use crate::find::{list_of, listed};
 use crate::kept::Kept;
 use crate::names::{check_names, or_standard};
+use crate::numbers::{BUILT_IN_CLASS, STANDARD_CLASS, STANDARD_OBJECT};
 use crate::precedence::contains;
 use crate::predefined::define_predefined;
 use lisp_data::{ClassId, Name};
@@ -61,7 +62,7 @@ impl Classes {
     }
 
     /// Defines the class of this name, or defines it again, with these direct superclasses; without any it has
-    /// STANDARD-OBJECT. Answers the classes whose class precedence lists differ from before, or arose.
+    /// STANDARD-OBJECT.
     #[tactic(auto, using(crate::proofs::NoListing::circle))]
     pub fn define(
         &mut self,
@@ -69,9 +70,10 @@ impl Classes {
         name: &Name,
         superclasses: Vec<Name>,
         has_shared_slots: bool,
-    ) -> Result<Vec<ClassId>, ClassFault>
+    ) -> Result<Changed, ClassFault>
         ensures ok { OnOk result ((refusal self.old name.now (or_standard superclasses.items) has_shared_slots ≡ None) × (self.new ≡ record self.old { classes = with_class self.old.classes name.now (or_standard superclasses.items) })) }
-        ensures changed { IfOk result (λ r. numbers r.items ≡ changed self.old.classes self.new.classes) }
+        ensures class { IfOk result (λ r. r.class.0 ≡ number_of self.old.classes name.now) }
+        ensures changed { IfOk result (λ r. numbers r.lists.items ≡ changed self.old.classes self.new.classes) }
         ensures err { OnErr result (self.new ≡ self.old) }
         ensures fault { IfErr result (λ e. Refuses e (refusal self.old name.now (or_standard superclasses.items) has_shared_slots)) }
         ensures law { (n : ℕ) → listing (with_class self.old.classes name.now (or_standard superclasses.items)) n ≡ broken → HasCircle (with_class self.old.classes name.now (or_standard superclasses.items)) }
@@ -88,6 +90,37 @@ impl Classes {
             alloc,
             &mut self.definitions,
             &mut self.kept,
+            name,
+            above,
+            has_shared_slots,
+        )
+    }
+
+    /// What stands against defining this class, or defining it again: the fault that `define` would answer. The table
+    /// stays as it was.
+    pub fn check(
+        &mut self,
+        alloc: Global,
+        name: &Name,
+        superclasses: Vec<Name>,
+        has_shared_slots: bool,
+    ) -> Result<(), ClassFault>
+        ensures ok { OnOk result (refusal self.old name.now (or_standard superclasses.items) has_shared_slots ≡ None) }
+        ensures fault { IfErr result (λ e. Refuses e (refusal self.old name.now (or_standard superclasses.items) has_shared_slots)) }
+        ensures same { self.new ≡ self.old }
+    {
+        let above = or_standard(alloc, superclasses)?;
+        check_names(
+            &self.definitions,
+            self.predefined,
+            self.limit,
+            name,
+            above.as_slice(),
+        )?;
+        check_place(
+            alloc,
+            &mut self.definitions,
+            self.kept.as_slice(),
             name,
             above,
             has_shared_slots,
@@ -117,10 +150,38 @@ impl Classes {
         listed(self.kept.as_slice(), class)
     }
 
+    /// The class precedence list of a class, or no classes where there is none.
+    pub fn precedence_or_none(&self, class: ClassId) -> &[ClassId]
+        ensures { numbers result.now ≡ list_in (listing self.now.classes class.0) }
+    {
+        list_of(self.kept.as_slice(), class)
+    }
+
     /// Whether a class that has a class precedence list is this other one, or below it.
     pub fn is_sub(&self, class: ClassId, above: ClassId) -> bool
         ensures { result ≡ has (list_in (listing self.now.classes class.0)) above.0 }
     {
         contains(list_of(self.kept.as_slice(), class), above)
+    }
+
+    /// Whether `defclass` makes classes like this one, of which programs may make instances, or it is STANDARD-OBJECT.
+    #[tactic(auto, using(crate::proofs::Numbered::standard_object))]
+    pub fn is_standard(&self, class: ClassId) -> bool
+        ensures { result ≡ is_standard self.now class.0 }
+    {
+        class.0 == STANDARD_OBJECT.0 || self.predefined <= class.0
+    }
+
+    /// The class of classes that are like this one: STANDARD-CLASS of those that defclass makes, BUILT-IN-CLASS of
+    /// others (HyperSpec 4.3.7).
+    #[tactic(auto, using(crate::proofs::Numbered::standard_class, crate::proofs::Numbered::built_in_class))]
+    pub fn class_of_class(&self, class: ClassId) -> ClassId
+        ensures { result.0 ≡ class_of_class self.now class.0 }
+    {
+        if self.is_standard(class) {
+            STANDARD_CLASS
+        } else {
+            BUILT_IN_CLASS
+        }
     }
 }
