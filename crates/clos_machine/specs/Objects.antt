@@ -18,7 +18,7 @@ use Rattle.clos_machine.specs.declared.machine.Task.TheVariants.{System}
 
 abbrev pub if_complete : ℕ → Option Nam → Option (List ℕ) → Result ℕ Condition
 if_complete n name None = Err (incomplete_class name)
-if_complete n name (Some list) = Ok n
+if_complete n name (Some l) = Ok n
 
 -- a class of which there can be instances: a standard one that is complete
 abbrev pub instantiable : Table → ℕ → Result ℕ Condition

@@ -1,6 +1,5 @@
 //! The applicable methods of a call and their order (HyperSpec 7.6.6.1).
 ghost use Rattle.std.specs.Prelude.{◌≡◌, ◌==◌, [], IfOk, OnOk, map, length, slice_index_or};
-ghost use Rattle.std.specs.List.{list_any};
 ghost use Rattle.lisp_data.specs.ValueView.{value_of};
 ghost use Rattle.clos_class.specs.PrecedenceView.{numbers};
 ghost use Rattle.clos_world.specs.Generic.{specializers_of, is_applicable, stands_before, is_before, placed, ordered};
@@ -9,6 +8,7 @@ ghost use Rattle.clos_world.specs.World.{seen, lists_of};
 use crate::class_ids::ClassIds;
 use crate::generic::{Method, MethodIds, method_numbered};
 use crate::world::World;
+use clos_class::contains;
 use lisp_data::{ClassId, MethodId, Value};
 use std::alloc::{AllocError, Global};
 use std::marker::Model;
@@ -46,7 +46,7 @@ impl<'a> PrecedenceLists<'a> {
     }
 
     /// The one at this place, or no classes past the last.
-    #[tactic(auto, using(crate::proofs::Lists::at_of_map))]
+    #[tactic(auto, using(crate::proofs::Lists::past_of_map))]
     fn at(&self, place: usize) -> &[ClassId]
         ensures { numbers result.now ≡ slice_index_or self.now place [] }
     {
@@ -55,13 +55,6 @@ impl<'a> PrecedenceLists<'a> {
             Some(value) => self.world.precedence_of(value),
         }
     }
-}
-
-#[tactic(auto, using(crate::proofs::Lists::any_of_map))]
-fn has(classes: &[ClassId], class: ClassId) -> bool
-    ensures { result ≡ list_any (λ n. n == class.0) (numbers classes.now) }
-{
-    classes.iter().any(|other| other.0 == class.0)
 }
 
 /// Whether the method may be called on arguments whose classes have these precedence lists.
@@ -81,7 +74,7 @@ fn all_listed(lists: &PrecedenceLists<'_>, specializers: &ClassIds) -> bool
 {
     let mut place = 0;
     while place < lists.len() && place < specializers.len() {
-        if !has(lists.at(place), specializers.get(place)) {
+        if !contains(lists.at(place), specializers.get(place)) {
             return false;
         }
         place += 1;

@@ -12,9 +12,11 @@ pub mod values;
 pub mod world;
 
 pub use class_ids::ClassIds;
-pub use condition::{Condition, ConditionKind, Stop, about, about_call, about_name, about_names, plain};
-pub use functions::{Function, Functions};
+pub use condition::{
+    Condition, ConditionKind, Stop, about, about_call, about_name, about_names, plain,
+};
 pub use dispatch::{PrecedenceLists, ordered_methods};
+pub use functions::{Function, Functions};
 pub use generic::{Generic, Method, MethodIds, Parameters, generic_named, method_numbered};
 pub use globals::Globals;
 pub use limits::Limits;
