@@ -122,8 +122,12 @@ fn check(
     classes: &mut Classes,
     text: &'static str,
 ) -> Result<Result<(), ClassFault>, AllocError> {
-    let form = read_form(alloc, text)?;
-    Ok(classes.check(alloc, &form.name, form.superclasses, form.has_shared_slots))
+    let Form {
+        name,
+        superclasses,
+        has_shared_slots,
+    } = read_form(alloc, text)?;
+    Ok(classes.check(alloc, &name, superclasses, has_shared_slots))
 }
 
 /// Whether a definition that was let pass answered the class of this name.
@@ -143,8 +147,12 @@ fn define(alloc: Global, classes: &mut Classes, text: &'static str) -> Result<St
     let before = lists(alloc, classes, 0)?;
     let asked = check(alloc, classes, text)?;
     let between = lists(alloc, classes, 0)?;
-    let form = read_form(alloc, text)?;
-    let answer = classes.define(alloc, &form.name, form.superclasses, form.has_shared_slots);
+    let Form {
+        name,
+        superclasses,
+        has_shared_slots,
+    } = read_form(alloc, text)?;
+    let answer = classes.define(alloc, &name, superclasses, has_shared_slots);
     let mut line = told(alloc, classes, &answer)?;
     if between.as_str() != before.as_str() {
         line.push_str(", and asking left another table")?;
@@ -155,7 +163,7 @@ fn define(alloc: Global, classes: &mut Classes, text: &'static str) -> Result<St
     if !is_same(alloc, &asked, &answer)? {
         line.push_str(", and asked otherwise")?;
     }
-    if !is_named(classes, &answer, &form.name) {
+    if !is_named(classes, &answer, &name) {
         line.push_str(", and another class")?;
     }
     Ok(line)
