@@ -1,9 +1,8 @@
 //! Functions of classes (HyperSpec 4.3.7, the entries class-of, class-name, find-class and typep; AMOP 6 class-precedence-list).
-ghost use Rattle.std.specs.Prelude.{◌≡◌, IfOk, map, option_copied};
+ghost use Rattle.std.specs.Prelude.{◌≡◌, IfOk, map};
 ghost use Rattle.lisp_data.specs.Value.{class};
 ghost use Rattle.lisp_data.specs.ValueView.{value_of};
 ghost use Rattle.lisp_prims.specs.Primitive.{truth};
-ghost use Rattle.lisp_data.specs.Name.{Nam};
 ghost use Rattle.clos_class.specs.PrecedenceView.{numbers};
 ghost use Rattle.clos_world.specs.Class.{named, class_name, precedence};
 ghost use Rattle.clos_world.specs.World.{class_of, seen};
@@ -133,7 +132,7 @@ fn listed_if_complete(alloc: Global, world: &World, id: ClassId) -> Result<Value
     ensures { Tells (listed_if_complete (class_name (seen world.now).classes id.0) (precedence (seen world.now).classes id.0)) result }
 {
     match world.classes.precedence(id) {
-        None => Err(Stop::Refused(incomplete_class(alloc, world.class_name(id))?)),
+        None => Err(Stop::Refused(incomplete_class(alloc, world, id)?)),
         Some(list) => classes_listed(alloc, list),
     }
 }
@@ -256,11 +255,11 @@ fn undefined_class(alloc: Global, name: &Name) -> Result<Condition, AllocError>
     about_name(alloc, ConditionKind::UndefinedClass, name)
 }
 
-/// The condition that the class of this name is not complete.
-pub fn incomplete_class(alloc: Global, name: Option<&Name>) -> Result<Condition, AllocError>
-    ensures { IfOk result (λ c. c ≡ incomplete_class (option_copied name)) }
+/// The condition that this class is not complete.
+pub fn incomplete_class(alloc: Global, world: &World, id: ClassId) -> Result<Condition, AllocError>
+    ensures { IfOk result (λ c. c ≡ incomplete_class (class_name (seen world.now).classes id.0)) }
 {
-    match name {
+    match world.class_name(id) {
         None => Ok(plain(alloc, ConditionKind::IncompleteClass)),
         Some(name) => about_name(alloc, ConditionKind::IncompleteClass, name),
     }

@@ -14,7 +14,7 @@ use crate::class_functions::incomplete_class;
 use clos_control::control::begin;
 use clos_machine::machine::{Doing, Frame, Machine, SystemCall, Task};
 use clos_world::{ConditionKind, Stop, Values, World, about, about_name, plain};
-use lisp_data::{ClassId, InstanceId, Items, Name, Naming, Value};
+use lisp_data::{ClassId, InstanceId, Items, Name, Value};
 use std::alloc::Global;
 
 /// The class that a value designates, if there can be instances of it.
@@ -59,7 +59,7 @@ fn instantiate(alloc: Global, world: &World, id: ClassId) -> Result<ClassId, Sto
         return Err(Stop::Refused(plain(alloc, ConditionKind::Unsupported)));
     }
     match world.classes.precedence(id) {
-        None => Err(Stop::Refused(incomplete_class(alloc, world.class_name(id))?)),
+        None => Err(Stop::Refused(incomplete_class(alloc, world, id)?)),
         Some(_) => Ok(id),
     }
 }

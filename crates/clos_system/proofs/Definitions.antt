@@ -1,5 +1,5 @@
 -- A definition that is refused defines nothing, and neither does any other form.
-use Rattle.std.proofs.Common.{◌≡◌, ℕ, zero, suc, ◌==◌, List, [], Option, Some, None, Result, Ok, Err, Bool, true, false, length, slice_get, subst}
+use Rattle.std.proofs.Common.{ℕ, zero, suc, ◌==◌, List, [], Option, Some, None, Result, Ok, Err, Bool, true, false, length, slice_get, subst}
 use Rattle.std.specs.Prelude.{⊤, nat_lt, ◌&&◌, ◌||◌, is_some, if◌then◌else◌}
 use Rattle.lisp_data.specs.Datum.{Dat}
 use Rattle.lisp_data.specs.Name.{Nam}

@@ -7,7 +7,7 @@ use Rattle.lisp_reader.specs.Answers.{Next}
 use Rattle.clos_world.specs.World.{State}
 use Rattle.clos_machine.specs.Machine.{Answers}
 use Rattle.clos_system.specs.Step.{step}
-use Rattle.clos_system.specs.Transcript.{Ran, begins, performs, cuts, told, told_for, counted, counted_for, state_after, ends_line, Stands, Performs, FailsAfter, Faults, RunFaults, SourceFails}
+use Rattle.clos_system.specs.Transcript.{Ran, performs, cuts, told, told_for, counted, counted_for, state_after, ends_line, Stands, Performs, FailsAfter, Faults, RunFaults, SourceFails}
 use Rattle.clos_world.specs.declared.condition.Stop.{Stop}
 use Rattle.clos_world.specs.declared.condition.Stop.TheVariants.{Refused, Storage}
 use Rattle.clos_system.specs.declared.transcript.Summary.{Summary}

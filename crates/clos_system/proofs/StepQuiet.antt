@@ -1,5 +1,5 @@
 -- With no step left a top-level form changes nothing.
-use Rattle.std.proofs.Common.{◌≡◌, ◌≤◌, ◌-◌, arith, subst, ℕ, zero, suc, ◌+◌, ◌==◌, List, [], Option, Some, None, Result, Ok, Err, Bool, true, false, length, refl, slice_get}
+use Rattle.std.proofs.Common.{◌≡◌, ◌≤◌, ◌-◌, arith, subst, ℕ, zero, suc, ◌==◌, List, [], Option, Some, None, Result, Ok, Err, Bool, true, false, length, refl, slice_get}
 use Rattle.std.specs.Prelude.{nat_lt, ◌&&◌, ◌||◌, is_some, if◌then◌else◌}
 use Rattle.lisp_data.specs.Name.{Nam}
 use Rattle.lisp_data.specs.Datum.{Dat}
@@ -18,8 +18,8 @@ use Rattle.clos_forms.specs.OperatorView.{called_of}
 use Rattle.lisp_data.specs.Print.{Called, by_symbol, by_setf}
 use Rattle.lisp_data.specs.Value.{Val}
 use Rattle.clos_syntax.specs.declared.variable.VariableDefinition.{VariableDefinition}
-use Rattle.clos_system.specs.Function.{has_room, function_defined, setter_defined, new_function_defined, new_setter_defined, define_function}
-use Rattle.clos_system.specs.Variable.{room_below, keeps_value, named as defined_name, declared, value_given, given_value, new_value, variable_defined}
+use Rattle.clos_system.specs.Function.{has_room, define_function}
+use Rattle.clos_system.specs.Variable.{room_below, keeps_value, value_given, new_value, variable_defined}
 use Rattle.clos_machine.specs.Machine.{Answers, leaves}
 use Rattle.clos_world.specs.declared.condition.Stop.{Stop}
 use Rattle.clos_world.specs.declared.condition.Stop.TheVariants.{Refused, Storage}

@@ -11,17 +11,15 @@ ghost use Rattle.clos_system.specs.Definitions.{DefinesNothing};
 ghost use Rattle.clos_system.specs.Session.{state_of, Replies};
 
 use crate::class::defclass;
-use crate::method::defmethod;
 use crate::function::defun;
+use crate::method::defmethod;
 use crate::served::{Served, is_combination, serve};
 use crate::variable::define_variable;
 use clos_class::Classes;
 use clos_eval::evaluate;
 use clos_forms::SyntaxFault;
 use clos_syntax::{Top, parse_top};
-use clos_world::{
-    ConditionKind, Function, Functions, Globals, Limits, Stop, Values, World, plain,
-};
+use clos_world::{ConditionKind, Function, Functions, Globals, Limits, Stop, Values, World, plain};
 use lisp_data::{Datum, Items, Value};
 use std::alloc::{AllocError, Global};
 

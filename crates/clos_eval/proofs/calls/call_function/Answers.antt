@@ -1,4 +1,4 @@
-use Rattle.std.proofs.Common.{◌≡◌, sym, ap, ◌∙◌}
+use Rattle.std.proofs.Common.{sym, ap, ◌∙◌}
 use Rattle.clos_world.specs.World.{seen}
 use Rattle.clos_machine.specs.Meaning.{meaning}
 use Rattle.clos_machine.specs.Parameters.{fits}

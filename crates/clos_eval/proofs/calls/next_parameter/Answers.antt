@@ -1,10 +1,7 @@
-use Rattle.std.proofs.Common.{◌≡◌, ◌∷◌, sym, ap, subst, ◌∙◌}
+use Rattle.std.proofs.Common.{sym, ◌∙◌}
 use Rattle.lisp_data.specs.ValueView.{value_of}
 use Rattle.clos_world.specs.World.{seen}
-use Rattle.clos_machine.specs.Calls.{parameters_run}
-use Rattle.clos_machine.specs.Machine.{Leads, under}
-use Rattle.clos_machine.specs.Meaning.{meaning}
-use Rattle.clos_eval.proofs.Settled.{parameter_stops, parameter_bound}
+use Rattle.clos_eval.proofs.Settled.{parameter_stops}
 use Rattle.clos_eval.proofs.calls.next_parameter.Goals as goal
 
 pub returns-then-has-clause-leads : goal.returns-then-has-clause-leads

@@ -1,4 +1,4 @@
-use Rattle.std.proofs.Common.{◌≡◌, sym, ap, subst, ◌∙◌}
+use Rattle.std.proofs.Common.{sym, ap, subst, ◌∙◌}
 use Rattle.clos_world.specs.World.{seen}
 use Rattle.clos_machine.specs.Calls.{body_run}
 use Rattle.clos_machine.specs.Machine.{Leads, inside}

@@ -1,4 +1,4 @@
-use Rattle.std.proofs.Common.{◌≡◌, sym, ap, ◌∙◌}
+use Rattle.std.proofs.Common.{◌∙◌}
 use Rattle.clos_world.specs.World.{seen}
 use Rattle.clos_eval.proofs.Settled.{planned}
 use Rattle.clos_eval.proofs.calls.run_planned.Goals as goal

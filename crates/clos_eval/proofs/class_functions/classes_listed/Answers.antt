@@ -5,14 +5,12 @@ use Rattle.lisp_prims.specs.Fault.{AnswersUnlessMemory}
 use Rattle.lisp_prims.specs.Primitive.{answer}
 use Rattle.lisp_prims.specs.declared.lists.ListFunction.TheVariants.{List}
 use Rattle.lisp_prims.specs.declared.primitive.Primitive.TheVariants.{Listed}
-use Rattle.clos_world.specs.Class.{precedence}
-use Rattle.clos_world.specs.World.{seen}
+use Rattle.clos_class.specs.PrecedenceView.{numbers}
 use Rattle.clos_eval.proofs.Classes.{not_listed}
 use Rattle.clos_eval.proofs.class_functions.classes_listed.Goals as goal
 
 pub returns : goal.returns
 returns c =
-    not_listed (answer (Listed List) (map class (precedence (seen c.args.world.now).classes c.args.id.0))) c.in-Err.fault c.of_function.result
-    (subst (λ vs. AnswersUnlessMemory value_of (Err c.in-Err.fault) (answer (Listed List) vs))
-    (ap (map value_of) c.as_slice-2.ensures.value ∙ c.in_ok-values.ensures ∙ ap (map class) (c.as_slice.ensures ∙ c.in_ok-list.ensures ∙ ap (λ k. precedence k c.args.id.0) c.deref.ensures.value)) c.in-Err.ensures.answer)
+    not_listed (answer (Listed List) (map class (numbers c.args.classes.now))) c.in-Err.fault c.of_function.result
+    (subst (λ vs. AnswersUnlessMemory value_of (Err c.in-Err.fault) (answer (Listed List) vs)) (ap (map value_of) c.as_slice.ensures.value ∙ c.in_ok-values.ensures) c.in-Err.ensures.answer)
     c.of_function.ensures.signals c.of_function.ensures.memory
