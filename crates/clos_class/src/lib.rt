@@ -18,4 +18,5 @@ mod table;
 
 pub use admit::Changed;
 pub use fault::ClassFault;
+pub use precedence::contains;
 pub use table::Classes;

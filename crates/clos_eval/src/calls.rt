@@ -30,8 +30,8 @@ use clos_machine::machine::{Action, Doing, Frame, Level, Machine, SystemCall, Ta
 use clos_machine::parameters::{ParameterPlan, fits, plan_for, requires_only};
 use clos_machine::truth::nil;
 use clos_world::{
-    ConditionKind, Function, Generic, Method, Stop, Values, World, about, about_call, about_name,
-    generic_named, method_numbered, ordered_methods, plain,
+    ConditionKind, Function, Generic, Method, PrecedenceLists, Stop, Values, World, about,
+    about_call, about_name, generic_named, method_numbered, ordered_methods, plain,
 };
 use lisp_data::{Items, MethodId, Name, Value};
 use lisp_prims::Primitive;
@@ -341,7 +341,7 @@ fn dispatch(
 ) -> Result<Task, AllocError>
     ensures { IfOk result (λ r. r ≡ dispatched generic.now.name arguments.now (ordered (seen world.now).methods (lists_of (seen world.now) arguments.now) generic.now.methods)) }
 {
-    let lists = world.precedence_lists(alloc, arguments.as_slice())?;
+    let lists = PrecedenceLists::new(world, arguments.as_slice());
     let mut order = ordered_methods(alloc, &world.methods, &lists, &generic.methods)?;
     if order.len() == 0 {
         let name = generic.name.copy()?;

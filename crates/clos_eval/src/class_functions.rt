@@ -1,11 +1,13 @@
 //! Functions of classes (HyperSpec 4.3.7, the entries class-of, class-name, find-class and typep; AMOP 6 class-precedence-list).
-ghost use Rattle.std.specs.Prelude.{◌≡◌, IfOk, map};
+ghost use Rattle.std.specs.Prelude.{◌≡◌, IfOk, map, option_copied};
 ghost use Rattle.lisp_data.specs.Value.{class};
 ghost use Rattle.lisp_data.specs.ValueView.{value_of};
 ghost use Rattle.lisp_prims.specs.Primitive.{truth};
-ghost use Rattle.clos_world.specs.Class.{named, precedence};
+ghost use Rattle.lisp_data.specs.Name.{Nam};
+ghost use Rattle.clos_class.specs.PrecedenceView.{numbers};
+ghost use Rattle.clos_world.specs.Class.{named, class_name, precedence};
 ghost use Rattle.clos_world.specs.World.{class_of, seen};
-ghost use Rattle.clos_machine.specs.ClassFunctions.{Tells, class_answer, class_by_symbol, class_designated, class_name_of, class_of_value, classes_listed, comes_to, found_class, is_subclass, missing, name_of_class, named_by, of_class, of_type, precedence_list_of, precedence_of_class, symbol_in, undefined_class, wrong_number, wrong_type};
+ghost use Rattle.clos_machine.specs.ClassFunctions.{Tells, class_answer, class_by_symbol, class_designated, class_name_of, class_of_value, classes_listed, comes_to, found_class, incomplete_class, is_subclass, listed_if_complete, missing, name_of_class, named_by, of_class, of_type, precedence_list_of, precedence_of_class, symbol_in, undefined_class, wrong_number, wrong_type};
 ghost use Rattle.clos_machine.specs.Machine.{Designates, Grows, Leads, inside};
 
 use clos_forms::value_named;
@@ -13,10 +15,7 @@ use clos_machine::callee::ClassFunction;
 use clos_machine::fault::of_function;
 use clos_machine::machine::{Doing, Machine};
 use clos_machine::truth::{is_true, nil, t};
-use clos_world::class::precedence_list;
-use clos_world::{
-    Condition, ConditionKind, Stop, Values, World, about, about_name, class_named, plain,
-};
+use clos_world::{Condition, ConditionKind, Stop, Values, World, about, about_name, plain};
 use lisp_data::{ClassId, Name, Naming, Value};
 use lisp_prims::Primitive;
 use lisp_prims::lists::ListFunction;
@@ -124,17 +123,26 @@ fn precedence_of_class(alloc: Global, world: &World, value: &Value) -> Result<Va
     ensures { Tells (precedence_of_class (seen world.now).classes (value_of value.now)) result }
 {
     match value {
-        Value::Class(id) => classes_listed(alloc, world, *id),
+        Value::Class(id) => listed_if_complete(alloc, world, *id),
         _ => Err(Stop::Refused(wrong_type(alloc, value)?)),
     }
 }
 
-/// The precedence list of a class, as a list of values.
-fn classes_listed(alloc: Global, world: &World, id: ClassId) -> Result<Value, Stop>
-    ensures { Tells (classes_listed (precedence (seen world.now).classes id.0)) result }
+/// The class precedence list of a class, if it is complete.
+fn listed_if_complete(alloc: Global, world: &World, id: ClassId) -> Result<Value, Stop>
+    ensures { Tells (listed_if_complete (class_name (seen world.now).classes id.0) (precedence (seen world.now).classes id.0)) result }
 {
-    let list = precedence_list(alloc, &world.classes, id)?;
-    let values = class_values(alloc, list.as_slice())?;
+    match world.classes.precedence(id) {
+        None => Err(Stop::Refused(incomplete_class(alloc, world.class_name(id))?)),
+        Some(list) => classes_listed(alloc, list),
+    }
+}
+
+/// These classes, as a list of values.
+fn classes_listed(alloc: Global, classes: &[ClassId]) -> Result<Value, Stop>
+    ensures { Tells (classes_listed (numbers classes.now)) result }
+{
+    let values = class_values(alloc, classes)?;
     match Primitive::Listed(ListFunction::List).call(alloc, values.as_slice()) {
         Ok(list) => Ok(list),
         Err(fault) => Err(of_function(alloc, fault)),
@@ -157,7 +165,7 @@ fn class_by_symbol(alloc: Global, world: &World, errorp: bool, value: &Value) ->
 {
     match symbol_in(value)? {
         None => Err(Stop::Refused(wrong_type(alloc, value)?)),
-        Some(name) => match class_named(&world.classes, &name) {
+        Some(name) => match world.classes.named(&name) {
             None => missing(alloc, &name, errorp),
             Some(id) => Ok(Value::Class(id)),
         },
@@ -173,27 +181,14 @@ fn missing(alloc: Global, name: &Name, errorp: bool) -> Result<Value, Stop>
     Ok(nil())
 }
 
-/// Whether a class, the first, is the one that a value designates or has it as a superclass.
+/// Whether the class of a value is the one that a designator names, or has it as a superclass.
 fn of_class(alloc: Global, world: &World, class: ClassId, designator: &Value) -> Result<Value, Stop>
     ensures { Tells (of_class (seen world.now).classes class.0 (class_designated (seen world.now).classes (value_of designator.now))) result }
 {
     match class_designated(alloc, world, designator) {
         Err(stop) => Err(stop),
-        Ok(id) => Ok(truth(is_subclass(alloc, world, class, id)?)),
+        Ok(id) => Ok(truth(world.classes.is_sub(class, id))),
     }
-}
-
-/// Whether the second class is the first, or one of its superclasses.
-fn is_subclass(
-    alloc: Global,
-    world: &World,
-    class: ClassId,
-    superclass: ClassId,
-) -> Result<bool, AllocError>
-    ensures { IfOk result (λ r. r ≡ is_subclass (seen world.now).classes class.0 superclass.0) }
-{
-    let list = precedence_list(alloc, &world.classes, class)?;
-    Ok(list.contains(superclass))
 }
 
 /// T or NIL.
@@ -218,7 +213,7 @@ fn named_by(alloc: Global, world: &World, value: &Value) -> Result<ClassId, Stop
 {
     match symbol_in(value)? {
         None => Err(Stop::Refused(wrong_type(alloc, value)?)),
-        Some(name) => match class_named(&world.classes, &name) {
+        Some(name) => match world.classes.named(&name) {
             None => Err(Stop::Refused(undefined_class(alloc, &name)?)),
             Some(id) => Ok(id),
         },
@@ -259,4 +254,14 @@ fn undefined_class(alloc: Global, name: &Name) -> Result<Condition, AllocError>
     ensures { IfOk result (λ c. c ≡ undefined_class name.now) }
 {
     about_name(alloc, ConditionKind::UndefinedClass, name)
+}
+
+/// The condition that the class of this name is not complete.
+pub fn incomplete_class(alloc: Global, name: Option<&Name>) -> Result<Condition, AllocError>
+    ensures { IfOk result (λ c. c ≡ incomplete_class (option_copied name)) }
+{
+    match name {
+        None => Ok(plain(alloc, ConditionKind::IncompleteClass)),
+        Some(name) => about_name(alloc, ConditionKind::IncompleteClass, name),
+    }
 }

@@ -10,10 +10,11 @@ ghost use Rattle.clos_machine.specs.Meaning.{meaning};
 ghost use Rattle.clos_machine.specs.Objects.{class_found, designated, instance_made, instantiable, made};
 ghost use Rattle.clos_machine.specs.Outcome.{Run};
 
+use crate::class_functions::incomplete_class;
 use clos_control::control::begin;
 use clos_machine::machine::{Doing, Frame, Machine, SystemCall, Task};
-use clos_world::{ConditionKind, Stop, Values, World, about, about_name, class_named, plain};
-use lisp_data::{ClassId, InstanceId, Items, Name, Value};
+use clos_world::{ConditionKind, Stop, Values, World, about, about_name, plain};
+use lisp_data::{ClassId, InstanceId, Items, Name, Naming, Value};
 use std::alloc::Global;
 
 /// The class that a value designates, if there can be instances of it.
@@ -23,7 +24,7 @@ fn designate(alloc: Global, world: &World, value: Value) -> Result<ClassId, Stop
     match value {
         Value::Sym(name) => found(alloc, world, &name),
         Value::List(items) => designate_list(alloc, world, items),
-        Value::Class(id) => instantiate(alloc, id),
+        Value::Class(id) => instantiate(alloc, world, id),
         other => Err(Stop::Refused(about(alloc, ConditionKind::TypeError, other)?)),
     }
 }
@@ -42,21 +43,25 @@ fn designate_list(alloc: Global, world: &World, items: Items) -> Result<ClassId,
 }
 
 fn found(alloc: Global, world: &World, name: &Name) -> Result<ClassId, Stop>
-    ensures { Designates (class_found name.now (named (seen world.now).classes name.now)) result }
+    ensures { Designates (class_found (seen world.now).classes name.now (named (seen world.now).classes name.now)) result }
 {
-    match class_named(&world.classes, name) {
+    match world.classes.named(name) {
         None => Err(Stop::Refused(about_name(alloc, ConditionKind::UndefinedClass, name)?)),
-        Some(id) => instantiate(alloc, id),
+        Some(id) => instantiate(alloc, world, id),
     }
 }
 
-fn instantiate(alloc: Global, id: ClassId) -> Result<ClassId, Stop>
-    ensures { Designates (instantiable id.0) result }
+/// The class itself, if there can be instances of it.
+fn instantiate(alloc: Global, world: &World, id: ClassId) -> Result<ClassId, Stop>
+    ensures { Designates (instantiable (seen world.now).classes id.0) result }
 {
-    if id.0 == 1 || id.0 >= 22 {
-        return Ok(id);
+    if !world.classes.is_standard(id) {
+        return Err(Stop::Refused(plain(alloc, ConditionKind::Unsupported)));
     }
-    Err(Stop::Refused(plain(alloc, ConditionKind::Unsupported)))
+    match world.classes.precedence(id) {
+        None => Err(Stop::Refused(incomplete_class(alloc, world.class_name(id))?)),
+        Some(_) => Ok(id),
+    }
 }
 
 /// Makes an instance of the class that the value designates, and initialises it (HyperSpec 7.1).

@@ -124,10 +124,10 @@ not_computed m m' x f (Refused d) w a h k = λ t.
 
 -- ---- an instance is made
 
-pub nil_designates : (w : State) (l : Vals) (n : Nam) (r : Result ClassId Stop) → l ≡ nil → n ≡ nil_name → Designates (class_found n (named w.classes n)) r
+pub nil_designates : (w : State) (l : Vals) (n : Nam) (r : Result ClassId Stop) → l ≡ nil → n ≡ nil_name → Designates (class_found w.classes n (named w.classes n)) r
     → Designates (designated w.classes (list l)) r
 nil_designates w l n r e k h =
-    subst (λ x. Designates (designated w.classes (list x)) r) (sym e) (subst (λ x. Designates (class_found x (named w.classes x)) r) k h)
+    subst (λ x. Designates (designated w.classes (list x)) r) (sym e) (subst (λ x. Designates (class_found w.classes x (named w.classes x)) r) k h)
 
 pub not_designated : (m : Machine) (ev : Eval) (env : Context) (v : Val) (w : State) (s : ℕ) (stop : Stop) (m' : Machine) → Designates (designated w.classes v) (Err stop)
     → Turns (inside m (λ u k. made ev env (designated u.classes v) u k)) w s (Err stop) m' w s

@@ -10,11 +10,11 @@ use Rattle.lisp_prims.specs.Primitive.{answer, truth}
 use Rattle.lisp_prims.specs.declared.lists.ListFunction.TheVariants as lists
 use Rattle.lisp_prims.specs.declared.primitive.Primitive.TheVariants.{Listed}
 use Rattle.clos_forms.specs.Quotation.{name_value}
-use Rattle.clos_world.specs.Class.{named, precedence, class_name}
+use Rattle.clos_class.specs.Table.{Table}
+use Rattle.clos_world.specs.Class.{named, precedence, precedence_or_none, class_name}
 use Rattle.clos_world.specs.Condition.{nil_name}
-use Rattle.clos_world.specs.declared.class.Class.{Class}
 use Rattle.clos_world.specs.declared.condition.Condition.{Condition}
-use Rattle.clos_world.specs.declared.condition.ConditionKind.TheVariants.{ProgramError, TypeError, UndefinedClass}
+use Rattle.clos_world.specs.declared.condition.ConditionKind.TheVariants.{ProgramError, TypeError, UndefinedClass, IncompleteClass}
 use Rattle.clos_world.specs.declared.condition.Stop.{Stop}
 use Rattle.clos_world.specs.declared.condition.Stop.TheVariants.{Refused, Storage}
 use Rattle.clos_machine.specs.Fault.{condition_of}
@@ -35,6 +35,11 @@ wrong_type v = record { kind = TypeError; items = v ∷ [] }
 abbrev pub undefined_class : Nam → Condition
 undefined_class name = record { kind = UndefinedClass; items = name_value name ∷ [] }
 
+-- the condition that the class of this name is not complete: a superclass of it, or of one of them and so on, is not defined
+abbrev pub incomplete_class : Option Nam → Condition
+incomplete_class None = record { kind = IncompleteClass; items = [] }
+incomplete_class (Some name) = record { kind = IncompleteClass; items = name_value name ∷ [] }
+
 -- the symbol that a value is; NIL, the empty list, is one
 abbrev pub symbol_in : Val → Option Nam
 symbol_in (symbol name) = Some name
@@ -54,16 +59,16 @@ abbrev pub told_name : Val → Option Nam → Answer
 told_name v None = Err (wrong_type v)
 told_name v (Some name) = Ok (name_value name)
 
-abbrev pub name_of_class : List Class → Val → Answer
+abbrev pub name_of_class : Table → Val → Answer
 name_of_class classes (class n) = told_name (class n) (class_name classes n)
 name_of_class classes v = Err (wrong_type v)
 
-abbrev pub class_name_of : List Class → List Val → Answer
+abbrev pub class_name_of : Table → List Val → Answer
 class_name_of classes [] = wrong_number
 class_name_of classes (v ∷ []) = name_of_class classes v
 class_name_of classes (v ∷ (u ∷ vs)) = wrong_number
 
--- ---- class-precedence-list: the list of a class, from the class itself on (AMOP 6; HyperSpec 4.3.5)
+-- ---- class-precedence-list: the list of a complete class, from the class itself on (AMOP 6; HyperSpec 4.3.5)
 
 abbrev pub in_words_of_conditions : Result Val prims.Condition → Answer
 in_words_of_conditions (Ok v) = Ok v
@@ -73,11 +78,15 @@ in_words_of_conditions (Err c) = Err (condition_of c)
 abbrev pub classes_listed : List ℕ → Answer
 classes_listed ns = in_words_of_conditions (answer (Listed lists.List) (map class ns))
 
-abbrev pub precedence_of_class : List Class → Val → Answer
-precedence_of_class classes (class n) = classes_listed (precedence classes n)
+abbrev pub listed_if_complete : Option Nam → Option (List ℕ) → Answer
+listed_if_complete name None = Err (incomplete_class name)
+listed_if_complete name (Some ns) = classes_listed ns
+
+abbrev pub precedence_of_class : Table → Val → Answer
+precedence_of_class classes (class n) = listed_if_complete (class_name classes n) (precedence classes n)
 precedence_of_class classes v = Err (wrong_type v)
 
-abbrev pub precedence_list_of : List Class → List Val → Answer
+abbrev pub precedence_list_of : Table → List Val → Answer
 precedence_list_of classes [] = wrong_number
 precedence_list_of classes (v ∷ []) = precedence_of_class classes v
 precedence_list_of classes (v ∷ (u ∷ vs)) = wrong_number
@@ -92,11 +101,11 @@ abbrev pub found_or_missing : Nam → Bool → Option ℕ → Answer
 found_or_missing name errorp None = missing name errorp
 found_or_missing name errorp (Some n) = Ok (class n)
 
-abbrev pub class_by_symbol : List Class → Bool → Val → Option Nam → Answer
+abbrev pub class_by_symbol : Table → Bool → Val → Option Nam → Answer
 class_by_symbol classes errorp v None = Err (wrong_type v)
 class_by_symbol classes errorp v (Some name) = found_or_missing name errorp (named classes name)
 
-abbrev pub found_class : List Class → List Val → Answer
+abbrev pub found_class : Table → List Val → Answer
 found_class classes [] = wrong_number
 found_class classes (v ∷ []) = class_by_symbol classes true v (symbol_in v)
 found_class classes (v ∷ (e ∷ [])) = class_by_symbol classes (is_true e) v (symbol_in v)
@@ -108,24 +117,24 @@ abbrev pub named_or_undefined : Nam → Option ℕ → Result ℕ Condition
 named_or_undefined name None = Err (undefined_class name)
 named_or_undefined name (Some n) = Ok n
 
-abbrev pub named_by : List Class → Val → Option Nam → Result ℕ Condition
+abbrev pub named_by : Table → Val → Option Nam → Result ℕ Condition
 named_by classes v None = Err (wrong_type v)
 named_by classes v (Some name) = named_or_undefined name (named classes name)
 
 -- the class that a value is or names
-abbrev pub class_designated : List Class → Val → Result ℕ Condition
+abbrev pub class_designated : Table → Val → Result ℕ Condition
 class_designated classes (class n) = Ok n
 class_designated classes v = named_by classes v (symbol_in v)
 
--- whether the second class is the first, or one of its superclasses
-abbrev pub is_subclass : List Class → ℕ → ℕ → Bool
-is_subclass classes c n = list_any (λ m. m == n) (precedence classes c)
+-- whether the second class is the first, which is complete, or one of its superclasses
+abbrev pub is_subclass : Table → ℕ → ℕ → Bool
+is_subclass classes c n = list_any (λ m. m == n) (precedence_or_none classes c)
 
-abbrev pub of_class : List Class → ℕ → Result ℕ Condition → Answer
+abbrev pub of_class : Table → ℕ → Result ℕ Condition → Answer
 of_class classes c (Err e) = Err e
 of_class classes c (Ok n) = Ok (truth (is_subclass classes c n))
 
-abbrev pub of_type : List Class → (Val → ℕ) → List Val → Answer
+abbrev pub of_type : Table → (Val → ℕ) → List Val → Answer
 of_type classes class_of [] = wrong_number
 of_type classes class_of (v ∷ []) = wrong_number
 of_type classes class_of (v ∷ (t ∷ [])) = of_class classes (class_of v) (class_designated classes t)
@@ -133,7 +142,7 @@ of_type classes class_of (v ∷ (t ∷ (u ∷ vs))) = wrong_number
 
 -- ---- any of them, in a state with these classes, where values are of these classes
 
-abbrev pub class_answer : ClassFunction → List Class → (Val → ℕ) → List Val → Answer
+abbrev pub class_answer : ClassFunction → Table → (Val → ℕ) → List Val → Answer
 class_answer ClassOf classes class_of vs = class_of_value class_of vs
 class_answer ClassName classes class_of vs = class_name_of classes vs
 class_answer ClassPrecedenceList classes class_of vs = precedence_list_of classes vs

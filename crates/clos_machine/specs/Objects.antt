@@ -1,35 +1,41 @@
 -- The making of instances (HyperSpec 7.1).
-use Rattle.std.specs.Prelude.{ℕ, ◌+◌, ◌==◌, ◌||◌, nat_le, nat_lt, List, [], ◌∷◌, ◌++◌, Option, Some, None, Result, Ok, Err, if◌then◌else◌, length}
+use Rattle.std.specs.Prelude.{ℕ, ◌+◌, nat_lt, List, [], ◌∷◌, ◌++◌, Option, Some, None, Result, Ok, Err, if◌then◌else◌, length}
 use Rattle.lisp_data.specs.Name.{Nam}
 use Rattle.lisp_data.specs.Value.{Val, integer, symbol, string, list, class, generic, method, instance, nil, cons}
 use Rattle.clos_forms.specs.Quotation.{name_value}
-use Rattle.clos_world.specs.Class.{named}
+use Rattle.clos_class.specs.Initial.{is_standard}
+use Rattle.clos_class.specs.Table.{Table}
+use Rattle.clos_world.specs.Class.{named, precedence, class_name}
 use Rattle.clos_world.specs.Condition.{nil_name}
 use Rattle.clos_world.specs.World.{State}
-use Rattle.clos_world.specs.declared.class.Class as declared
 use Rattle.clos_world.specs.declared.condition.Condition.{Condition}
 use Rattle.clos_world.specs.declared.condition.ConditionKind.TheVariants.{TypeError, UndefinedClass, Unsupported, TableLimit}
+use Rattle.clos_machine.specs.ClassFunctions.{incomplete_class}
 use Rattle.clos_machine.specs.Outcome.{Stopped, Run, Eval, stopped, step_then}
 use Rattle.clos_machine.specs.declared.arguments.Context.{Context}
 use Rattle.clos_machine.specs.declared.machine.SystemCall.TheVariants.{Initialize}
 use Rattle.clos_machine.specs.declared.machine.Task.TheVariants.{System}
 
--- a class of which there can be instances
-abbrev pub instantiable : ℕ → Result ℕ Condition
-instantiable n = if (n == 1) || nat_le 22 n then Ok n else Err (record { kind = Unsupported; items = [] })
+abbrev pub if_complete : ℕ → Option Nam → Option (List ℕ) → Result ℕ Condition
+if_complete n name None = Err (incomplete_class name)
+if_complete n name (Some l) = Ok n
 
-abbrev pub class_found : Nam → Option ℕ → Result ℕ Condition
-class_found name None = Err (record { kind = UndefinedClass; items = name_value name ∷ [] })
-class_found name (Some n) = instantiable n
+-- a class of which there can be instances: a standard one that is complete
+abbrev pub instantiable : Table → ℕ → Result ℕ Condition
+instantiable cs n = if is_standard cs n then if_complete n (class_name cs n) (precedence cs n) else Err (record { kind = Unsupported; items = [] })
+
+abbrev pub class_found : Table → Nam → Option ℕ → Result ℕ Condition
+class_found cs name None = Err (record { kind = UndefinedClass; items = name_value name ∷ [] })
+class_found cs name (Some n) = instantiable cs n
 
 -- the class that a value designates
-abbrev pub designated : List declared.Class → Val → Result ℕ Condition
-designated cs (symbol name) = class_found name (named cs name)
-designated cs (list nil) = class_found nil_name (named cs nil_name)
+abbrev pub designated : Table → Val → Result ℕ Condition
+designated cs (symbol name) = class_found cs name (named cs name)
+designated cs (list nil) = class_found cs nil_name (named cs nil_name)
 designated cs (list (cons v l)) = Err (record { kind = TypeError; items = list (cons v l) ∷ [] })
 designated cs (integer n) = Err (record { kind = TypeError; items = integer n ∷ [] })
 designated cs (string s) = Err (record { kind = TypeError; items = string s ∷ [] })
-designated cs (class n) = instantiable n
+designated cs (class n) = instantiable cs n
 designated cs (generic n) = Err (record { kind = TypeError; items = generic n ∷ [] })
 designated cs (method n) = Err (record { kind = TypeError; items = method n ∷ [] })
 designated cs (instance n) = Err (record { kind = TypeError; items = instance n ∷ [] })

@@ -1,4 +1,5 @@
 pub mod Served
+pub mod Class
 pub mod Function
 pub mod Variable
 pub mod Step

@@ -109,16 +109,9 @@ abbrev pub is_empty : {A : Type 0} → List A → Bool
 is_empty [] = true
 is_empty (x ∷ xs) = false
 
--- the direct superclass, if one is named
-abbrev pub at_most_one_name : List Nam → Option (Option Nam)
-at_most_one_name [] = Some None
-at_most_one_name (n ∷ []) = Some (Some n)
-at_most_one_name (n ∷ (m ∷ ns)) = None
-
--- a class without slots and default initargs, and with at most one superclass
+-- a class without slots and default initargs
 abbrev pub served_class : ClassDefinition → Option Served
-served_class c =
-    if is_empty c.slots && is_empty c.defaults then (at_most_one_name c.superclasses >>= λ super. Some (DefineClass c.name super)) else None
+served_class c = if is_empty c.slots && is_empty c.defaults then Some (DefineClass c.name c.superclasses) else None
 
 abbrev pub is_no_data : Dats → Bool
 is_no_data datum.nil = true

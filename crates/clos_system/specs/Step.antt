@@ -2,7 +2,7 @@
 use Rattle.std.specs.Prelude.{◌≡◌, ℕ, ◌+◌, ◌<◌, ◌==◌, ◌&&◌, nat_lt, nat_le, min, List, [], ◌∷◌, ◌++◌, Option, Some, None, Result, Ok, Err, if◌then◌else◌, length, slice_get, slice_set, is_some}
 use Rattle.std.specs.Str.{bytes_eq}
 use Rattle.lisp_data.specs.Name.{Nam}
-use Rattle.lisp_data.specs.Value.{class, method, list, nil}
+use Rattle.lisp_data.specs.Value.{method, list, nil}
 use Rattle.lisp_data.specs.Datum.{Dat}
 use Rattle.clos_forms.specs.Form.{Frms}
 use Rattle.clos_world.specs.Class.{named}
@@ -16,10 +16,10 @@ use Rattle.clos_machine.specs.Meaning.{evaluation}
 use Rattle.clos_machine.specs.Outcome.{Gave, Stopped, Run, stopped, step_then}
 use Rattle.clos_forms.specs.OperatorView.{called_of}
 use Rattle.clos_world.specs.Functions.{function_in}
+use Rattle.clos_system.specs.Class.{define_class}
 use Rattle.clos_system.specs.Function.{define_function}
 use Rattle.clos_system.specs.Variable.{variable_defined}
-use Rattle.clos_world.specs.declared.class.Superclasses.TheVariants.{Direct}
-use Rattle.clos_world.specs.declared.class.ClassIds.{ClassIds}
+use Rattle.clos_world.specs.declared.class_ids.ClassIds.{ClassIds}
 use Rattle.clos_world.specs.declared.condition.Condition.{Condition}
 use Rattle.clos_world.specs.declared.condition.Stop.{Stop}
 use Rattle.clos_world.specs.declared.condition.Stop.TheVariants.{Refused, Storage}
@@ -29,35 +29,6 @@ use Rattle.clos_world.specs.declared.generic.Method.{Method}
 use Rattle.clos_world.specs.declared.generic.MethodIds.{MethodIds}
 use Rattle.clos_system.specs.declared.served.Served.{Served}
 use Rattle.clos_system.specs.declared.served.Served.TheVariants.{DefineClass, DefineMethod, DefineFunction, DefineVariable, Nothing, Expression}
-
--- The classes with a number below this are predefined.
-abbrev pub first_defined : ℕ
-first_defined = 22
-
--- ---- defclass of a new name, whose superclass defclass made or which names none
-
--- the number of a class that defclass made
-abbrev pub if_defined : Option ℕ → Option ℕ
-if_defined None = None
-if_defined (Some n) = if nat_le first_defined n then Some n else None
-
--- the number of the direct superclass: STANDARD-OBJECT's where none is named
-abbrev pub superclass_number : State → Option Nam → Option ℕ
-superclass_number w None = Some 1
-superclass_number w (Some name) = if_defined (named w.classes name)
-
-abbrev pub class_added : Nam → ℕ → Run
-class_added name s w k =
-    Gave (class (length w.classes)) (record w { classes = w.classes ++ (record { name = name; superclasses = Direct (record { 0 = s }) }) ∷ [] }) k
-
-abbrev pub new_class : Nam → Option ℕ → Run
-new_class name None w k = stopped Unsupported [] w k
-new_class name (Some s) w k =
-    if nat_lt (length w.classes) (w.limits.classes + first_defined) then step_then (class_added name s) w k else stopped TableLimit [] w k
-
-abbrev pub define_class : Nam → Option Nam → Option ℕ → Run
-define_class name super None w k = new_class name (superclass_number w super) w k
-define_class name super (Some n) w k = if nat_lt n first_defined then stopped ProgramError [] w k else stopped Unsupported [] w k
 
 -- ---- defmethod, on any class
 
@@ -134,7 +105,7 @@ abbrev pub room_of : State → ℕ
 room_of w = min w.limits.depth 4_000
 
 abbrev pub performed : Served → Run
-performed (DefineClass name super) w k = define_class name super (named w.classes name) w k
+performed (DefineClass name supers) w k = define_class name supers (named w.classes name) w k
 performed (DefineMethod name parameters classes body) w k = unless_function name (define_method name parameters body (specializer_numbers w classes)) w k
 performed (DefineFunction name function) w k = define_function (called_of name) function w k
 performed (DefineVariable d) w k = variable_defined d w k

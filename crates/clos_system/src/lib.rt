@@ -1,8 +1,9 @@
 //! Sessions of the language: top-level forms, and runs of whole texts.
 #![tactic(auto)]
 
-mod definition;
+mod class;
 mod function;
+mod method;
 mod served;
 mod session;
 mod transcript;

@@ -6,7 +6,7 @@ ghost use Rattle.lisp_data.specs.DatumView.{datum_of};
 ghost use Rattle.clos_forms.specs.Form.{Frm, Frms};
 ghost use Rattle.clos_forms.specs.OperatorView.{called_of, operator_of, place_of};
 ghost use Rattle.clos_lambda.specs.LambdaList.{entries_of};
-ghost use Rattle.clos_system.specs.Served.{are_served, at_most_one_name, calls, class_name, classes_named, is_combination, is_empty, is_eql, is_one, is_plain, is_served, is_unserved, are_inits_served, served_class, served_function, served_method, served_name, served_of, served_variable, serves, names_served, is_served_as, is_served_if_any, is_set};
+ghost use Rattle.clos_system.specs.Served.{are_served, calls, class_name, classes_named, is_combination, is_empty, is_eql, is_one, is_plain, is_served, is_unserved, are_inits_served, served_class, served_function, served_method, served_name, served_of, served_variable, serves, names_served, is_served_as, is_served_if_any, is_set};
 
 use clos_forms::{
     Form, Forms, FunctionName, Operator, Place, is_function, is_system_function, is_the,
@@ -24,8 +24,8 @@ use std::alloc::{AllocError, Global};
 /// A top-level form that is served.
 #[derive(Drop)]
 pub enum Served {
-    /// A class, with its direct superclass if it names one.
-    DefineClass(Name, Option<Name>),
+    /// A class, with the direct superclasses that it names.
+    DefineClass(Name, Sequence<Name>),
     /// A method of the function of this name: its parameters, the names of their classes, and its body.
     DefineMethod(Name, Parameters, Parameters, Forms),
     /// A function of this name.
@@ -76,7 +76,7 @@ pub fn is_combination(datum: &Datum) -> bool
     }
 }
 
-/// A class without slots and default initargs, and with at most one superclass.
+/// A class without slots and default initargs.
 fn serve_class(class: ClassDefinition) -> Option<Served>
     ensures { result ≡ served_class class }
 {
@@ -89,21 +89,7 @@ fn serve_class(class: ClassDefinition) -> Option<Served>
     if slots.len() > 0 || defaults.len() > 0 {
         return None;
     }
-    let superclass = at_most_one_name(superclasses)?;
-    Some(Served::DefineClass(name, superclass))
-}
-
-fn at_most_one_name(names: Sequence<Name>) -> Option<Option<Name>>
-    ensures { result ≡ at_most_one_name names }
-{
-    let mut names = names.into_items();
-    match names.pop() {
-        None => Some(None),
-        Some(name) => match names.pop() {
-            None => Some(Some(name)),
-            Some(_) => None,
-        },
-    }
+    Some(Served::DefineClass(name, superclasses))
 }
 
 /// An unqualified method on classes, of required parameters alone, with a body that is served.

@@ -10,16 +10,17 @@ ghost use Rattle.clos_world.specs.Initial.{initial};
 ghost use Rattle.clos_system.specs.Definitions.{DefinesNothing};
 ghost use Rattle.clos_system.specs.Session.{state_of, Replies};
 
-use crate::definition::{defclass, defmethod};
+use crate::class::defclass;
+use crate::method::defmethod;
 use crate::function::defun;
 use crate::served::{Served, is_combination, serve};
 use crate::variable::define_variable;
+use clos_class::Classes;
 use clos_eval::evaluate;
 use clos_forms::SyntaxFault;
 use clos_syntax::{Top, parse_top};
 use clos_world::{
     ConditionKind, Function, Functions, Globals, Limits, Stop, Values, World, plain,
-    predefined_classes,
 };
 use lisp_data::{Datum, Items, Value};
 use std::alloc::{AllocError, Global};
@@ -52,7 +53,7 @@ impl Session {
     pub fn new(alloc: Global, limits: Limits) -> Result<Session, AllocError>
         ensures { IfOk result (λ s. state_of s ≡ initial limits) }
     {
-        let classes = predefined_classes(alloc)?;
+        let classes = Classes::new(alloc, limits.classes)?;
         let world = World {
             classes,
             generics: Vec::new(alloc),
@@ -143,7 +144,9 @@ fn perform_served(
     ensures { Answers (performed served) (seen world.old) steps.old result (seen world.new) steps.new }
 {
     match served {
-        Served::DefineClass(name, superclass) => defclass(alloc, world, name, &superclass, steps),
+        Served::DefineClass(name, superclasses) => {
+            defclass(alloc, world, name, superclasses.into_items(), steps)
+        }
         Served::DefineMethod(name, parameters, classes, body) => {
             defmethod(alloc, world, name, parameters, &classes, body, steps)
         }

@@ -720,12 +720,12 @@ fn integer_in(reply: &Reply) -> Option<i64> {
 }
 
 /// The number of the condition that ends a form, or 0.
-fn condition(session: &mut Session, datum: &Datum) -> u64 {
+pub fn condition(session: &mut Session, datum: &Datum) -> u64 {
     number_in(&session.submit(datum))
 }
 
 /// The number of the condition that ends a form that may take so many steps, or 0.
-fn condition_within(session: &mut Session, datum: &Datum, steps: u64) -> u64 {
+pub fn condition_within(session: &mut Session, datum: &Datum, steps: u64) -> u64 {
     number_in(&session.submit_within(datum, steps))
 }
 

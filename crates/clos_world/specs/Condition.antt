@@ -2,7 +2,7 @@
 use Rattle.std.specs.Prelude.{ℕ, List, false, codes}
 use Rattle.lisp_data.specs.Name.{Nam}
 use Rattle.clos_world.specs.declared.condition.ConditionKind.{ConditionKind}
-use Rattle.clos_world.specs.declared.condition.ConditionKind.TheVariants.{ProgramError, UnboundVariable, UndefinedFunction, TypeError, IntegerRange, DivisionByZero, UndefinedClass, LambdaListCongruence, NoApplicableMethod, Unsupported, StepLimit, DepthLimit, TableLimit}
+use Rattle.clos_world.specs.declared.condition.ConditionKind.TheVariants.{ProgramError, UnboundVariable, UndefinedFunction, TypeError, IntegerRange, DivisionByZero, UndefinedClass, InvalidSuperclass, InconsistentPrecedence, SuperclassCycle, IncompleteClass, LambdaListCongruence, NoApplicableMethod, Unsupported, StepLimit, DepthLimit, TableLimit}
 
 abbrev pub number_of : ConditionKind → ℕ
 number_of ProgramError = 1
@@ -12,6 +12,10 @@ number_of TypeError = 4
 number_of IntegerRange = 5
 number_of DivisionByZero = 6
 number_of UndefinedClass = 7
+number_of InvalidSuperclass = 8
+number_of InconsistentPrecedence = 9
+number_of SuperclassCycle = 10
+number_of IncompleteClass = 11
 number_of LambdaListCongruence = 12
 number_of NoApplicableMethod = 14
 number_of Unsupported = 28
@@ -27,6 +31,10 @@ condition_name TypeError = codes "TYPE-ERROR"
 condition_name IntegerRange = codes "INTEGER-RANGE"
 condition_name DivisionByZero = codes "DIVISION-BY-ZERO"
 condition_name UndefinedClass = codes "UNDEFINED-CLASS"
+condition_name InvalidSuperclass = codes "INVALID-SUPERCLASS"
+condition_name InconsistentPrecedence = codes "INCONSISTENT-PRECEDENCE"
+condition_name SuperclassCycle = codes "SUPERCLASS-CYCLE"
+condition_name IncompleteClass = codes "INCOMPLETE-CLASS"
 condition_name LambdaListCongruence = codes "LAMBDA-LIST-CONGRUENCE"
 condition_name NoApplicableMethod = codes "NO-APPLICABLE-METHOD"
 condition_name Unsupported = codes "UNSUPPORTED"

@@ -1,23 +1,24 @@
 -- The state of a session (HyperSpec 3.1.1, 4.3, 7.6): lists that only grow at their ends.
-use Rattle.std.specs.Prelude.{ℕ, ◌-◌, ◌==◌, List, [], ◌∷◌, ◌||◌, nat_le, Option, Some, None, map, reverse, take, option_map, unwrap_or, slice_get, if◌then◌else◌}
+use Rattle.std.specs.Prelude.{ℕ, ◌-◌, ◌==◌, List, [], ◌∷◌, Option, Some, None, codes, map, reverse, take, option_map, unwrap_or, slice_get, if◌then◌else◌}
 use Rattle.lisp_data.specs.Name.{Nam, same_name}
 use Rattle.lisp_data.specs.Value.{Val, integer, symbol, string, list, class, generic, method, instance, nil, cons}
 use Rattle.lisp_data.specs.Print.{Names, MethodParts, by_symbol, on_class}
-use Rattle.clos_world.specs.declared.class.Class.{Class}
 use Rattle.clos_world.specs.declared.generic.Generic.{Generic}
 use Rattle.clos_world.specs.declared.generic.Method.{Method}
 use Rattle.clos_world.specs.declared.limits.Limits.{Limits}
 use Rattle.clos_world.specs.declared.functions.Function.{Function}
 use Rattle.clos_world.specs.declared.world.World.{World}
 use Rattle.clos_world.specs.Globals.{Variables}
-use Rattle.clos_world.specs.Class.{precedence, class_name}
+use Rattle.clos_class.specs.Initial.{number, class_of_class}
+use Rattle.clos_class.specs.Table.{Table}
+use Rattle.clos_world.specs.Class.{precedence_or_none, class_name}
 
 -- a lexical variable and its value (3.1.2.1.1)
 abbrev pub Local : Type 0
 Local = Nam × Val
 
 pub record State : Type 0 where
-  pub classes : List Class  -- the predefined ones first, then in order of definition
+  pub classes : Table
   pub generics : List Generic
   pub methods : List Method  -- all ever made
   pub functions : List (Nam × Function)  -- by symbols, in order of definition
@@ -31,7 +32,7 @@ pub record State : Type 0 where
 -- a session's tables as lists
 abbrev pub seen : World → State
 seen w = record {
-  classes = w.classes.items;
+  classes = w.classes;
   generics = w.generics.items;
   methods = w.methods.items;
   functions = w.functions;
@@ -68,23 +69,20 @@ abbrev pub class_of_instance : State → ℕ → Option ℕ
 class_of_instance w i = instance_among w.instances i
 
 -- the class of a value (4.3.7)
-abbrev pub class_among : List ℕ → Val → ℕ
-class_among is (integer n) = 2
-class_among is (symbol s) = 7
-class_among is (string s) = 11
-class_among is (list nil) = 6
-class_among is (list (cons v l)) = 10
-class_among is (class n) = if (n == 1) || nat_le 22 n then 18 else 19
-class_among is (generic n) = 16
-class_among is (method n) = 20
-class_among is (instance i) = unwrap_or (instance_among is i) 1
-
 abbrev pub class_of : State → Val → ℕ
-class_of w v = class_among w.instances v
+class_of w (integer n) = number (codes "INTEGER")
+class_of w (symbol s) = number (codes "SYMBOL")
+class_of w (string s) = number (codes "STRING")
+class_of w (list nil) = number (codes "NULL")
+class_of w (list (cons v l)) = number (codes "CONS")
+class_of w (class n) = class_of_class w.classes n
+class_of w (generic n) = number (codes "STANDARD-GENERIC-FUNCTION")
+class_of w (method n) = number (codes "STANDARD-METHOD")
+class_of w (instance i) = unwrap_or (class_of_instance w i) (number (codes "STANDARD-OBJECT"))
 
--- the precedence lists of the classes of these arguments
+-- the class precedence lists of the classes of these values
 abbrev pub lists_of : State → List Val → List (List ℕ)
-lists_of w vs = map (λ v. precedence w.classes (class_of w v)) vs
+lists_of w vs = map (λ v. precedence_or_none w.classes (class_of w v)) vs
 
 abbrev pub parts_of : Method → MethodParts
 parts_of m = record { generic = m.generic.0; qualifiers = []; specializers = map on_class m.specializers }

@@ -21,6 +21,10 @@ pub enum ConditionKind {
     IntegerRange,
     DivisionByZero,
     UndefinedClass,
+    InvalidSuperclass,
+    InconsistentPrecedence,
+    SuperclassCycle,
+    IncompleteClass,
     LambdaListCongruence,
     NoApplicableMethod,
     Unsupported,
@@ -42,6 +46,10 @@ impl ConditionKind {
             ConditionKind::IntegerRange => 5,
             ConditionKind::DivisionByZero => 6,
             ConditionKind::UndefinedClass => 7,
+            ConditionKind::InvalidSuperclass => 8,
+            ConditionKind::InconsistentPrecedence => 9,
+            ConditionKind::SuperclassCycle => 10,
+            ConditionKind::IncompleteClass => 11,
             ConditionKind::LambdaListCongruence => 12,
             ConditionKind::NoApplicableMethod => 14,
             ConditionKind::Unsupported => 28,
@@ -63,6 +71,10 @@ impl ConditionKind {
             ConditionKind::IntegerRange => "INTEGER-RANGE",
             ConditionKind::DivisionByZero => "DIVISION-BY-ZERO",
             ConditionKind::UndefinedClass => "UNDEFINED-CLASS",
+            ConditionKind::InvalidSuperclass => "INVALID-SUPERCLASS",
+            ConditionKind::InconsistentPrecedence => "INCONSISTENT-PRECEDENCE",
+            ConditionKind::SuperclassCycle => "SUPERCLASS-CYCLE",
+            ConditionKind::IncompleteClass => "INCOMPLETE-CLASS",
             ConditionKind::LambdaListCongruence => "LAMBDA-LIST-CONGRUENCE",
             ConditionKind::NoApplicableMethod => "NO-APPLICABLE-METHOD",
             ConditionKind::Unsupported => "UNSUPPORTED",
@@ -128,6 +140,21 @@ pub fn about_name(alloc: Global, kind: ConditionKind, name: &Name) -> Result<Con
     ensures { IfOk result (λ c. c ≡ record { kind = kind; items = name_value name.now ∷ [] }) }
 {
     about(alloc, kind, value_named(name)?)
+}
+
+/// The condition of this kind that is about these two names.
+pub fn about_names(
+    alloc: Global,
+    kind: ConditionKind,
+    first: &Name,
+    second: &Name,
+) -> Result<Condition, AllocError>
+    ensures { IfOk result (λ c. c ≡ record { kind = kind; items = name_value first.now ∷ name_value second.now ∷ [] }) }
+{
+    let mut items = Values::new(alloc);
+    items.push(value_named(first)?)?;
+    items.push(value_named(second)?)?;
+    Ok(Condition { kind, items })
 }
 
 /// The condition of this kind that is about a function's name and these arguments.

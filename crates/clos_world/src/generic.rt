@@ -1,10 +1,10 @@
-//! Generic functions, their methods, and the order of the applicable ones (HyperSpec 7.6.6.1).
-ghost use Rattle.std.specs.Prelude.{◌≡◌, ◌<◌, ◌≤◌, ◌++◌, ◌∷◌, [], IfOk, OnOk, map, position, if◌then◌else◌, is_ok, option_map, length, slice_index, slice_get, insert, remove, ◌==◌, MatchOption};
-ghost use Rattle.clos_world.specs.Generic.{function_named, specializers_of, specializers_in, is_applicable, stands_before, is_before, placed, ordered};
+//! Generic functions and their methods (HyperSpec 7.6.1, 7.6.2).
+ghost use Rattle.std.specs.Prelude.{◌≡◌, ◌<◌, ◌≤◌, [], IfOk, if◌then◌else◌, is_ok, option_map, length, slice_index, slice_get, insert, remove};
+ghost use Rattle.clos_world.specs.Generic.{function_named};
 
-use crate::class::ClassIds;
+use crate::class_ids::ClassIds;
 use clos_forms::Forms;
-use lisp_data::{ClassId, GenericId, MethodId, Name};
+use lisp_data::{GenericId, MethodId, Name};
 use std::alloc::{AllocError, Global};
 use std::marker::Model;
 use std::rc::Rc;
@@ -170,114 +170,4 @@ pub fn method_numbered(methods: &[Method], id: MethodId) -> Option<&Method>
     ensures { option_map (λ m. m.now) result ≡ slice_get methods.now id.0 }
 {
     methods.get(id.0 as usize)
-}
-
-/// Whether the method may be called on arguments whose classes have these precedence lists.
-#[tactic(auto, using(crate::proofs::Order::applicable_to_none))]
-fn applies(methods: &[Method], lists: &[ClassIds], id: MethodId) -> bool
-    ensures { result ≡ is_applicable lists.now (specializers_of methods.now id.0) }
-{
-    match method_numbered(methods, id) {
-        Some(method) => all_listed(lists, &method.specializers),
-        None => true,
-    }
-}
-
-#[tactic(auto, using(crate::proofs::Order::applicable_past))]
-fn all_listed(lists: &[ClassIds], specializers: &ClassIds) -> bool
-    ensures { result ≡ is_applicable lists.now specializers.now }
-{
-    let mut place = 0;
-    while place < lists.len() && place < specializers.len() {
-        if !lists[place].contains(specializers.get(place)) {
-            return false;
-        }
-        place += 1;
-    }
-    true
-}
-
-/// Whether the first class stands earlier in the list than the second.
-fn earlier(list: &ClassIds, a: ClassId, b: ClassId) -> bool
-    ensures { result ≡ stands_before list.now a.0 b.0 }
-{
-    let mut place = 0;
-    while place < list.len() {
-        let class = list.get(place);
-        if class.0 == a.0 {
-            return true;
-        }
-        if class.0 == b.0 {
-            return false;
-        }
-        place += 1;
-    }
-    false
-}
-
-/// Whether the first method's specializers come before the second's.
-#[tactic(auto, using(crate::proofs::Order::before_goes_on, crate::proofs::Order::before_past, crate::proofs::Order::before_past_second))]
-fn more_specific(lists: &[ClassIds], a: &ClassIds, b: &ClassIds) -> bool
-    ensures { result ≡ is_before lists.now a.now b.now }
-{
-    let mut place = 0;
-    while place < lists.len() && place < a.len() && place < b.len() {
-        let first = a.get(place);
-        let second = b.get(place);
-        if first.0 != second.0 {
-            return earlier(&lists[place], first, second);
-        }
-        place += 1;
-    }
-    false
-}
-
-#[tactic(auto, using(crate::proofs::Order::before_with_none, crate::proofs::Order::before_none))]
-fn comes_before(methods: &[Method], lists: &[ClassIds], a: MethodId, b: MethodId) -> bool
-    ensures { result ≡ is_before lists.now (specializers_of methods.now a.0) (specializers_of methods.now b.0) }
-{
-    let Some(first) = method_numbered(methods, a) else {
-        return false;
-    };
-    let Some(second) = method_numbered(methods, b) else {
-        return false;
-    };
-    more_specific(lists, &first.specializers, &second.specializers)
-}
-
-/// Puts a method at its place among ordered ones that were added after it.
-fn place(
-    methods: &[Method],
-    lists: &[ClassIds],
-    order: &mut MethodIds,
-    id: MethodId,
-) -> Result<(), AllocError>
-    ensures { OnOk result (order.new ≡ placed methods.now lists.now id.0 order.old) }
-{
-    let mut at = 0;
-    while at < order.len() && comes_before(methods, lists, order.get(at), id) {
-        at += 1;
-    }
-    order.insert(at, id)
-}
-
-/// The applicable ones of these methods, the most specific first.
-pub fn ordered_methods(
-    alloc: Global,
-    methods: &[Method],
-    lists: &[ClassIds],
-    candidates: &MethodIds,
-) -> Result<MethodIds, AllocError>
-    ensures { IfOk result (λ r. r ≡ ordered methods.now lists.now candidates.now) }
-{
-    let mut order = MethodIds::new(alloc);
-    let mut left = candidates.len();
-    while left > 0 {
-        left -= 1;
-        let id = candidates.get(left);
-        if applies(methods, lists, id) {
-            place(methods, lists, &mut order, id)?;
-        }
-    }
-    Ok(order)
 }

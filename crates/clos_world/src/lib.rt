@@ -1,24 +1,24 @@
 //! The state of a session: its classes, generic functions, methods and instances, and what was written.
 #![tactic(auto)]
 
-pub mod class;
+pub mod class_ids;
 pub mod condition;
+pub mod dispatch;
 pub mod functions;
 pub mod generic;
 pub mod globals;
 pub mod limits;
-pub mod predefined;
 pub mod values;
 pub mod world;
 
-pub use class::{Class, ClassIds, Superclasses, class_named};
-pub use condition::{Condition, ConditionKind, Stop, about, about_call, about_name, plain};
-pub use functions::{Function, Functions};
-pub use generic::{
-    Generic, Method, MethodIds, Parameters, generic_named, method_numbered, ordered_methods,
+pub use class_ids::ClassIds;
+pub use condition::{
+    Condition, ConditionKind, Stop, about, about_call, about_name, about_names, plain,
 };
+pub use dispatch::{PrecedenceLists, ordered_methods};
+pub use functions::{Function, Functions};
+pub use generic::{Generic, Method, MethodIds, Parameters, generic_named, method_numbered};
 pub use globals::Globals;
 pub use limits::Limits;
-pub use predefined::predefined_classes;
 pub use values::Values;
 pub use world::World;

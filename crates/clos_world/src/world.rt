@@ -1,28 +1,24 @@
 //! The state of a session: its tables, what was written, and its limits.
-ghost use Rattle.std.specs.Prelude.{◌≡◌, IfOk, OnOk, OnErr, option_map, map, length, ◌++◌, ◌∷◌, []};
+ghost use Rattle.std.specs.Prelude.{◌≡◌, OnOk, OnErr, option_map, length, ◌++◌, ◌∷◌, []};
 ghost use Rattle.lisp_data.specs.ValueView.{value_of};
-ghost use Rattle.clos_world.specs.World.{seen, class_of, class_of_instance, lists_of, names_of};
+ghost use Rattle.clos_class.specs.PrecedenceView.{numbers};
+ghost use Rattle.clos_world.specs.Class.{precedence_or_none};
+ghost use Rattle.clos_world.specs.World.{seen, class_of, class_of_instance, names_of};
 
-use crate::class::{Class, ClassIds, precedence_list};
 use crate::functions::Functions;
 use crate::generic::{Generic, Method};
 use crate::globals::Globals;
 use crate::limits::Limits;
+use clos_class::{Classes, numbers};
 use lisp_data::{
     ClassId, FunctionName, GenericId, InstanceId, MethodId, Name, Naming, Specializer, Value,
 };
-use std::alloc::{AllocError, Global};
-
-/// The classes that stand first in the table, with the numbers of those that values are of.
-pub const STANDARD_OBJECT: ClassId = ClassId(1);
-
-pub const FIRST_DEFINED: u64 = 22;
+use std::alloc::AllocError;
 
 /// The tables of a session.
 #[derive(Drop)]
 pub struct World {
-    /// The predefined ones first, then in order of definition.
-    pub classes: Vec<Class>,
+    pub classes: Classes,
     pub generics: Vec<Generic>,
     /// All ever made.
     pub methods: Vec<Method>,
@@ -44,27 +40,28 @@ impl World {
         ensures { result.0 ≡ class_of (seen self.now) (value_of value.now) }
     {
         match value {
-            Value::Int(_) => ClassId(2),
-            Value::Sym(_) => ClassId(7),
-            Value::Str(_) => ClassId(11),
+            Value::Int(_) => numbers::INTEGER,
+            Value::Sym(_) => numbers::SYMBOL,
+            Value::Str(_) => numbers::STRING,
             Value::List(items) => match items.split_first() {
-                None => ClassId(6),
-                Some(_) => ClassId(10),
+                None => numbers::NULL,
+                Some(_) => numbers::CONS,
             },
-            Value::Class(id) => {
-                if id.0 == 1 || id.0 >= 22 {
-                    ClassId(18)
-                } else {
-                    ClassId(19)
-                }
-            }
-            Value::Generic(_) => ClassId(16),
-            Value::Method(_) => ClassId(20),
+            Value::Class(id) => self.classes.class_of_class(*id),
+            Value::Generic(_) => numbers::STANDARD_GENERIC_FUNCTION,
+            Value::Method(_) => numbers::STANDARD_METHOD,
             Value::Instance(id) => match self.instance_class(*id) {
                 Some(class) => class,
-                None => STANDARD_OBJECT,
+                None => numbers::STANDARD_OBJECT,
             },
         }
+    }
+
+    /// The class precedence list of the class of a value.
+    pub fn precedence_of(&self, value: &Value) -> &[ClassId]
+        ensures { numbers result.now ≡ precedence_or_none (seen self.now).classes (class_of (seen self.now) (value_of value.now)) }
+    {
+        self.classes.precedence_or_none(self.class_of_value(value))
     }
 
     fn instance_class(&self, id: InstanceId) -> Option<ClassId>
@@ -93,22 +90,6 @@ impl World {
         self.instances.push(class)?;
         Ok(())
     }
-
-    /// The class precedence lists of the classes of these values.
-    pub fn precedence_lists(
-        &self,
-        alloc: Global,
-        values: &[Value],
-    ) -> Result<Vec<ClassIds>, AllocError>
-        ensures { IfOk result (λ r. r.items ≡ lists_of (seen self.now) (map value_of values.now)) }
-    {
-        let mut lists = Vec::new(alloc);
-        for value in values {
-            let class = self.class_of_value(value);
-            lists.push(precedence_list(alloc, &self.classes, class)?)?;
-        }
-        Ok(lists)
-    }
 }
 
 impl Naming for World {
@@ -117,10 +98,7 @@ impl Naming for World {
     ghost names = { λ w. names_of (seen w) };
 
     fn class_name(&self, id: ClassId) -> Option<&Name> {
-        match self.classes.get(id.0 as usize) {
-            Some(class) => Some(&class.name),
-            None => None,
-        }
+        self.classes.name(id)
     }
 
     fn generic_name(&self, id: GenericId) -> Option<FunctionName<'_>> {

@@ -1,0 +1,44 @@
+-- What a defclass does (HyperSpec 7.7).
+use Rattle.std.specs.Prelude.{◌≡◌, ℕ, false, List, [], ◌∷◌, Option, Some, None, option_map}
+use Rattle.lisp_data.specs.Name.{Nam}
+use Rattle.lisp_data.specs.Value.{class}
+use Rattle.clos_class.specs.Classes.{number_of, with_class}
+use Rattle.clos_class.specs.Table.{Refusal, program_error, table_limit, invalid_superclass, superclass_cycle, incomplete_class, inconsistent_precedence, refusal, or_standard}
+use Rattle.clos_forms.specs.Quotation.{name_value}
+use Rattle.clos_world.specs.declared.condition.Condition.{Condition}
+use Rattle.clos_world.specs.declared.condition.ConditionKind.TheVariants.{ProgramError, InvalidSuperclass, InconsistentPrecedence, SuperclassCycle, IncompleteClass, Unsupported, TableLimit}
+use Rattle.clos_world.specs.declared.condition.Stop.{Stop}
+use Rattle.clos_world.specs.declared.condition.Stop.TheVariants.{Refused, Storage}
+use Rattle.clos_machine.specs.Outcome.{Gave, Stopped, Run, stopped, step_then}
+
+-- the condition of a definition of the class of this name that is refused
+abbrev pub condition_for : Nam → Refusal → Condition
+condition_for name program_error = record { kind = ProgramError; items = [] }
+condition_for name table_limit = record { kind = TableLimit; items = [] }
+condition_for name (invalid_superclass super) = record { kind = InvalidSuperclass; items = name_value name ∷ name_value super ∷ [] }
+condition_for name superclass_cycle = record { kind = SuperclassCycle; items = name_value name ∷ [] }
+condition_for name incomplete_class = record { kind = IncompleteClass; items = name_value name ∷ [] }
+condition_for name (inconsistent_precedence other) = record { kind = InconsistentPrecedence; items = name_value other ∷ [] }
+
+-- the class stands in the table
+abbrev pub class_defined : Nam → List Nam → Run
+class_defined name above w k =
+    Gave (class (number_of w.classes.classes name)) (record w { classes = record w.classes { classes = with_class w.classes.classes name above } }) k
+
+abbrev pub unless_refused : Nam → List Nam → Option Refusal → Run
+unless_refused name above None w k = step_then (class_defined name above) w k
+unless_refused name above (Some r) w k = Stopped (condition_for name r) w k
+
+-- a class of a new name, with these direct superclasses, of which some may not be defined yet
+abbrev pub new_class : Nam → List Nam → Run
+new_class name above w k = unless_refused name above (refusal w.classes name above false) w k
+
+-- A class that is defined is not defined again.
+abbrev pub define_class : Nam → List Nam → Option ℕ → Run
+define_class name supers None w k = new_class name (or_standard supers) w k
+define_class name supers (Some n) w k = stopped Unsupported [] w k
+
+-- the condition of this refusal, unless memory ran out
+abbrev pub StopsFor : Nam → Option Refusal → Stop → Type 0
+StopsFor name o (Refused c) = option_map (condition_for name) o ≡ Some c
+StopsFor name o Storage = Unit {0}

@@ -1,0 +1,80 @@
+//! What a `defclass` does (HyperSpec 7.7). It takes one step for the whole of its effect; what is refused takes none.
+ghost use Rattle.std.specs.Prelude.{◌≡◌, IfOk, IfErr, Option, option_map, Some};
+ghost use Rattle.clos_class.specs.Table.{Refusal, or_standard};
+ghost use Rattle.clos_class.specs.TableView.{Refuses};
+ghost use Rattle.clos_world.specs.Class.{named};
+ghost use Rattle.clos_world.specs.World.{seen};
+ghost use Rattle.clos_world.specs.declared.condition.Stop.TheVariants.{Storage};
+ghost use Rattle.clos_machine.specs.Machine.{Answers};
+ghost use Rattle.clos_system.specs.Class.{StopsFor, condition_for, define_class, new_class};
+
+use clos_class::ClassFault;
+use clos_world::{Condition, ConditionKind, Stop, World, about_name, about_names, plain};
+use lisp_data::{Name, Value};
+use std::alloc::Global;
+
+/// Defines a class of a new name, with these direct superclasses, of which some may not be defined yet.
+pub fn defclass(
+    alloc: Global,
+    world: &mut World,
+    name: Name,
+    superclasses: Vec<Name>,
+    steps: &mut u64,
+) -> Result<Value, Stop>
+    ensures { Answers (λ w k. define_class name superclasses.items (named w.classes name) w k) (seen world.old) steps.old result (seen world.new) steps.new }
+{
+    if world.classes.named(&name).is_some() {
+        return Err(Stop::Refused(plain(alloc, ConditionKind::Unsupported)));
+    }
+    if *steps == 0 {
+        return Err(why_not(alloc, world, &name, superclasses));
+    }
+    match world.classes.define(alloc, &name, superclasses, false) {
+        Err(fault) => Err(stop_for(alloc, &name, fault)),
+        Ok(changed) => {
+            *steps -= 1;
+            Ok(Value::Class(changed.class))
+        }
+    }
+}
+
+/// Why a class is not defined where no step is left: the definition is refused, or else the step.
+fn why_not(alloc: Global, world: &mut World, name: &Name, superclasses: Vec<Name>) -> Stop
+    ensures { Answers (new_class name.now (or_standard superclasses.items)) (seen world.old) 0 (Err result) (seen world.new) 0 }
+{
+    match world.classes.check(alloc, name, superclasses, false) {
+        Err(fault) => stop_for(alloc, name, fault),
+        Ok(()) => Stop::Refused(plain(alloc, ConditionKind::StepLimit)),
+    }
+}
+
+/// The condition of a refused definition of the class of this name.
+fn stop_for(alloc: Global, name: &Name, fault: ClassFault) -> Stop
+    ensures { (o : Option Refusal) → Refuses fault o → StopsFor name.now o result }
+{
+    match condition_for(alloc, name, fault) {
+        Ok(condition) => Stop::Refused(condition),
+        Err(stop) => stop,
+    }
+}
+
+fn condition_for(alloc: Global, name: &Name, fault: ClassFault) -> Result<Condition, Stop>
+    ensures found { IfOk result (λ c. (o : Option Refusal) → Refuses fault o → option_map (condition_for name.now) o ≡ Some c) }
+    ensures memory { IfErr result (λ e. e ≡ Storage) }
+{
+    match fault {
+        ClassFault::ProgramError => Ok(plain(alloc, ConditionKind::ProgramError)),
+        ClassFault::TableLimit => Ok(plain(alloc, ConditionKind::TableLimit)),
+        ClassFault::InvalidSuperclass(superclass) => {
+            let kind = ConditionKind::InvalidSuperclass;
+            Ok(about_names(alloc, kind, name, &superclass)?)
+        }
+        ClassFault::SuperclassCycle => Ok(about_name(alloc, ConditionKind::SuperclassCycle, name)?),
+        ClassFault::IncompleteClass => Ok(about_name(alloc, ConditionKind::IncompleteClass, name)?),
+        ClassFault::InconsistentPrecedence(class) => {
+            let kind = ConditionKind::InconsistentPrecedence;
+            Ok(about_name(alloc, kind, &class)?)
+        }
+        ClassFault::Memory => Err(Stop::Storage),
+    }
+}
