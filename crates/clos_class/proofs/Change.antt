@@ -29,7 +29,7 @@ same_defined cs to c (x ∷ xs) m h =
     let k : is_some (named to x) ≡ true = subst (λ v. is_some v ≡ true) (sym q) i in
     (cc, both (is_some (named to x)) (are_defined to xs) k b)
 
-based_below : (cs : Classes) (k : ℕ) → is_based cs k ≡ true → (k < length cs.names) × (are_defined cs (names_above cs k) ≡ true)
+pub based_below : (cs : Classes) (k : ℕ) → is_based cs k ≡ true → (k < length cs.names) × (are_defined cs (names_above cs k) ≡ true)
 based_below cs k h = (
   ltb-true k (length cs.names) (and_left (nat_lt k (length cs.names)) (are_defined cs (names_above cs k)) h),
   and_right (nat_lt k (length cs.names)) (are_defined cs (names_above cs k)) h,

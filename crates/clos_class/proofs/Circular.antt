@@ -34,7 +34,7 @@ up_to_by : (cs : Classes) (z : ℕ) (zs : List ℕ) (x y : ℕ) → (z ≡ x) �
 up_to_by cs z zs x y (inl e) k r = in_first (superclasses cs z) (one_up cs zs) y (subst (λ v. has (superclasses cs v) y ≡ true) (sym e) k)
 up_to_by cs z zs x y (inr h) k r = in_second (superclasses cs z) (one_up cs zs) y (r h)
 
-up_to : (cs : Classes) (xs : List ℕ) (x y : ℕ) → has xs x ≡ true → has (superclasses cs x) y ≡ true → has (one_up cs xs) y ≡ true
+pub up_to : (cs : Classes) (xs : List ℕ) (x y : ℕ) → has xs x ≡ true → has (superclasses cs x) y ≡ true → has (one_up cs xs) y ≡ true
 up_to cs [] x y h k = nothing h
 up_to cs (z ∷ zs) x y h k = up_to_by cs z zs x y (first_or_later z x zs h) k (λ e. up_to cs zs x y e k)
 

@@ -30,3 +30,5 @@ pub mod Single
 pub mod NoListing
 pub mod Listed
 pub mod Numbered
+pub mod Ways
+pub mod Lacking

@@ -2,6 +2,7 @@ pub mod Precedence
 pub mod PrecedenceView
 pub mod Examples
 pub mod Classes
+pub mod Ways
 pub mod Kept
 pub mod Table
 pub mod TableView
