@@ -9,7 +9,8 @@ use Rattle.clos_class.proofs.Truth.{and_left, and_right, both}
 use Rattle.clos_class.proofs.InTurn.{found_is_one}
 use Rattle.clos_class.proofs.Members.{has_later, differs}
 use Rattle.clos_class.proofs.Rounds.{Holds}
-use Rattle.clos_class.specs.Kept.{Changes, without, More, Sound, IsWhole, AreWhole, Within, ListWithin}
+use Rattle.clos_class.specs.Kept.{Changes, without, More, Sound, AreWhole, Within, ListWithin}
+use Rattle.clos_class.specs.Ways.{IsWhole}
 use Rattle.clos_class.proofs.Families.{each_above, Base, base_of, Under, over, listed_same}
 use Rattle.clos_class.proofs.Enough.{same_above}
 use Rattle.clos_class.proofs.SameOrder.{same_order}

@@ -7,8 +7,8 @@ use Rattle.lisp_data.specs.declared.ids.ClassId.{ClassId}
 use Rattle.clos_class.specs.Precedence.{has}
 use Rattle.clos_class.specs.PrecedenceView.{numbers}
 use Rattle.clos_class.specs.Classes.{Classes, named, defined, names_above, superclasses, one_up, is_met}
+use Rattle.clos_class.proofs.Truth.{nothing}
 use Rattle.clos_class.proofs.Lists.{or_false}
-use Rattle.clos_class.proofs.InTurn.{nothing}
 use Rattle.clos_class.proofs.Members.{has_first, has_later, first_or_later, in_first, in_second, in_either}
 
 abbrev pub Same : List ℕ → List ℕ → Type 0

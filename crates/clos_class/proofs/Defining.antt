@@ -8,7 +8,8 @@ use Rattle.clos_class.specs.Precedence.{has}
 use Rattle.clos_class.specs.Classes.{Classes, Listing, lacking, broken, listed, number_of, with_class, found, is_lacking}
 use Rattle.clos_class.specs.declared.kept.Kept.{Kept}
 use Rattle.clos_class.specs.PrecedenceView.{listing_of, listing_at}
-use Rattle.clos_class.specs.Kept.{Adds, Changes, More, Sound, AreWhole, IsWhole, AreNested, ListWithin, Knows, Progress, lacking_in, without, Restarts}
+use Rattle.clos_class.specs.Kept.{Adds, Changes, More, Sound, AreWhole, AreNested, ListWithin, Knows, Progress, lacking_in, without, Restarts}
+use Rattle.clos_class.specs.Ways.{IsWhole}
 use Rattle.clos_class.proofs.Members.{apart}
 use Rattle.clos_class.proofs.Rounds.{Holds, sound_holds}
 use Rattle.clos_class.proofs.Change.{Stays, stays, is_kept, within_without, others, still_based, kept_sound, kept_whole}

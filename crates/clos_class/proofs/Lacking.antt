@@ -4,7 +4,7 @@ use Rattle.std.specs.Prelude.{◌⊎◌, if◌then◌else◌}
 use Rattle.clos_class.specs.Precedence.{Supers, has, precedence_list}
 use Rattle.clos_class.specs.Classes.{Classes, Listing, lacking, broken, listed, joined, all_above, listed_if, in_order, found, superclasses, is_based, listing_within, listing}
 use Rattle.clos_class.specs.Ways.{Series, IsSuperclass, IsSelfOrAbove, HasNoBase, FindsLacking}
-use Rattle.clos_class.proofs.InTurn.{nothing}
+use Rattle.clos_class.proofs.Truth.{nothing}
 use Rattle.clos_class.proofs.Members.{Once, has_first, has_later, first_or_later, no_more, below, length_below, is_below}
 use Rattle.clos_class.proofs.Rounds.{joined_lacking}
 use Rattle.clos_class.proofs.Change.{based_below}

@@ -7,9 +7,8 @@ use Rattle.lisp_data.specs.Name.{Nam, same_name}
 use Rattle.clos_class.specs.Precedence.{has}
 use Rattle.clos_class.specs.Classes.{Classes, named, defined, names_above, superclasses, one_up, is_met, is_circular}
 use Rattle.clos_class.specs.Ways.{Series, IsSuperclass, FindsCircles}
-use Rattle.clos_class.proofs.InTurn.{nothing}
-use Rattle.clos_class.proofs.Next.{or_left, or_right}
-use Rattle.clos_class.proofs.Members.{Once, has_first, has_later, first_or_later, in_either, either, no_more, below, length_below, is_below}
+use Rattle.clos_class.proofs.Truth.{or_left, or_right, either, nothing}
+use Rattle.clos_class.proofs.Members.{Once, has_first, has_later, first_or_later, in_either, no_more, below, length_below, is_below}
 use Rattle.clos_class.proofs.Circular.{up_to}
 
 -- ---- superclasses are classes

@@ -4,8 +4,9 @@ use Rattle.std.specs.declared.alloc.Global.{Global}
 use Rattle.std.specs.declared.vec.Vec.{Vec}
 use Rattle.lisp_data.specs.Name.{Nam}
 use Rattle.clos_class.specs.declared.kept.Kept.{Kept}
-use Rattle.clos_class.specs.Precedence.{has, IsFamily}
-use Rattle.clos_class.specs.Classes.{Classes, Listing, lacking, broken, listed, found, superclasses, is_based, is_lacking, listing_within, listing, named, names_above}
+use Rattle.clos_class.specs.Precedence.{has}
+use Rattle.clos_class.specs.Classes.{Classes, Listing, lacking, broken, listed, found, superclasses, is_lacking, listing_within, listing, named, names_above}
+use Rattle.clos_class.specs.Ways.{IsWhole}
 use Rattle.clos_class.specs.PrecedenceView.{listing_of, listing_at, kept_above, kept_at}
 
 -- what the classes were before this one came last, or got these direct superclasses in place of others
@@ -20,11 +21,6 @@ More a b = (a ≡ lacking) ⊎ (a ≡ b)
 -- more is found than is said
 abbrev pub Sound : Classes → (ℕ → Listing) → Type 0
 Sound cs of = (n : ℕ) → More (of n) (found cs of n)
-
--- these are a class and its superclasses, and all their direct superclasses are defined
-pub record IsWhole (cs : Classes) (n : ℕ) (l : List ℕ) : Type 0 where
-  pub family : IsFamily (superclasses cs) n l
-  pub based : (x : ℕ) → has l x ≡ true → is_based cs x ≡ true
 
 abbrev pub AreWhole : Classes → (ℕ → Listing) → Type 0
 AreWhole cs of = (n : ℕ) (l : List ℕ) → of n ≡ listed l → IsWhole cs n l

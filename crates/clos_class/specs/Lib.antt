@@ -7,3 +7,4 @@ pub mod Kept
 pub mod Table
 pub mod TableView
 pub mod Initial
+pub mod Finding

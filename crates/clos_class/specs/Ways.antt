@@ -1,6 +1,6 @@
 -- Superclasses (HyperSpec 4.3.1), and what the definitions find on the way up to them.
 use Rattle.std.specs.Prelude.{◌≡◌, ◌↔◌, ℕ, true, false, List, [], ◌∷◌, ◌⊎◌}
-use Rattle.clos_class.specs.Precedence.{has}
+use Rattle.clos_class.specs.Precedence.{has, IsFamily}
 use Rattle.clos_class.specs.Classes.{Classes, superclasses, is_based, is_circular, lacking, listing}
 
 -- a series of classes between n and m, each a direct superclass of the one before
@@ -15,6 +15,13 @@ IsSuperclass cs n m = (xs : List ℕ) × Series cs n xs m
 -- m is n itself, or a superclass of it
 abbrev pub IsSelfOrAbove : Classes → ℕ → ℕ → Type 0
 IsSelfOrAbove cs n m = (n ≡ m) ⊎ IsSuperclass cs n m
+
+-- these are a class and its superclasses, and all their direct superclasses are defined
+pub record IsWhole (cs : Classes) (n : ℕ) (l : List ℕ) : Type 0 where
+  pub family : IsFamily (superclasses cs) n l
+  pub based : (x : ℕ) → has l x ≡ true → is_based cs x ≡ true
+
+-- ---- what the definitions find
 
 -- A class is told to be above itself exactly where it is its own superclass.
 abbrev pub FindsCircles : Type 0
