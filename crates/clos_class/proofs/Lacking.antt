@@ -28,7 +28,7 @@ found_lacks : (cs : Classes) (of : ℕ → Listing) (n x : ℕ) → has (supercl
 found_lacks cs of n x h k =
     ordered_lacks (superclasses cs) n (is_based cs n) (all_above of (superclasses cs n)) (above_lacks of (superclasses cs n) x h k)
 
-no_base : (cs : Classes) (k n : ℕ) → is_based cs n ≡ false → listing_within k cs n ≡ lacking
+pub no_base : (cs : Classes) (k n : ℕ) → is_based cs n ≡ false → listing_within k cs n ≡ lacking
 no_base cs zero n h = refl
 no_base cs (suc k) n h =
     ap (λ v. if v then in_order (superclasses cs) n (all_above (λ m. listing_within k cs m) (superclasses cs n)) else lacking) h
@@ -54,7 +54,7 @@ lacks cs k n m (inr s) (inr c) = under_circle cs k n m s.0 c.0 s.1 c.1
 abbrev NoBase : Classes → ℕ → Type 0
 NoBase cs n = (m : ℕ) × IsSelfOrAbove cs n m × HasNoBase cs m
 
-one_more : (cs : Classes) (n x m : ℕ) → has (superclasses cs n) x ≡ true → IsSelfOrAbove cs x m → IsSelfOrAbove cs n m
+pub one_more : (cs : Classes) (n x m : ℕ) → has (superclasses cs n) x ≡ true → IsSelfOrAbove cs x m → IsSelfOrAbove cs n m
 one_more cs n x m h (inl e) = inr ([], subst (λ v. has (superclasses cs n) v ≡ true) e h)
 one_more cs n x m h (inr s) = inr (x ∷ s.0, (h, s.1))
 
@@ -65,7 +65,7 @@ up_to_by : (cs : Classes) (n x : ℕ) (xs : List ℕ) (z : ℕ) → has (supercl
 up_to_by cs n x xs z h (inl e) r = ([], subst (λ v. has (superclasses cs n) v ≡ true) e h)
 up_to_by cs n x xs z h (inr g) r = let p : IsSuperclass cs x z = r g in (x ∷ p.0, (h, p.1))
 
-up_to : (cs : Classes) (n : ℕ) (xs : List ℕ) (m z : ℕ) → Series cs n xs m → has xs z ≡ true → IsSuperclass cs n z
+pub up_to : (cs : Classes) (n : ℕ) (xs : List ℕ) (m z : ℕ) → Series cs n xs m → has xs z ≡ true → IsSuperclass cs n z
 up_to cs n [] m z s h = nothing h
 up_to cs n (x ∷ xs) m z s h = up_to_by cs n x xs z s.0 (first_or_later x z xs h) (λ e. up_to cs x xs m z s.1 e)
 

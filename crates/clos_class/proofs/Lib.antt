@@ -32,3 +32,5 @@ pub mod Listed
 pub mod Numbered
 pub mod Ways
 pub mod Lacking
+pub mod Consistent
+pub mod Superclasses

@@ -19,14 +19,14 @@ found_before p xs i true e h =
     let q : position_or_len p xs ≡ i = cc in omega (arith, l, q)
 found_before p xs i false e h = cc
 
-named_below : (cs : Classes) (x : Nam) (i : ℕ) → named cs x ≡ Some i → i < length cs.names
+pub named_below : (cs : Classes) (x : Nam) (i : ℕ) → named cs x ≡ Some i → i < length cs.names
 named_below cs x i h = found_before (λ n. same_name x n) cs.names i (nat_lt (position_or_len (λ n. same_name x n) cs.names) (length cs.names)) refl h
 
 one_by : (j i : ℕ) → (j ≡ i) ⊎ (has [] i ≡ true) → Some j ≡ Some i
 one_by j i (inl e) = ap Some e
 one_by j i (inr h) = nothing h
 
-one_of : (o : Option ℕ) (i : ℕ) → has (option_to_list o) i ≡ true → o ≡ Some i
+pub one_of : (o : Option ℕ) (i : ℕ) → has (option_to_list o) i ≡ true → o ≡ Some i
 one_of None i h = nothing h
 one_of (Some j) i h = one_by j i (first_or_later j i [] h)
 
