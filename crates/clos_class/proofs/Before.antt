@@ -3,20 +3,11 @@ use Rattle.std.proofs.Common.{◌≡◌, ℕ, ◌==◌, Bool, true, false, List,
 use Rattle.std.specs.Prelude.{not, ◌||◌, if◌then◌else◌}
 use Rattle.std.proofs.lemmas.Bool.{eqb-true, eq-eqb}
 use Rattle.clos_class.specs.Precedence.{has, are_before_done, first_left}
-use Rattle.clos_class.proofs.Truth.{and_left, and_right}
+use Rattle.clos_class.proofs.Truth.{and_left, and_right, no_way, after_first}
 
 -- each class that is done was free: by the list of p and these
 abbrev pub AreFree : List ℕ → ℕ → List ℕ → Type 0
 AreFree done p zs = (w : ℕ) → has done w ≡ true → are_before_done done w p zs ≡ true
-
-pub no_way : {A : Type 0} (a d : Bool) → a ≡ true → d ≡ false → (not a || d) ≡ true → A
-no_way true true h k l = cc
-no_way true false h k l = cc
-no_way false d h k l = cc
-
-pub after_first : (a b : Bool) → a ≡ false → (a || b) ≡ true → b ≡ true
-after_first true b h k = cc
-after_first false b h k = k
 
 pub not_done_next : (done : List ℕ) (p z : ℕ) (zs : List ℕ) (b : Bool) → has done z ≡ b → has done p ≡ false → AreFree done p (z ∷ zs) → has done z ≡ false
 not_done_next done p z zs true e h g = no_way (z == z) (has done p) (eq-eqb z z refl) h (and_left (not (z == z) || has done p) (are_before_done done z z zs) (g z e))

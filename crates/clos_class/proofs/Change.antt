@@ -9,7 +9,8 @@ use Rattle.clos_class.proofs.Truth.{and_left, and_right, both}
 use Rattle.clos_class.proofs.InTurn.{found_is_one}
 use Rattle.clos_class.proofs.Members.{has_later, differs}
 use Rattle.clos_class.proofs.Rounds.{Holds}
-use Rattle.clos_class.specs.Kept.{Changes, without, More, Sound, IsWhole, AreWhole, Within, ListWithin}
+use Rattle.clos_class.specs.Kept.{Changes, without, More, Sound, AreWhole, Within, ListWithin}
+use Rattle.clos_class.specs.Ways.{IsWhole}
 use Rattle.clos_class.proofs.Families.{each_above, Base, base_of, Under, over, listed_same}
 use Rattle.clos_class.proofs.Enough.{same_above}
 use Rattle.clos_class.proofs.SameOrder.{same_order}
@@ -29,7 +30,7 @@ same_defined cs to c (x ∷ xs) m h =
     let k : is_some (named to x) ≡ true = subst (λ v. is_some v ≡ true) (sym q) i in
     (cc, both (is_some (named to x)) (are_defined to xs) k b)
 
-based_below : (cs : Classes) (k : ℕ) → is_based cs k ≡ true → (k < length cs.names) × (are_defined cs (names_above cs k) ≡ true)
+pub based_below : (cs : Classes) (k : ℕ) → is_based cs k ≡ true → (k < length cs.names) × (are_defined cs (names_above cs k) ≡ true)
 based_below cs k h = (
   ltb-true k (length cs.names) (and_left (nat_lt k (length cs.names)) (are_defined cs (names_above cs k)) h),
   and_right (nat_lt k (length cs.names)) (are_defined cs (names_above cs k)) h,

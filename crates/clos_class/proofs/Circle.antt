@@ -3,11 +3,8 @@ use Rattle.std.proofs.Common.{◌≡◌, ℕ, zero, suc, ◌==◌, Bool, true, f
 use Rattle.std.specs.Prelude.{not, ◌&&◌, ◌||◌}
 use Rattle.std.proofs.lemmas.Bool.{eqb-true, eq-eqb}
 use Rattle.clos_class.specs.Precedence.{Supers, has, are_before_done, is_free, Upward, stands_before, Before, Leads, Circle}
-use Rattle.clos_class.proofs.Truth.{both}
-use Rattle.clos_class.proofs.Before.{after_first}
-use Rattle.clos_class.proofs.Next.{or_right, or_left}
-use Rattle.clos_class.proofs.InTurn.{nothing}
-use Rattle.clos_class.proofs.NoList.{without, neither, kept, fewer, length_removed}
+use Rattle.clos_class.proofs.Truth.{both, or_left, or_right, after_first, neither, nothing}
+use Rattle.clos_class.proofs.NoList.{without, kept, fewer, length_removed}
 
 -- those left, of which none is free
 abbrev pub NoneFree : Supers → List ℕ → List ℕ → Type 0

@@ -7,8 +7,8 @@ use Rattle.lisp_data.specs.declared.ids.ClassId.{ClassId}
 use Rattle.clos_class.specs.Precedence.{has}
 use Rattle.clos_class.specs.PrecedenceView.{numbers}
 use Rattle.clos_class.specs.Classes.{Classes, named, defined, names_above, superclasses, one_up, is_met}
+use Rattle.clos_class.proofs.Truth.{nothing}
 use Rattle.clos_class.proofs.Lists.{or_false}
-use Rattle.clos_class.proofs.InTurn.{nothing}
 use Rattle.clos_class.proofs.Members.{has_first, has_later, first_or_later, in_first, in_second, in_either}
 
 abbrev pub Same : List ℕ → List ℕ → Type 0
@@ -34,7 +34,7 @@ up_to_by : (cs : Classes) (z : ℕ) (zs : List ℕ) (x y : ℕ) → (z ≡ x) �
 up_to_by cs z zs x y (inl e) k r = in_first (superclasses cs z) (one_up cs zs) y (subst (λ v. has (superclasses cs v) y ≡ true) (sym e) k)
 up_to_by cs z zs x y (inr h) k r = in_second (superclasses cs z) (one_up cs zs) y (r h)
 
-up_to : (cs : Classes) (xs : List ℕ) (x y : ℕ) → has xs x ≡ true → has (superclasses cs x) y ≡ true → has (one_up cs xs) y ≡ true
+pub up_to : (cs : Classes) (xs : List ℕ) (x y : ℕ) → has xs x ≡ true → has (superclasses cs x) y ≡ true → has (one_up cs xs) y ≡ true
 up_to cs [] x y h k = nothing h
 up_to cs (z ∷ zs) x y h k = up_to_by cs z zs x y (first_or_later z x zs h) k (λ e. up_to cs zs x y e k)
 

@@ -2,13 +2,14 @@
 use Rattle.std.proofs.Common.{◌≡◌, ℕ, zero, suc, ◌==◌, ◌+◌, Bool, true, false, List, [], ◌∷◌, ◌++◌, Some, length, ◌<◌, ◌≤◌, arith, refl, sym, subst, ap, ◌∙◌}
 use Rattle.std.specs.Prelude.{◌||◌, nat_lt, slice_get, slice_set, unwrap_or, position, if◌then◌else◌}
 use Rattle.std.specs.List.{list_any, position_or_len}
-use Rattle.std.proofs.lemmas.Bool.{ltb-true, lt-ltb}
+use Rattle.std.proofs.lemmas.Bool.{ltb-true, ltb-false, lt-ltb, eqb-false}
 use Rattle.lisp_data.specs.Name.{Nam, same_name}
 use Rattle.clos_class.specs.Precedence.{has}
 use Rattle.clos_class.specs.Classes.{Classes, Listing, lacking, broken, listed, number_of, with_class, found, is_lacking}
 use Rattle.clos_class.specs.declared.kept.Kept.{Kept}
 use Rattle.clos_class.specs.PrecedenceView.{listing_of, listing_at}
-use Rattle.clos_class.specs.Kept.{Adds, Changes, More, Sound, AreWhole, IsWhole, AreNested, ListWithin, Knows, Progress, lacking_in, without, Restarts}
+use Rattle.clos_class.specs.Kept.{Adds, Changes, More, Sound, AreWhole, AreNested, ListWithin, Knows, Progress, lacking_in, without, Restarts}
+use Rattle.clos_class.specs.Ways.{IsWhole}
 use Rattle.clos_class.proofs.Members.{apart}
 use Rattle.clos_class.proofs.Rounds.{Holds, sound_holds}
 use Rattle.clos_class.proofs.Change.{Stays, stays, is_kept, within_without, others, still_based, kept_sound, kept_whole}
@@ -66,20 +67,54 @@ row_last [] (suc k) a h = refl
 row_last (r ∷ rows) zero a h = refl
 row_last (r ∷ rows) (suc k) a h = row_last rows k a (apart (length rows) k (length rows == k) refl h)
 
+place_grows_by : (p : Nam → Bool) (x : Nam) (xs : List Nam) (y : Nam) (b : Bool) → p x ≡ b → position_or_len p xs ≤ position_or_len p (xs ++ y ∷ []) → position_or_len p (x ∷ xs) ≤ position_or_len p ((x ∷ xs) ++ y ∷ [])
+place_grows_by p x xs y true e h =
+    let i : position_or_len p (x ∷ xs) ≡ 0 = cc in omega (arith, i)
+place_grows_by p x xs y false e h =
+    let i : position_or_len p (x ∷ xs) ≡ 1 + position_or_len p xs = cc in
+    let j : position_or_len p (x ∷ (xs ++ y ∷ [])) ≡ 1 + position_or_len p (xs ++ y ∷ []) = cc in omega (arith, h, i, j)
+
+place_grows : (p : Nam → Bool) (xs : List Nam) (y : Nam) → position_or_len p xs ≤ position_or_len p (xs ++ y ∷ [])
+place_grows p [] y = omega (arith)
+place_grows p (x ∷ xs) y = place_grows_by p x xs y (p x) refl (place_grows p xs y)
+
+found_at_by : (p : Nam → Bool) (xs : List Nam) (i : ℕ) (b : Bool) → nat_lt (position_or_len p xs) (length xs) ≡ b → position p xs ≡ Some i → (position_or_len p xs ≡ i) × (i < length xs)
+found_at_by p xs i true e h =
+    let l : position_or_len p xs < length xs = ltb-true (position_or_len p xs) (length xs) e in
+    let q : position_or_len p xs ≡ i = cc in (q, omega (arith, l, q))
+found_at_by p xs i false e h = cc
+
+-- a name that is found there too was found before, or is the last
+was_found_by : (p : Nam → Bool) (xs : List Nam) (y : Nam) (i : ℕ) (b : Bool) → nat_lt (position_or_len p xs) (length xs) ≡ b → position p (xs ++ y ∷ []) ≡ Some i → (length xs == i) ≡ false → position p xs ≡ Some i
+was_found_by p xs y i true e h d =
+    let q : position_or_len p (xs ++ y ∷ []) ≡ position_or_len p xs = place_stays p xs y (ltb-true (position_or_len p xs) (length xs) e) in
+    let r : position_or_len p (xs ++ y ∷ []) ≡ i = (found_at_by p (xs ++ y ∷ []) i (nat_lt (position_or_len p (xs ++ y ∷ [])) (length (xs ++ y ∷ []))) refl h).0 in cc
+was_found_by p xs y i false e h d =
+    let l : length xs ≤ position_or_len p xs = ltb-false (position_or_len p xs) (length xs) e in
+    let q : position_or_len p xs ≤ position_or_len p (xs ++ y ∷ []) = place_grows p xs y in
+    let r : (position_or_len p (xs ++ y ∷ []) ≡ i) × (i < length (xs ++ y ∷ [])) = found_at_by p (xs ++ y ∷ []) i (nat_lt (position_or_len p (xs ++ y ∷ [])) (length (xs ++ y ∷ []))) refl h in
+    let a : position_or_len p (xs ++ y ∷ []) ≡ i = r.0 in
+    let b : i < length (xs ++ y ∷ []) = r.1 in
+    let c : length (xs ++ y ∷ []) ≡ length xs + 1 = longer xs y in
+    absurd (omega (arith, l, q, a, b, c, eqb-false (length xs) i d))
+
 changes_by : (cs to : Classes) (name : Nam) (above : List Nam) (b : Bool) → length cs.above ≡ length cs.names → list_any (same_name name) cs.names ≡ b
     → to ≡ (if b then record cs { above = slice_set cs.above (number_of cs name) above } else record { names = cs.names ++ name ∷ []; above = cs.above ++ above ∷ [] }) → Changes cs to (number_of cs name)
 changes_by cs to name above true l e h =
     subst (λ v. Changes cs v (number_of cs name)) (sym h) (record {
       rows = λ k d. ap (λ v. unwrap_or v []) (row_set cs.above (number_of cs name) k above d);
       numbers = λ x i g. g;
+      others = λ x i g d. g;
       more = omega (arith);
     })
 changes_by cs to name above false l e h =
-    let p : number_of cs name ≡ length cs.above = absent_place (same_name name) cs.names e ∙ sym l in
+    let o : number_of cs name ≡ length cs.names = absent_place (same_name name) cs.names e in
+    let p : number_of cs name ≡ length cs.above = o ∙ sym l in
     let q : length (cs.names ++ name ∷ []) ≡ length cs.names + 1 = longer cs.names name in
     subst (λ v. Changes cs v (number_of cs name)) (sym h) (record {
       rows = λ k d. ap (λ v. unwrap_or v []) (row_last cs.above k above (subst (λ v. (v == k) ≡ false) p d));
       numbers = λ x i g. found_by (same_name x) cs.names name i (nat_lt (position_or_len (same_name x) cs.names) (length cs.names)) refl g;
+      others = λ x i g d. was_found_by (same_name x) cs.names name i (nat_lt (position_or_len (same_name x) cs.names) (length cs.names)) refl g (subst (λ v. (v == i) ≡ false) o d);
       more = omega (arith, q);
     })
 

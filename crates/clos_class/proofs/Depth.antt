@@ -2,7 +2,7 @@
 use Rattle.std.proofs.Common.{◌≡◌, ℕ, ◌==◌, Bool, true, false, List, [], ◌∷◌, inl, inr, refl, subst}
 use Rattle.std.specs.Prelude.{◌||◌, ◌⊎◌}
 use Rattle.clos_class.specs.Precedence.{Supers, has, Next, InTurn}
-use Rattle.clos_class.proofs.InTurn.{nothing}
+use Rattle.clos_class.proofs.Truth.{nothing}
 use Rattle.clos_class.proofs.Members.{Once, has_first, first_or_later}
 
 -- ---- what comes in turn stands once, and is one of all

@@ -4,10 +4,9 @@ use Rattle.std.specs.Prelude.{not, ◌||◌, ◌⊎◌, nat_lt, if◌then◌else
 use Rattle.std.proofs.lemmas.Bool.{ltb-true}
 use Rattle.clos_class.specs.Precedence.{Supers, has, are_before_done, is_free, IsPrecedenceList, precedence_list, IsFamily, in_turn}
 use Rattle.clos_class.specs.Classes.{Classes, Listing, lacking, listed, all_above, in_order, found, names_above, are_defined, superclasses, is_based, listing_within}
-use Rattle.clos_class.proofs.Truth.{and_left, and_right}
-use Rattle.clos_class.proofs.Before.{after_first}
+use Rattle.clos_class.proofs.Truth.{and_left, and_right, after_first, nothing}
 use Rattle.clos_class.proofs.Next.{free_at}
-use Rattle.clos_class.proofs.InTurn.{nothing, found_is_one}
+use Rattle.clos_class.proofs.InTurn.{found_is_one}
 use Rattle.clos_class.proofs.Circle.{no_member}
 use Rattle.clos_class.proofs.Members.{Once, has_first, has_later, it_is, first_or_later, no_more, below, length_below, is_below}
 use Rattle.clos_class.proofs.Rounds.{Holds}

@@ -3,8 +3,10 @@ use Rattle.std.proofs.Common.{◌≡◌, ℕ, Bool, true, false, List, [], ◌�
 use Rattle.std.specs.Prelude.{◌⊎◌, if◌then◌else◌}
 use Rattle.clos_class.specs.Precedence.{Supers, has, IsPrecedenceList, precedence_list, IsFamily}
 use Rattle.clos_class.specs.Classes.{Classes, Listing, lacking, broken, listed, joined, all_above, listed_if, in_order, found, superclasses, is_based}
-use Rattle.clos_class.specs.Kept.{IsWhole, AreWhole, Within, ListWithin}
-use Rattle.clos_class.proofs.InTurn.{nothing, found_is_one}
+use Rattle.clos_class.specs.Kept.{AreWhole, Within, ListWithin}
+use Rattle.clos_class.specs.Ways.{IsWhole}
+use Rattle.clos_class.proofs.Truth.{nothing}
+use Rattle.clos_class.proofs.InTurn.{found_is_one}
 use Rattle.clos_class.proofs.Members.{has_first, has_later, first_or_later, in_first, in_second, in_either}
 use Rattle.clos_class.proofs.Depth.{none_done}
 

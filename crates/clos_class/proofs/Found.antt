@@ -3,10 +3,12 @@ use Rattle.std.proofs.Common.{◌≡◌, ℕ, ◌==◌, Bool, true, false, List,
 use Rattle.std.specs.Prelude.{◌||◌, ◌⊎◌}
 use Rattle.std.proofs.lemmas.Bool.{eqb-true, eq-eqb}
 use Rattle.clos_class.specs.Precedence.{has, IsFamily}
-use Rattle.clos_class.specs.Classes.{Classes, Listing, lacking, broken, listed, joined, all_above, listed_if, in_order, found, superclasses, is_based, is_lacking, is_broken, list_in, any_lacking, any_broken, together}
+use Rattle.clos_class.specs.Classes.{Classes, Listing, lacking, broken, listed, joined, all_above, listed_if, in_order, found, superclasses, is_based, is_lacking, is_broken, list_in}
+use Rattle.clos_class.specs.Finding.{any_lacking, any_broken, together}
 use Rattle.clos_class.specs.declared.kept.Kept.{Kept}
 use Rattle.clos_class.specs.PrecedenceView.{listing_at, kept_above, kept_at, above_by}
 use Rattle.clos_class.specs.Kept.{Keeps, ListWithin}
+use Rattle.clos_class.proofs.Truth.{neither}
 use Rattle.clos_class.proofs.Members.{first_or_later}
 use Rattle.clos_class.proofs.Families.{From, from_above, over_all}
 use Rattle.clos_class.proofs.SameOrder.{same_order}
@@ -27,15 +29,11 @@ listed_by lacking rest l h k e = cc
 listed_by broken rest l h k e = cc
 listed_by (listed m) rest l h k e = let q : joined (listed m) (listed l) ≡ listed (m ++ l) = refl in cc
 
-pub none_of : (a b : Bool) → (a || b) ≡ false → (a ≡ false) × (b ≡ false)
-none_of true b h = cc
-none_of false b h = (refl, h)
-
 pub all_are : (of : ℕ → Listing) (xs : List ℕ) → any_lacking of xs ≡ false → any_broken of xs ≡ false → all_above of xs ≡ listed (together of xs)
 all_are of [] h k = refl
 all_are of (x ∷ xs) h k =
-    let p : (is_lacking (of x) ≡ false) × (any_lacking of xs ≡ false) = none_of (is_lacking (of x)) (any_lacking of xs) h in
-    let q : (is_broken (of x) ≡ false) × (any_broken of xs ≡ false) = none_of (is_broken (of x)) (any_broken of xs) k in
+    let p : (is_lacking (of x) ≡ false) × (any_lacking of xs ≡ false) = neither (is_lacking (of x)) (any_lacking of xs) h in
+    let q : (is_broken (of x) ≡ false) × (any_broken of xs ≡ false) = neither (is_broken (of x)) (any_broken of xs) k in
     listed_by (of x) (all_above of xs) (together of xs) p.0 q.0 (all_are of xs p.1 q.1)
 
 broken_first : (a rest : Listing) (b : Bool) → is_lacking a ≡ false → (b ≡ true → rest ≡ broken) → (b ≡ false → (l : List ℕ) × (rest ≡ listed l)) → (is_broken a || b) ≡ true → joined a rest ≡ broken
@@ -47,7 +45,7 @@ broken_first (listed m) rest b h r s k = let p : rest ≡ broken = r k in let q 
 pub some_broken : (of : ℕ → Listing) (xs : List ℕ) → any_lacking of xs ≡ false → any_broken of xs ≡ true → all_above of xs ≡ broken
 some_broken of [] h k = cc
 some_broken of (x ∷ xs) h k =
-    let p : (is_lacking (of x) ≡ false) × (any_lacking of xs ≡ false) = none_of (is_lacking (of x)) (any_lacking of xs) h in
+    let p : (is_lacking (of x) ≡ false) × (any_lacking of xs ≡ false) = neither (is_lacking (of x)) (any_lacking of xs) h in
     broken_first (of x) (all_above of xs) (any_broken of xs) p.0 (λ e. some_broken of xs p.1 e) (λ e. (together of xs, all_are of xs p.1 e)) k
 
 -- ---- by the superclasses that are kept

@@ -3,10 +3,10 @@ use Rattle.std.proofs.Common.{◌≡◌, ℕ, zero, suc, ◌==◌, Bool, true, f
 use Rattle.std.specs.Prelude.{◌||◌, ◌⊎◌, option_map, if◌then◌else◌}
 use Rattle.std.proofs.lemmas.Bool.{eqb-true}
 use Rattle.clos_class.specs.Precedence.{Supers, has, is_free, is_nearer, Next, InTurn, IsPrecedenceList, next_above, are_done, if_all_done, with_first, in_turn, precedence_list, Upward, IsFamily}
-use Rattle.clos_class.proofs.Truth.{and_left, and_right}
+use Rattle.clos_class.proofs.Truth.{and_left, and_right, or_left, after_first, nothing}
 use Rattle.clos_class.proofs.Unique.{Covers}
-use Rattle.clos_class.proofs.Before.{after_first, stuck}
-use Rattle.clos_class.proofs.Next.{Inside, Closed, free_at, or_left, next_found, closed_more, inside_more}
+use Rattle.clos_class.proofs.Before.{stuck}
+use Rattle.clos_class.proofs.Next.{Inside, Closed, free_at, next_found, closed_more, inside_more}
 
 -- ---- what is found is a class precedence list
 
@@ -56,9 +56,6 @@ in_turn_fits (suc n) f all done l u c i h =
     (λ x xs p e. in_turn_fits n f all (x ∷ done) xs u (closed_more f all done x p.2 c) (inside_more all done x p.0 i) e)
 
 -- ---- the family of a class: itself and its superclasses
-
-pub nothing : {A : Type 0} → false ≡ true → A
-nothing h = cc
 
 pub only_self : (f : Supers) (c : ℕ) (all : List ℕ) (y : ℕ) → (y ≡ c) ⊎ ((k : ℕ) × (has all k ≡ true) × (has (f k) y ≡ true)) → is_free f all [] y ≡ true
     → (y ≡ c) ⊎ (is_nearer f [] c y ≡ true)

@@ -30,3 +30,7 @@ pub mod Single
 pub mod NoListing
 pub mod Listed
 pub mod Numbered
+pub mod Ways
+pub mod Lacking
+pub mod Consistent
+pub mod Superclasses

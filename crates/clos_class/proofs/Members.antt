@@ -1,10 +1,9 @@
 -- Members of lists of numbers, each once.
 use Rattle.std.proofs.Common.{◌≡◌, ℕ, zero, suc, ◌==◌, Bool, true, false, List, [], ◌∷◌, ◌++◌, inl, inr, length, ◌≤◌, ◌<◌, arith, refl, sym, subst, ap}
-use Rattle.std.specs.Prelude.{◌||◌, ◌⊎◌}
+use Rattle.std.specs.Prelude.{◌⊎◌}
 use Rattle.std.proofs.lemmas.Bool.{eqb-true, eqb-false, eq-eqb}
 use Rattle.clos_class.specs.Precedence.{has}
-use Rattle.clos_class.proofs.Next.{or_left, or_right}
-use Rattle.clos_class.proofs.InTurn.{nothing}
+use Rattle.clos_class.proofs.Truth.{or_left, or_right, either, nothing}
 use Rattle.clos_class.proofs.NoList.{without, kept, length_removed}
 
 -- no number stands in the list twice
@@ -17,10 +16,6 @@ has_first x xs = or_left (x == x) (has xs x) (eq-eqb x x refl)
 
 pub has_later : (x y : ℕ) (xs : List ℕ) → has xs y ≡ true → has (x ∷ xs) y ≡ true
 has_later x y xs h = or_right (x == y) (has xs y) h
-
-pub either : (a b : Bool) → (a || b) ≡ true → (a ≡ true) ⊎ (b ≡ true)
-either true b h = inl refl
-either false b h = inr h
 
 first_or_by : (x y : ℕ) (xs : List ℕ) → ((x == y) ≡ true) ⊎ (has xs y ≡ true) → (x ≡ y) ⊎ (has xs y ≡ true)
 first_or_by x y xs (inl e) = inl (eqb-true x y e)

@@ -1,10 +1,10 @@
 -- What is found going back comes next.
 use Rattle.std.proofs.Common.{◌≡◌, ℕ, ◌==◌, Bool, true, false, List, [], ◌∷◌, Option, Some, None, inl, inr, refl, ap, sym, subst, ◌∙◌}
-use Rattle.std.specs.Prelude.{not, ◌&&◌, ◌||◌, ◌⊎◌, if◌then◌else◌}
+use Rattle.std.specs.Prelude.{not, ◌||◌, ◌⊎◌, if◌then◌else◌}
 use Rattle.std.proofs.lemmas.Bool.{eqb-true, eq-eqb}
 use Rattle.clos_class.specs.Precedence.{Supers, has, are_before_done, is_free, is_nearer, Next, first_left, if_free, or_else, next_above, Upward}
-use Rattle.clos_class.proofs.Truth.{and_left, and_right, both}
-use Rattle.clos_class.proofs.Before.{AreFree, after_first, only_first}
+use Rattle.clos_class.proofs.Truth.{and_left, and_right, both, or_left, or_right, nearer_if, or_between, after_first}
+use Rattle.clos_class.proofs.Before.{AreFree, only_first}
 
 -- ---- the class that is found comes next
 
@@ -49,14 +49,6 @@ pub if_free_some : (f : Supers) (all done : List ℕ) (o : Option ℕ) (x : ℕ)
 if_free_some f all done None x h = cc
 if_free_some f all done (Some z) x h = some_by f all done z x (is_free f all done z) refl h
 
-pub or_right : (a b : Bool) → b ≡ true → (a || b) ≡ true
-or_right true b h = refl
-or_right false b h = h
-
-pub or_left : (a b : Bool) → a ≡ true → (a || b) ≡ true
-or_left true b h = refl
-or_left false b h = cc
-
 pub left_by : (done zs : List ℕ) (z x : ℕ) (b : Bool) → has done z ≡ b → (if b then first_left done zs else Some z) ≡ Some x
     → (first_left done zs ≡ Some x → (has zs x ≡ true) × (has done x ≡ false)) → (has (z ∷ zs) x ≡ true) × (has done x ≡ false)
 left_by done zs z x true e h r = (or_right (z == x) (has zs x) (r h).0, (r h).1)
@@ -95,10 +87,6 @@ found f all done (k ∷ ks) x h =
     found_by f all done ks k x (if_free f all done (first_left done (f k))) refl h (λ e. found f all done ks x e)
 
 -- Any other that could come next is not nearer.
-pub nearer_if : (a b c : Bool) → b ≡ false → (a || c) ≡ true → (not b && (a || c)) ≡ true
-nearer_if a true c h k = cc
-nearer_if a false c h k = k
-
 pub nearer_later : (f : Supers) (ks : List ℕ) (k x y : ℕ) → has (f k) y ≡ false → (y ≡ x) ⊎ (is_nearer f ks x y ≡ true) → (y ≡ x) ⊎ (is_nearer f (k ∷ ks) x y ≡ true)
 nearer_later f ks k x y h (inl e) = inl e
 nearer_later f ks k x y h (inr g) = inr (nearer_if (has (f k) x) (has (f k) y) (is_nearer f ks x y) h (or_right (has (f k) x) (is_nearer f ks x y) g))
@@ -130,16 +118,11 @@ next_found f all done x u c i h =
 
 -- ---- what stays true after one more is done
 
-pub more : (a b c : Bool) → (a || c) ≡ true → (a || (b || c)) ≡ true
-more true b c h = refl
-more false true c h = refl
-more false false c h = h
-
 pub before_more : (done : List ℕ) (d y p : ℕ) (zs : List ℕ) → are_before_done done y p zs ≡ true → are_before_done (d ∷ done) y p zs ≡ true
 before_more done d y p [] h = refl
 before_more done d y p (z ∷ zs) h =
     both (not (z == y) || ((d == p) || has done p)) (are_before_done (d ∷ done) y z zs)
-    (more (not (z == y)) (d == p) (has done p) (and_left (not (z == y) || has done p) (are_before_done done y z zs) h))
+    (or_between (not (z == y)) (d == p) (has done p) (and_left (not (z == y) || has done p) (are_before_done done y z zs) h))
     (before_more done d y z zs (and_right (not (z == y) || has done p) (are_before_done done y z zs) h))
 
 pub free_more : (f : Supers) (ks done : List ℕ) (d y : ℕ) → is_free f ks done y ≡ true → is_free f ks (d ∷ done) y ≡ true

@@ -3,11 +3,11 @@ use Rattle.std.proofs.Common.{◌≡◌, ℕ, zero, suc, ◌==◌, Bool, true, f
 use Rattle.std.specs.Prelude.{◌||◌, ◌⊎◌, option_map, if◌then◌else◌}
 use Rattle.std.proofs.lemmas.Bool.{eqb-true, eq-eqb}
 use Rattle.clos_class.specs.Precedence.{Supers, has, are_before_done, is_free, Next, InTurn, IsPrecedenceList, first_left, if_free, or_else, next_above, are_done, if_all_done, with_first, in_turn, precedence_list, IsFamily}
-use Rattle.clos_class.proofs.Truth.{both}
+use Rattle.clos_class.proofs.Truth.{both, or_left, or_right, after_first, neither, kept_or, only_left, not_either, nothing}
 use Rattle.clos_class.proofs.Unique.{next_same, Covers, none_more, covers_on}
-use Rattle.clos_class.proofs.Before.{AreFree, after_first, stuck}
-use Rattle.clos_class.proofs.Next.{Inside, Closed, free_at, are_free, first_free, none_some, or_right, or_left, next_found, closed_more, inside_more}
-use Rattle.clos_class.proofs.InTurn.{Fits, nothing, first_next}
+use Rattle.clos_class.proofs.Before.{AreFree, stuck}
+use Rattle.clos_class.proofs.Next.{Inside, Closed, free_at, are_free, first_free, none_some, next_found, closed_more, inside_more}
+use Rattle.clos_class.proofs.InTurn.{Fits, first_next}
 
 -- ---- where none is found, none fits
 
@@ -49,14 +49,6 @@ without x (y ∷ ys) = if y == x then without x ys else y ∷ without x ys
 -- those of all that are not done are left
 abbrev pub Left : List ℕ → List ℕ → List ℕ → Type 0
 Left all done left = (y : ℕ) → has all y ≡ true → has done y ≡ false → has left y ≡ true
-
-pub neither : (a b : Bool) → (a || b) ≡ false → (a ≡ false) × (b ≡ false)
-neither true b h = cc
-neither false b h = (refl, h)
-
-pub kept_or : (a b c : Bool) → (a || b) ≡ true → (b ≡ true → c ≡ true) → (a || c) ≡ true
-kept_or true b c h r = refl
-kept_or false b c h r = r h
 
 pub kept_by : (x y z : ℕ) (zs : List ℕ) (b : Bool) → (z == x) ≡ b → (x == y) ≡ false → has (z ∷ zs) y ≡ true → (has zs y ≡ true → has (without x zs) y ≡ true)
     → has (if b then without x zs else z ∷ without x zs) y ≡ true
@@ -100,10 +92,6 @@ length_removed x (y ∷ ys) h = removed_by x ys (y == x) y h (length_without x y
 abbrev pub Only : List ℕ → List ℕ → List ℕ → Type 0
 Only all done left = (y : ℕ) → has left y ≡ true → (has all y ≡ true) × (has done y ≡ false)
 
-pub not_either : (a b : Bool) → a ≡ false → b ≡ false → (a || b) ≡ false
-not_either true b h k = cc
-not_either false b h k = k
-
 pub not_equal_by : (x y z : ℕ) (b : Bool) → (x == y) ≡ b → (z == x) ≡ false → (z == y) ≡ true → (x == y) ≡ false
 not_equal_by x y z true e h k =
     let g : (z == x) ≡ true = eq-eqb z x (eqb-true z y k ∙ sym (eqb-true x y e)) in
@@ -138,14 +126,10 @@ all_done all done (y ∷ ys) g s =
     both (has done y) (are_done done ys) (done_by done y (has done y) refl (g y (s y (or_left (y == y) (has ys y) (eq-eqb y y refl)))))
     (all_done all done ys g (λ z e. s z (or_right (y == z) (has ys z) e)))
 
-pub only_done : (a : Bool) → (a || false) ≡ true → a ≡ true
-only_done true h = refl
-only_done false h = h
-
 pub covered : (all done ys : List ℕ) → Covers all done [] → ((y : ℕ) → has ys y ≡ true → has all y ≡ true) → are_done done ys ≡ true
 covered all done [] g s = refl
 covered all done (y ∷ ys) g s =
-    both (has done y) (are_done done ys) (only_done (has done y) (g y (s y (or_left (y == y) (has ys y) (eq-eqb y y refl)))))
+    both (has done y) (are_done done ys) (only_left (has done y) (g y (s y (or_left (y == y) (has ys y) (eq-eqb y y refl)))))
     (covered all done ys g (λ z e. s z (or_right (y == z) (has ys z) e)))
 
 pub not_ended : {A : Type 0} (b : Bool) → b ≡ true → if_all_done b ≡ None → A

@@ -10,7 +10,7 @@ use Rattle.clos_class.proofs.OnPrecedence.{tells}
 use Rattle.clos_class.proofs.Families.{over_all, whole_found}
 
 -- what is found in rounds is whole
-rounds_whole : (cs : Classes) (k : ℕ) → AreWhole cs (λ n. listing_within k cs n)
+pub rounds_whole : (cs : Classes) (k : ℕ) → AreWhole cs (λ n. listing_within k cs n)
 rounds_whole cs zero n l h = cc
 rounds_whole cs (suc k) n l h = whole_found cs (λ m. listing_within k cs m) n l (rounds_whole cs k) h
 

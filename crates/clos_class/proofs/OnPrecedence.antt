@@ -3,9 +3,10 @@ use Rattle.std.proofs.Common.{◌≡◌, ℕ, zero, suc, ◌==◌, Bool, true, f
 use Rattle.std.specs.Prelude.{◌&&◌, ◌⊎◌, option_map, if◌then◌else◌}
 use Rattle.std.proofs.lemmas.Bool.{eq-eqb}
 use Rattle.clos_class.specs.Precedence.{Supers, has, is_free, Next, next_above, are_done, if_all_done, with_first, in_turn, precedence_list, IsFamily, Circle, Tells}
+use Rattle.clos_class.proofs.Truth.{or_left, or_right, nothing}
 use Rattle.clos_class.proofs.Unique.{at_most_one}
-use Rattle.clos_class.proofs.Next.{Inside, Closed, free_at, are_free, first_free, or_right, or_left, next_found, closed_more, inside_more}
-use Rattle.clos_class.proofs.InTurn.{nothing, found_is_one}
+use Rattle.clos_class.proofs.Next.{Inside, Closed, free_at, are_free, first_free, next_found, closed_more, inside_more}
+use Rattle.clos_class.proofs.InTurn.{found_is_one}
 use Rattle.clos_class.proofs.NoList.{head_done, walk, without, Left, left_more, length_without, fewer, length_removed, Only, only_more, rest_none, all_done, not_ended, first_is, none_is_none}
 use Rattle.clos_class.proofs.Circle.{circling}
 

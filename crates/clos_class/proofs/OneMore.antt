@@ -3,7 +3,8 @@ use Rattle.std.proofs.Common.{◌≡◌, ℕ, suc, ◌==◌, Bool, true, false, 
 use Rattle.std.proofs.lemmas.Bool.{eqb-true}
 use Rattle.clos_class.specs.Classes.{Classes, Listing, lacking, broken, listed, found, listing_within}
 use Rattle.clos_class.proofs.Rounds.{more_through, more_found, more_rounds, Settled, more_settled, Holds}
-use Rattle.clos_class.specs.Kept.{More, Sound, IsWhole, AreWhole}
+use Rattle.clos_class.specs.Kept.{More, Sound, AreWhole}
+use Rattle.clos_class.specs.Ways.{IsWhole}
 use Rattle.clos_class.proofs.Families.{whole_found}
 use Rattle.clos_class.proofs.Enough.{listed_within, length_listed}
 

@@ -3,32 +3,19 @@ use Rattle.std.proofs.Common.{◌≡◌, ℕ, ◌==◌, Bool, true, false, List,
 use Rattle.std.specs.Prelude.{not, ◌||◌, ◌⊎◌}
 use Rattle.std.proofs.lemmas.Bool.{eqb-true, eq-eqb}
 use Rattle.clos_class.specs.Precedence.{Supers, has, are_before_done, is_free, is_nearer, Next, InTurn, IsPrecedenceList, Upward, IsFamily}
-use Rattle.clos_class.proofs.Truth.{and_left, and_right, both}
-use Rattle.clos_class.proofs.Before.{after_first, stuck}
-use Rattle.clos_class.proofs.Next.{free_at, or_left, or_right}
-use Rattle.clos_class.proofs.InTurn.{nothing}
+use Rattle.clos_class.proofs.Truth.{and_left, and_right, both, or_left, or_right, after_first, turned, nothing, kept_or, not_either, neither, only_left}
+use Rattle.clos_class.proofs.Before.{stuck}
+use Rattle.clos_class.proofs.Next.{free_at}
 
 -- ---- one more class, the first of all
 
-or_or : (a b c : Bool) → (a || b) ≡ true → (b ≡ true → c ≡ true) → (a || c) ≡ true
-or_or true b c h r = refl
-or_or false b c h r = r h
-
-not_or : (a b : Bool) → a ≡ false → b ≡ false → (a || b) ≡ false
-not_or true b h k = h
-not_or false b h k = k
-
-none_of : (a b : Bool) → (a || b) ≡ false → (a ≡ false) × (b ≡ false)
-none_of true b h = cc
-none_of false b h = (refl, h)
-
 has_more : (done : List ℕ) (c x : ℕ) → has done x ≡ true → has (done ++ c ∷ []) x ≡ true
 has_more [] c x h = nothing h
-has_more (y ∷ ys) c x h = or_or (y == x) (has ys x) (has (ys ++ c ∷ []) x) h (λ e. has_more ys c x e)
+has_more (y ∷ ys) c x h = kept_or (y == x) (has ys x) (has (ys ++ c ∷ []) x) h (λ e. has_more ys c x e)
 
 has_no_more : (done : List ℕ) (c x : ℕ) → (c == x) ≡ false → has done x ≡ false → has (done ++ c ∷ []) x ≡ false
-has_no_more [] c x h k = not_or (c == x) false h refl
-has_no_more (y ∷ ys) c x h k = let p : ((y == x) ≡ false) × (has ys x ≡ false) = none_of (y == x) (has ys x) k in not_or (y == x) (has (ys ++ c ∷ []) x) p.0 (has_no_more ys c x h p.1)
+has_no_more [] c x h k = not_either (c == x) false h refl
+has_no_more (y ∷ ys) c x h k = let p : ((y == x) ≡ false) × (has ys x ≡ false) = neither (y == x) (has ys x) k in not_either (y == x) (has (ys ++ c ∷ []) x) p.0 (has_no_more ys c x h p.1)
 
 has_it : (done : List ℕ) (c : ℕ) → has (done ++ c ∷ []) c ≡ true
 has_it [] c = or_left (c == c) false (eq-eqb c c refl)
@@ -38,7 +25,7 @@ before_more : (done : List ℕ) (c x p : ℕ) (zs : List ℕ) → are_before_don
 before_more done c x p [] h = refl
 before_more done c x p (z ∷ zs) h =
     both (not (z == x) || has (done ++ c ∷ []) p) (are_before_done (done ++ c ∷ []) x z zs)
-    (or_or (not (z == x)) (has done p) (has (done ++ c ∷ []) p) (and_left (not (z == x) || has done p) (are_before_done done x z zs) h) (λ e. has_more done c p e))
+    (kept_or (not (z == x)) (has done p) (has (done ++ c ∷ []) p) (and_left (not (z == x) || has done p) (are_before_done done x z zs) h) (λ e. has_more done c p e))
     (before_more done c x z zs (and_right (not (z == x) || has done p) (are_before_done done x z zs) h))
 
 free_more : (f : Supers) (ks done : List ℕ) (c x : ℕ) → is_free f ks done x ≡ true → is_free f ks (done ++ c ∷ []) x ≡ true
@@ -54,13 +41,13 @@ Other c l = (y : ℕ) → has l y ≡ true → (c == y) ≡ false
 
 had : (done : List ℕ) (c x : ℕ) → (c == x) ≡ false → has (done ++ c ∷ []) x ≡ true → has done x ≡ true
 had [] c x h k = nothing (after_first (c == x) false h k)
-had (y ∷ ys) c x h k = or_or (y == x) (has (ys ++ c ∷ []) x) (has ys x) k (λ e. had ys c x h e)
+had (y ∷ ys) c x h k = kept_or (y == x) (has (ys ++ c ∷ []) x) (has ys x) k (λ e. had ys c x h e)
 
 before_less : (done : List ℕ) (c x p : ℕ) (zs : List ℕ) → (c == p) ≡ false → Other c zs → are_before_done (done ++ c ∷ []) x p zs ≡ true → are_before_done done x p zs ≡ true
 before_less done c x p [] e o h = refl
 before_less done c x p (z ∷ zs) e o h =
     both (not (z == x) || has done p) (are_before_done done x z zs)
-    (or_or (not (z == x)) (has (done ++ c ∷ []) p) (has done p) (and_left (not (z == x) || has (done ++ c ∷ []) p) (are_before_done (done ++ c ∷ []) x z zs) h) (λ k. had done c p e k))
+    (kept_or (not (z == x)) (has (done ++ c ∷ []) p) (has done p) (and_left (not (z == x) || has (done ++ c ∷ []) p) (are_before_done (done ++ c ∷ []) x z zs) h) (λ k. had done c p e k))
     (before_less done c x z zs (o z (or_left (z == z) (has zs z) (eq-eqb z z refl))) (λ y k. o y (or_right (z == y) (has zs y) k))
     (and_right (not (z == x) || has (done ++ c ∷ []) p) (are_before_done (done ++ c ∷ []) x z zs) h))
 
@@ -77,7 +64,7 @@ nearer_more : (f : Supers) (ks : List ℕ) (c x y : ℕ) → is_nearer f ks x y 
 nearer_more f [] c x y h = nothing h
 nearer_more f (k ∷ ks) c x y h =
     both (not (has (f k) y)) (has (f k) x || is_nearer f (ks ++ c ∷ []) x y) (and_left (not (has (f k) y)) (has (f k) x || is_nearer f ks x y) h)
-    (or_or (has (f k) x) (is_nearer f ks x y) (is_nearer f (ks ++ c ∷ []) x y) (and_right (not (has (f k) y)) (has (f k) x || is_nearer f ks x y) h) (λ e. nearer_more f ks c x y e))
+    (kept_or (has (f k) x) (is_nearer f ks x y) (is_nearer f (ks ++ c ∷ []) x y) (and_right (not (has (f k) y)) (has (f k) x || is_nearer f ks x y) h) (λ e. nearer_more f ks c x y e))
 
 -- ---- the list
 
@@ -131,23 +118,15 @@ only_c_free : (f : Supers) (c d : ℕ) (all : List ℕ) (y : ℕ) → IsFamily f
 only_c_free f c d all y m s o true e a l = inl (sym (eqb-true c y e))
 only_c_free f c d all y m s o false e a l = only_by f c d all y m s o (m.below y (after_first (c == y) (has all y) e a)) l
 
-turned : (a : Bool) → a ≡ false → not a ≡ true
-turned true h = cc
-turned false h = refl
-
 apart_by : (x z : ℕ) (b : Bool) → (z == x) ≡ b → (x == z) ≡ false → (z == x) ≡ false
 apart_by x z true e h = let g : (x == z) ≡ true = eq-eqb x z (sym (eqb-true z x e)) in cc
 apart_by x z false e h = e
-
-only : (a : Bool) → (a || false) ≡ true → a ≡ true
-only true h = refl
-only false h = h
 
 apart : (x z : ℕ) (b : Bool) → (x == z) ≡ b → (x == z) ≡ false → (z == x) ≡ false
 apart x z b e h = apart_by x z (z == x) refl h
 
 member_d : (d : ℕ) (all : List ℕ) (z : ℕ) → has all d ≡ true → has (d ∷ []) z ≡ true → has all z ≡ true
-member_d d all z h e = subst (λ v. has all v ≡ true) (eqb-true d z (only (d == z) e)) h
+member_d d all z h e = subst (λ v. has all v ≡ true) (eqb-true d z (only_left (d == z) e)) h
 
 -- none comes before c
 unmoved : (x p : ℕ) (zs : List ℕ) → ((z : ℕ) → has zs z ≡ true → (x == z) ≡ false) → are_before_done [] x p zs ≡ true
@@ -172,7 +151,7 @@ c_first f c d all m s o = (
 )
 
 covers_more : (c : ℕ) (all l : List ℕ) → ((x : ℕ) → has all x ≡ true → has l x ≡ true) → (x : ℕ) → has (c ∷ all) x ≡ true → has (c ∷ l) x ≡ true
-covers_more c all l h x a = or_or (c == x) (has all x) (has l x) a (λ e. h x e)
+covers_more c all l h x a = kept_or (c == x) (has all x) (has l x) a (λ e. h x e)
 
 -- the class before the list of its superclass
 pub one_superclass : (f : Supers) (c d : ℕ) (all l : List ℕ) → IsFamily f d all → f c ≡ d ∷ [] → has all c ≡ false → IsPrecedenceList f all l → IsPrecedenceList f (c ∷ all) (c ∷ l)

@@ -9,7 +9,8 @@ use Rattle.clos_class.specs.Classes.{Classes, Listing, lacking, broken, listed, 
 use Rattle.clos_class.specs.declared.kept.Kept.{Kept}
 use Rattle.clos_class.specs.PrecedenceView.{listing_at}
 use Rattle.clos_class.specs.Kept.{Knows, More, without}
-use Rattle.clos_class.specs.Table.{superclass_cycle, misplaced, out_of_order, changed, changed_among, changed_if, is_other, is_other_if}
+use Rattle.clos_class.specs.Table.{superclass_cycle, misplaced, out_of_order, changed, changed_among, is_other}
+use Rattle.clos_class.specs.Finding.{is_other_if, changed_if}
 use Rattle.clos_class.proofs.Families.{listed_same}
 use Rattle.clos_class.proofs.Change.{is_kept}
 use Rattle.clos_class.proofs.Relisted.{new_is_above_none}

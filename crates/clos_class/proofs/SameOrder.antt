@@ -2,9 +2,9 @@
 use Rattle.std.proofs.Common.{◌≡◌, ℕ, zero, suc, true, List, [], ◌∷◌, Option, Some, None, length, refl, subst, ap}
 use Rattle.std.specs.Prelude.{if◌then◌else◌, option_map}
 use Rattle.clos_class.specs.Precedence.{Supers, has, is_free, first_left, if_free, next_above, are_done, if_all_done, with_first, in_turn, precedence_list, Upward}
+use Rattle.clos_class.proofs.Truth.{nothing}
 use Rattle.clos_class.proofs.Next.{Inside, Found, found as next_is, inside_more}
 use Rattle.clos_class.proofs.Members.{has_first, has_later}
-use Rattle.clos_class.proofs.InTurn.{nothing}
 
 -- these have the same superclasses by both
 abbrev pub Agree : Supers → Supers → List ℕ → Type 0

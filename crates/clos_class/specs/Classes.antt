@@ -95,17 +95,6 @@ list_in lacking = []
 list_in broken = []
 list_in (listed l) = l
 
-abbrev pub any_lacking : (ℕ → Listing) → List ℕ → Bool
-any_lacking of xs = list_any (λ x. is_lacking (of x)) xs
-
-abbrev pub any_broken : (ℕ → Listing) → List ℕ → Bool
-any_broken of xs = list_any (λ x. is_broken (of x)) xs
-
--- the lists of these, one after another
-abbrev pub together : (ℕ → Listing) → List ℕ → List ℕ
-together of [] = []
-together of (x ∷ xs) = list_in (of x) ++ together of xs
-
 abbrev pub listed_if : Option (List ℕ) → Listing
 listed_if None = broken
 listed_if (Some l) = listed l

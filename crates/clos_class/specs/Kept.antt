@@ -4,8 +4,9 @@ use Rattle.std.specs.declared.alloc.Global.{Global}
 use Rattle.std.specs.declared.vec.Vec.{Vec}
 use Rattle.lisp_data.specs.Name.{Nam}
 use Rattle.clos_class.specs.declared.kept.Kept.{Kept}
-use Rattle.clos_class.specs.Precedence.{has, IsFamily}
-use Rattle.clos_class.specs.Classes.{Classes, Listing, lacking, broken, listed, found, superclasses, is_based, is_lacking, listing_within, listing, named, names_above}
+use Rattle.clos_class.specs.Precedence.{has}
+use Rattle.clos_class.specs.Classes.{Classes, Listing, lacking, broken, listed, found, superclasses, is_lacking, is_broken, listing_within, listing, named, names_above}
+use Rattle.clos_class.specs.Ways.{IsSuperclass, IsWhole}
 use Rattle.clos_class.specs.PrecedenceView.{listing_of, listing_at, kept_above, kept_at}
 
 -- what the classes were before this one came last, or got these direct superclasses in place of others
@@ -20,11 +21,6 @@ More a b = (a ≡ lacking) ⊎ (a ≡ b)
 -- more is found than is said
 abbrev pub Sound : Classes → (ℕ → Listing) → Type 0
 Sound cs of = (n : ℕ) → More (of n) (found cs of n)
-
--- these are a class and its superclasses, and all their direct superclasses are defined
-pub record IsWhole (cs : Classes) (n : ℕ) (l : List ℕ) : Type 0 where
-  pub family : IsFamily (superclasses cs) n l
-  pub based : (x : ℕ) → has l x ≡ true → is_based cs x ≡ true
 
 abbrev pub AreWhole : Classes → (ℕ → Listing) → Type 0
 AreWhole cs of = (n : ℕ) (l : List ℕ) → of n ≡ listed l → IsWhole cs n l
@@ -63,6 +59,11 @@ pub record Knows (cs : Classes) (ks : List Kept) : Type 0 where
   pub keeps : Keeps cs ks
   pub same : (n : ℕ) → listing_at ks n ≡ listing cs n
   pub length : length ks ≡ length cs.names
+
+-- no class is its own superclass, and of none it is said that there is no list
+pub record IsConsistent (cs : Classes) : Type 0 where
+  pub no_circle : (n : ℕ) → IsSuperclass cs n n → ⊥
+  pub no_broken : (n : ℕ) → is_broken (listing cs n) ≡ false
 
 -- ---- on the way there
 
@@ -120,4 +121,5 @@ RestartsBelow c old new place =
 pub record Changes (cs to : Classes) (c : ℕ) : Type 0 where
   pub rows : (k : ℕ) → (c == k) ≡ false → names_above to k ≡ names_above cs k
   pub numbers : (x : Nam) (i : ℕ) → named cs x ≡ Some i → named to x ≡ Some i
+  pub others : (x : Nam) (i : ℕ) → named to x ≡ Some i → (c == i) ≡ false → named cs x ≡ Some i
   pub more : length cs.names ≤ length to.names

@@ -99,18 +99,5 @@ abbrev pub changed_among : ℕ → (ℕ → Listing) → (ℕ → Listing) → L
 changed_among zero of to = []
 changed_among (suc n) of to = changed_among n of to ++ (if is_other (of n) (to n) then n ∷ [] else [])
 
--- the same, where it is known that of a list none becomes another, if that is so
-abbrev pub is_other_if : Bool → Listing → Listing → Bool
-is_other_if true (listed l) (listed m) = false
-is_other_if true (listed l) lacking = true
-is_other_if true (listed l) broken = true
-is_other_if true lacking b = is_other lacking b
-is_other_if true broken b = is_other broken b
-is_other_if false a b = is_other a b
-
-abbrev pub changed_if : Bool → ℕ → (ℕ → Listing) → (ℕ → Listing) → List ℕ
-changed_if stay zero of to = []
-changed_if stay (suc n) of to = changed_if stay n of to ++ (if is_other_if stay (of n) (to n) then n ∷ [] else [])
-
 abbrev pub changed : Classes → Classes → List ℕ
 changed cs to = changed_among (length to.names) (λ n. listing cs n) (λ n. listing to n)

@@ -4,7 +4,7 @@ use Rattle.clos_class.specs.declared.fault.ClassFault.{ClassFault}
 use Rattle.clos_class.specs.declared.fault.ClassFault.TheVariants.{ProgramError, TableLimit, InvalidSuperclass, SuperclassCycle, IncompleteClass, InconsistentPrecedence, Memory}
 use Rattle.clos_class.specs.Precedence.{IsPrecedenceList, IsFamily, Circle}
 use Rattle.clos_class.specs.Classes.{Classes, superclasses}
-use Rattle.clos_class.specs.Kept.{IsWhole}
+use Rattle.clos_class.specs.Ways.{IsWhole}
 use Rattle.clos_class.specs.Table.{Refusal, program_error, table_limit, invalid_superclass, superclass_cycle, incomplete_class, inconsistent_precedence}
 
 -- the fault tells this refusal, or that memory was refused

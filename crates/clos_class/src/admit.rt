@@ -1,7 +1,7 @@
 //! One more class among the others.
 ghost use Rattle.std.specs.Prelude.{◌≡◌, ◌<◌, ◌≤◌, ◌&&◌, ◌||◌, not, None, IfOk, IfErr, OnOk, OnErr, length};
 ghost use Rattle.clos_class.specs.Classes.{number_of, with_class, is_lacking, listing};
-ghost use Rattle.clos_class.specs.Kept.{Knows, WasBefore};
+ghost use Rattle.clos_class.specs.Kept.{IsConsistent, Knows, WasBefore};
 ghost use Rattle.clos_class.specs.PrecedenceView.{numbers, listing_at};
 ghost use Rattle.clos_class.specs.Table.{misplaced, changed};
 ghost use Rattle.clos_class.specs.TableView.{Refuses};
@@ -44,6 +44,7 @@ fn put_and_place(
     ensures before { IfOk result (λ r. WasBefore r.put.replaced definitions.old definitions.new r.put.class.0 name.now above.items) }
     ensures knows { IfOk result (λ r. Knows definitions.old kept.now → Knows definitions.new r.placed.kept.items) }
     ensures well { OnOk result (Knows definitions.old kept.now → misplaced definitions.new (number_of definitions.old name.now) name.now (has_shared_slots || not (is_lacking (listing definitions.old (number_of definitions.old name.now)))) ≡ None) }
+    ensures consistent { OnOk result (Knows definitions.old kept.now → IsConsistent definitions.old → IsConsistent definitions.new) }
     ensures changed { IfOk result (λ r. Knows definitions.old kept.now → numbers r.placed.changed.items ≡ changed definitions.old definitions.new) }
     ensures err { OnErr result (definitions.new ≡ definitions.old) }
     ensures fault { IfErr result (λ e. Knows definitions.old kept.now → Refuses e (misplaced (with_class definitions.old name.now above.items) (number_of definitions.old name.now) name.now (has_shared_slots || not (is_lacking (listing definitions.old (number_of definitions.old name.now)))))) }
@@ -81,6 +82,7 @@ pub fn admit(
     ensures class { IfOk result (λ r. r.class.0 ≡ number_of definitions.old name.now) }
     ensures knows { OnOk result (Knows definitions.old kept.old.items → Knows definitions.new kept.new.items) }
     ensures well { OnOk result (Knows definitions.old kept.old.items → misplaced definitions.new (number_of definitions.old name.now) name.now (has_shared_slots || not (is_lacking (listing definitions.old (number_of definitions.old name.now)))) ≡ None) }
+    ensures consistent { OnOk result (Knows definitions.old kept.old.items → IsConsistent definitions.old → IsConsistent definitions.new) }
     ensures changed { IfOk result (λ r. Knows definitions.old kept.old.items → numbers r.lists.items ≡ changed definitions.old definitions.new) }
     ensures err { OnErr result (definitions.new ≡ definitions.old) }
     ensures same { OnErr result (kept.new.items ≡ kept.old.items) }

@@ -1,6 +1,7 @@
 //! How what is kept of a class is found from what is kept of its superclasses.
 ghost use Rattle.std.specs.Prelude.{◌≡◌, ◌++◌, ◌∷◌, [], IfOk, IfSome, OnOk, option_map, true};
-ghost use Rattle.clos_class.specs.Classes.{Classes, found, is_based, superclasses, all_above, in_order, is_lacking, is_broken, any_lacking, any_broken, together, list_in, listed_if, listed};
+ghost use Rattle.clos_class.specs.Classes.{Classes, found, is_based, superclasses, all_above, in_order, is_lacking, is_broken, list_in, listed_if, listed};
+ghost use Rattle.clos_class.specs.Finding.{any_lacking, any_broken, together};
 ghost use Rattle.clos_class.specs.Precedence.{precedence_list};
 ghost use Rattle.clos_class.specs.Kept.{Keeps, IsAbove, IsSingle};
 ghost use Rattle.clos_class.specs.Table.{list_if};

@@ -8,6 +8,7 @@ mod fault;
 mod fill;
 mod find;
 mod kept;
+pub mod laws;
 mod names;
 pub mod numbers;
 mod place;

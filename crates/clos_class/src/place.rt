@@ -4,7 +4,8 @@ ghost use Rattle.lisp_data.specs.Name.{Nam};
 ghost use Rattle.clos_class.specs.Classes.{Classes, is_lacking, is_broken, is_circular, listing};
 ghost use Rattle.clos_class.specs.Kept.{Changes, Knows};
 ghost use Rattle.clos_class.specs.PrecedenceView.{numbers, listing_at};
-ghost use Rattle.clos_class.specs.Table.{misplaced, out_of_order, broken_from, is_other_if, changed_if, changed};
+ghost use Rattle.clos_class.specs.Table.{misplaced, out_of_order, broken_from, changed};
+ghost use Rattle.clos_class.specs.Finding.{is_other_if, changed_if};
 ghost use Rattle.std.specs.Str.{bytes_eq};
 ghost use Rattle.clos_class.specs.TableView.{Refuses};
 

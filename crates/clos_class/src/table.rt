@@ -1,11 +1,12 @@
 //! A session's table of classes (HyperSpec 4.3).
-ghost use Rattle.std.specs.Prelude.{◌≡◌, ℕ, None, IfOk, IfErr, IfSome, OnOk, OnErr, length, option_map, option_copied, slice_get};
+ghost use Rattle.std.specs.Prelude.{◌≡◌, ◌↔◌, ℕ, None, true, IfOk, IfErr, IfSome, IsNone, OnOk, OnErr, length, option_map, option_copied, slice_get};
 ghost use Rattle.clos_class.specs.Classes.{named, number_of, with_class, listing, broken, list_in};
 ghost use Rattle.clos_class.specs.Precedence.{has};
 ghost use Rattle.clos_class.specs.Initial.{initial, is_standard, class_of_class};
 ghost use Rattle.clos_class.specs.PrecedenceView.{numbers};
 ghost use Rattle.clos_class.specs.Table.{Table, refusal, or_standard, changed, list_if};
 ghost use Rattle.clos_class.specs.TableView.{Refuses, IsListOf, HasCircle};
+ghost use Rattle.clos_class.specs.Ways.{IsSuperclass, IsSelfOrAbove, IsIncomplete};
 
 use crate::admit::{Changed, admit, check_place};
 use crate::definitions::Definitions;
@@ -35,17 +36,18 @@ pub struct Classes {
 impl Model for Classes {
     ghost use Rattle.std.specs.Prelude.{length};
     ghost use Rattle.clos_class.specs.Table.{Table};
-    ghost use Rattle.clos_class.specs.Kept.{Knows};
+    ghost use Rattle.clos_class.specs.Kept.{IsConsistent, Knows};
 
     ghost Value = { Table };
 
     ghost view = { λ a. record { classes = a.definitions; predefined = a.predefined; limit = a.limit } };
 
-    ghost invariant = { λ a. Knows a.definitions a.kept.items };
+    ghost invariant = { λ a. Knows a.definitions a.kept.items × IsConsistent a.definitions };
 }
 
 impl Classes {
     /// The predefined classes (HyperSpec 4.3.7), and room for so many more.
+    #[tactic(auto, using(crate::proofs::Consistent::begins_consistent))]
     pub fn new(alloc: Global, limit: u64) -> Result<Classes, AllocError>
         ensures { IfOk result (λ r. r ≡ initial limit) }
     {
@@ -146,6 +148,9 @@ impl Classes {
     pub fn precedence(&self, class: ClassId) -> Option<&[ClassId]>
         ensures found { option_map (λ l. numbers l.now) result ≡ list_if (listing self.now.classes class.0) }
         ensures law { IfSome result (λ l. IsListOf self.now.classes class.0 (numbers l.now)) }
+        ensures members { IfSome result (λ l. (m : ℕ) → (has (numbers l.now) m ≡ true) ↔ IsSelfOrAbove self.now.classes class.0 m) }
+        ensures none { IsNone result ↔ IsIncomplete self.now.classes class.0 }
+        ensures no_circle { IsSuperclass self.now.classes class.0 class.0 → ⊥ }
     {
         listed(self.kept.as_slice(), class)
     }

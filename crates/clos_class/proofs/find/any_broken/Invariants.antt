@@ -1,5 +1,5 @@
 use Rattle.std.proofs.Common.{◌≡◌, length}
-use Rattle.clos_class.specs.Classes.{any_broken}
+use Rattle.clos_class.specs.Finding.{any_broken}
 use Rattle.clos_class.specs.PrecedenceView.{numbers, listing_at}
 use Rattle.clos_class.proofs.find.any_broken.Given as goal
 

@@ -1,5 +1,5 @@
 use Rattle.std.proofs.Common.{◌≡◌, length}
-use Rattle.clos_class.specs.Classes.{any_lacking}
+use Rattle.clos_class.specs.Finding.{any_lacking}
 use Rattle.clos_class.specs.PrecedenceView.{numbers, listing_at}
 use Rattle.clos_class.proofs.find.any_lacking.Given as goal
 

@@ -1,5 +1,5 @@
 use Rattle.std.proofs.Common.{◌≡◌, ◌++◌, ◌∷◌, length}
-use Rattle.clos_class.specs.Classes.{together}
+use Rattle.clos_class.specs.Finding.{together}
 use Rattle.clos_class.specs.PrecedenceView.{numbers, listing_at}
 use Rattle.clos_class.proofs.find.family.Given as goal
 

@@ -1,6 +1,6 @@
 use Rattle.std.proofs.Common.{◌≡◌, ◌-◌, ◌≤◌, length}
 use Rattle.clos_class.specs.PrecedenceView.{numbers, listing_at}
-use Rattle.clos_class.specs.Table.{changed_if}
+use Rattle.clos_class.specs.Finding.{changed_if}
 use Rattle.clos_class.proofs.place.changed.Given as goal
 
 abbrev pub invariant-loop-place : goal.invariant-loop-place

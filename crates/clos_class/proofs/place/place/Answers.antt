@@ -1,6 +1,6 @@
 use Rattle.std.proofs.Common.{◌≡◌, length, subst, ◌∙◌}
 use Rattle.clos_class.specs.PrecedenceView.{numbers, listing_at}
-use Rattle.clos_class.specs.Table.{changed_if}
+use Rattle.clos_class.specs.Finding.{changed_if}
 use Rattle.clos_class.proofs.Placing.{changed_is}
 use Rattle.clos_class.proofs.place.place.Goals as goal
 
