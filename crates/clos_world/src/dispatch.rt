@@ -86,15 +86,16 @@ fn all_listed(lists: &PrecedenceLists<'_>, specializers: &ClassIds) -> bool
 fn earlier(list: &[ClassId], a: ClassId, b: ClassId) -> bool
     ensures { result ≡ stands_before (numbers list.now) a.0 b.0 }
 {
-    let mut left = list;
-    while let Some((class, others)) = left.split_first() {
+    let mut place = 0;
+    while place < list.len() {
+        let class = list[place];
         if class.0 == a.0 {
             return true;
         }
         if class.0 == b.0 {
             return false;
         }
-        left = others;
+        place += 1;
     }
     false
 }

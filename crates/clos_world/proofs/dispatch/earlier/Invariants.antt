@@ -1,10 +1,10 @@
-use Rattle.std.proofs.Common.{◌≡◌, length}
+use Rattle.std.proofs.Common.{◌≡◌, ◌≤◌, ◌-◌, drop, length}
 use Rattle.clos_class.specs.PrecedenceView.{numbers}
 use Rattle.clos_world.specs.Generic.{stands_before}
 use Rattle.clos_world.proofs.dispatch.earlier.Given as goal
 
-abbrev pub invariant-loop-class : goal.invariant-loop-class
-invariant-loop-class l = stands_before (numbers l.left) l.fn.a.0 l.fn.b.0 ≡ stands_before (numbers l.fn.list) l.fn.a.0 l.fn.b.0
+abbrev pub invariant-loop-place : goal.invariant-loop-place
+invariant-loop-place l = (l.place ≤ length l.list) × (stands_before (numbers (drop l.place l.list)) l.a.0 l.b.0 ≡ stands_before (numbers l.list) l.a.0 l.b.0)
 
-abbrev pub decreases-loop-class : goal.decreases-loop-class
-decreases-loop-class l = length l.left
+abbrev pub decreases-loop-place : goal.decreases-loop-place
+decreases-loop-place l = length l.list - l.place
