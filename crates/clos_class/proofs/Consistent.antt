@@ -5,18 +5,18 @@ use Rattle.std.specs.List.{list_all}
 use Rattle.std.proofs.lemmas.Bool.{eqb-true, eqb-false, eq-eqb, ltb-true}
 use Rattle.lisp_data.specs.Name.{Nam}
 use Rattle.clos_class.specs.Precedence.{has}
-use Rattle.clos_class.specs.Classes.{Classes, Listing, lacking, broken, listed, named, number_of, with_class, defined, names_above, superclasses, is_based, is_circular, is_lacking, is_broken, listing}
+use Rattle.clos_class.specs.Classes.{Classes, Listing, lacking, broken, listed, named, number_of, with_class, defined, names_above, superclasses, is_based, is_circular, is_lacking, is_broken, list_in, listing}
 use Rattle.clos_class.specs.declared.kept.Kept.{Kept}
 use Rattle.clos_class.specs.PrecedenceView.{listing_at}
 use Rattle.clos_class.specs.Kept.{Changes, Knows, IsConsistent}
 use Rattle.clos_class.specs.Table.{Refusal, superclass_cycle, incomplete_class, inconsistent_precedence, when, or_else, broken_from, out_of_order, misplaced, list_if}
 use Rattle.clos_class.specs.Initial.{predefined}
-use Rattle.clos_class.specs.Ways.{Series, IsSuperclass, IsSelfOrAbove, IsIncomplete, HasNoBase}
+use Rattle.clos_class.specs.Ways.{Series, IsSuperclass, IsSelfOrAbove, IsComplete, IsIncomplete, HasNoBase}
 use Rattle.clos_class.proofs.Truth.{and_left, and_right, neither, nothing}
 use Rattle.clos_class.proofs.Members.{has_first, first_or_later, in_first, in_second, in_either, below, is_below}
 use Rattle.clos_class.proofs.Ways.{one_of, end_below, is_circle}
 use Rattle.clos_class.proofs.Lacking.{no_base, up_to, finds_lacking}
-use Rattle.clos_class.proofs.Superclasses.{members}
+use Rattle.clos_class.proofs.Superclasses.{members, whole_list}
 use Rattle.clos_class.proofs.Admitted.{changed_by}
 
 -- ---- what is not refused
@@ -191,3 +191,24 @@ pub members_told : {A : Type 0} (cs : Classes) (ks : List Kept) (n : ℕ) (o : O
 members_told cs ks n o f k e =
     some_by o f (list_if (listing_at ks n)) (λ x. (m : ℕ) → (has (f x) m ≡ true) ↔ IsSelfOrAbove cs n m) e
     (λ x h. members cs n (f x) (listed_by cs n (listing cs n) (f x) refl (subst (λ v. Some (f x) ≡ list_if v) (k.same n) h)))
+
+-- ---- a class below another
+
+not_both : {A : Type 0} (cs : Classes) (n m : ℕ) → IsConsistent cs → IsComplete cs n → IsSelfOrAbove cs n m → HasNoBase cs m → A
+not_both cs n m c w s (inl h) = let p : is_based cs m ≡ true = w m s in cc
+not_both cs n m c w s (inr q) = absurd (c.no_circle m q)
+
+lacks_none : {A : Type 0} (cs : Classes) (n : ℕ) → IsConsistent cs → IsComplete cs n → listing cs n ≡ lacking → A
+lacks_none cs n c w h =
+    let q : (m : ℕ) × IsSelfOrAbove cs n m × HasNoBase cs m = (finds_lacking cs n).0 h in not_both cs n q.0 c w q.1 q.2
+
+below_by : (cs : Classes) (n a : ℕ) (r : Bool) (x : Listing) → IsConsistent cs → listing cs n ≡ x → r ≡ has (list_in x) a → (r ≡ true) ↔ (IsComplete cs n × IsSelfOrAbove cs n a)
+below_by cs n a r lacking c e h = (λ i. cc, λ q. lacks_none cs n c q.0 e)
+below_by cs n a r broken c e h = (λ i. cc, λ q. let p : is_broken (listing cs n) ≡ false = c.no_broken n in cc)
+below_by cs n a r (listed l) c e h = (
+  λ i. ((λ m s. (whole_list cs n l e).based m ((members cs n l e m).1 s)), (members cs n l e a).0 (sym h ∙ i)),
+  λ q. h ∙ (members cs n l e a).1 q.1,
+)
+
+pub below_told : (cs : Classes) (ks : List Kept) (n a : ℕ) (r : Bool) → Knows cs ks → IsConsistent cs → r ≡ has (list_in (listing_at ks n)) a → (r ≡ true) ↔ (IsComplete cs n × IsSelfOrAbove cs n a)
+below_told cs ks n a r k c h = below_by cs n a r (listing cs n) c refl (h ∙ ap (λ v. has (list_in v) a) (k.same n))

@@ -38,3 +38,6 @@ above_by cs n l m w (inr s) = up cs n l n s.0 m w w.family.self s.1
 pub members : (cs : Classes) (n : ℕ) (l : List ℕ) → listing cs n ≡ listed l → (m : ℕ) → (has l m ≡ true) ↔ IsSelfOrAbove cs n m
 members cs n l h m =
     (member cs (length cs.names + length cs.names) n l m h, above_by cs n l m (rounds_whole cs (length cs.names + length cs.names) n l h))
+
+pub whole_list : (cs : Classes) (n : ℕ) (l : List ℕ) → listing cs n ≡ listed l → IsWhole cs n l
+whole_list cs n l h = rounds_whole cs (length cs.names + length cs.names) n l h

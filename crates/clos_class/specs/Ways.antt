@@ -21,6 +21,10 @@ pub record IsWhole (cs : Classes) (n : ℕ) (l : List ℕ) : Type 0 where
   pub family : IsFamily (superclasses cs) n l
   pub based : (x : ℕ) → has l x ≡ true → is_based cs x ≡ true
 
+-- it and all its superclasses are classes whose direct superclasses are all defined
+abbrev pub IsComplete : Classes → ℕ → Type 0
+IsComplete cs n = (m : ℕ) → IsSelfOrAbove cs n m → is_based cs m ≡ true
+
 -- it or one of its superclasses is no class, or has a direct superclass that is not defined
 abbrev pub IsIncomplete : Classes → ℕ → Type 0
 IsIncomplete cs n = (m : ℕ) × IsSelfOrAbove cs n m × (is_based cs m ≡ false)

@@ -1,12 +1,12 @@
 //! A session's table of classes (HyperSpec 4.3).
-ghost use Rattle.std.specs.Prelude.{◌≡◌, ◌↔◌, ℕ, None, true, IfOk, IfErr, IfSome, IsNone, OnOk, OnErr, length, option_map, option_copied, slice_get};
+ghost use Rattle.std.specs.Prelude.{◌≡◌, ◌↔◌, ℕ, None, true, IfOk, IfErr, IfSome, IsNone, IsTrue, OnOk, OnErr, length, option_map, option_copied, slice_get};
 ghost use Rattle.clos_class.specs.Classes.{named, number_of, with_class, listing, broken, list_in};
 ghost use Rattle.clos_class.specs.Precedence.{has};
 ghost use Rattle.clos_class.specs.Initial.{initial, is_standard, class_of_class};
 ghost use Rattle.clos_class.specs.PrecedenceView.{numbers};
 ghost use Rattle.clos_class.specs.Table.{Table, refusal, or_standard, changed, list_if};
 ghost use Rattle.clos_class.specs.TableView.{Refuses, IsListOf, HasCircle};
-ghost use Rattle.clos_class.specs.Ways.{IsSuperclass, IsSelfOrAbove, IsIncomplete};
+ghost use Rattle.clos_class.specs.Ways.{IsSuperclass, IsSelfOrAbove, IsComplete, IsIncomplete};
 
 use crate::admit::{Changed, admit, check_place};
 use crate::definitions::Definitions;
@@ -164,7 +164,8 @@ impl Classes {
 
     /// Whether a class that has a class precedence list is this other one, or below it.
     pub fn is_sub(&self, class: ClassId, above: ClassId) -> bool
-        ensures { result ≡ has (list_in (listing self.now.classes class.0)) above.0 }
+        ensures found { result ≡ has (list_in (listing self.now.classes class.0)) above.0 }
+        ensures law { IsTrue result ↔ (IsComplete self.now.classes class.0 × IsSelfOrAbove self.now.classes class.0 above.0) }
     {
         contains(list_of(self.kept.as_slice(), class), above)
     }
