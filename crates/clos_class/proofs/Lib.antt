@@ -15,6 +15,7 @@ pub mod Families
 pub mod Enough
 pub mod SameOrder
 pub mod Change
+pub mod Marking
 pub mod OneMore
 pub mod Defined
 pub mod Found
@@ -27,6 +28,7 @@ pub mod Placing
 pub mod Admitted
 pub mod Turned
 pub mod Single
+pub mod SameFamily
 pub mod NoListing
 pub mod Listed
 pub mod Numbered
