@@ -18,6 +18,7 @@ pub mod Change
 pub mod Marking
 pub mod OneMore
 pub mod Defined
+pub mod Twice
 pub mod Found
 pub mod Filling
 pub mod Circular

@@ -1,22 +1,22 @@
 -- A class precedence list does not depend on how its family is listed.
-use Rattle.std.proofs.Common.{◌≡◌, ℕ, ◌==◌, Bool, true, false, List, [], ◌∷◌, ◌++◌, Option, Some, None, inl, inr, length, reverse, arith, refl, sym, subst, ap, ◌∙◌}
+use Rattle.std.proofs.Common.{◌≡◌, ℕ, ◌==◌, Bool, true, false, List, [], ◌∷◌, Option, Some, None, inl, inr, length, reverse, arith, refl, sym, subst, ap, ◌∙◌}
 use Rattle.std.specs.Prelude.{◌||◌, ◌⊎◌}
-use Rattle.std.proofs.lemmas.Bool.{eqb-true, eq-eqb}
+use Rattle.std.proofs.lemmas.Bool.{eqb-true}
 use Rattle.lisp_data.specs.declared.ids.ClassId.{ClassId}
-use Rattle.clos_class.specs.Precedence.{Supers, has, are_before_done, is_free, Next, InTurn, IsPrecedenceList, precedence_list, Below, IsFamily, Tells}
+use Rattle.clos_class.specs.Precedence.{Supers, has, are_before_done, is_free, Next, InTurn, IsPrecedenceList, precedence_list, IsFamily, Tells}
 use Rattle.clos_class.specs.Classes.{Classes, Listing, lacking, broken, listed, all_above, listed_if, in_order, found, superclasses, is_based}
 use Rattle.clos_class.specs.Finding.{any_lacking, any_broken, together}
 use Rattle.clos_class.specs.declared.kept.Kept.{Kept}
 use Rattle.clos_class.specs.PrecedenceView.{numbers, listing_at, above_by}
 use Rattle.clos_class.specs.Kept.{Keeps}
-use Rattle.clos_class.proofs.Truth.{both, or_left, or_right}
+use Rattle.clos_class.proofs.Truth.{both}
 use Rattle.clos_class.proofs.Lists.{or_false, reversed_any}
 use Rattle.clos_class.proofs.Members.{has_first, has_later, first_or_later}
 use Rattle.clos_class.proofs.Next.{free_at}
 use Rattle.clos_class.proofs.OnPrecedence.{tells}
 use Rattle.clos_class.proofs.SameOrder.{same_order}
 use Rattle.clos_class.proofs.Families.{over_all}
-use Rattle.clos_class.proofs.Circular.{Same, same_truth, both_or, has_both}
+use Rattle.clos_class.proofs.Circular.{Same, same_truth}
 use Rattle.clos_class.proofs.Found.{some_lack, some_broken, all_are, agree_by, found_based}
 use Rattle.clos_class.proofs.Single.{over_based}
 

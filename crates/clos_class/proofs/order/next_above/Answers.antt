@@ -1,4 +1,4 @@
-use Rattle.std.proofs.Common.{◌≡◌, ◌∷◌, [], Some, None, refl, ap, sym, ◌∙◌}
+use Rattle.std.proofs.Common.{◌∙◌}
 use Rattle.clos_class.specs.PrecedenceView.{above_in}
 use Rattle.clos_class.proofs.Lists.{one_above, none_above}
 use Rattle.clos_class.proofs.order.next_above.Goals as goal

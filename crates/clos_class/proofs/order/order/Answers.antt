@@ -1,4 +1,4 @@
-use Rattle.std.proofs.Common.{◌++◌, ◌∷◌, ◌-◌, option_map, reverse, ap, sym, arith, ◌∙◌}
+use Rattle.std.proofs.Common.{◌++◌, ◌-◌, option_map, reverse, ap, sym, arith, ◌∙◌}
 use Rattle.clos_class.specs.Precedence.{in_turn}
 use Rattle.clos_class.specs.PrecedenceView.{numbers, above_in}
 use Rattle.clos_class.proofs.Lists.{one_turn, no_turn}
