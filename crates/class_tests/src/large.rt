@@ -15,6 +15,8 @@ enum Shape {
     Fan,
     /// The four of the level above it.
     Lattice,
+    /// All that were defined before it.
+    Full,
 }
 
 impl Shape {
@@ -23,6 +25,7 @@ impl Shape {
             Shape::Chain => place.saturating_sub(1)..place,
             Shape::Fan => 0..place.min(1),
             Shape::Lattice => (place & !3).saturating_sub(4)..place & !3,
+            Shape::Full => 0..place,
         }
     }
 }
@@ -32,9 +35,10 @@ fn name(alloc: Global, place: u64) -> Result<Name, AllocError> {
     Ok(Name::new(Text::new(text)?, false))
 }
 
+/// The names of the classes of these places, the latest first.
 fn names(alloc: Global, places: Range<u64>) -> Result<Vec<Name>, AllocError> {
     let mut names = Vec::new(alloc);
-    for place in places {
+    for place in places.rev() {
         names.push(name(alloc, place)?)?;
     }
     Ok(names)
@@ -89,5 +93,11 @@ fn a_wide_fan(rt: HostRuntime) -> Result<(), Fail> {
 #[test]
 fn a_full_lattice(rt: HostRuntime) -> Result<(), Fail> {
     assert_eq!(rt; figures(rt.alloc(), Shape::Lattice, 48)?, (45, 48));
+    Ok(())
+}
+
+#[test]
+fn all_below_all_before(rt: HostRuntime) -> Result<(), Fail> {
+    assert_eq!(rt; figures(rt.alloc(), Shape::Full, 200)?, (200, 203));
     Ok(())
 }

@@ -57,7 +57,7 @@ kept_by ks n k xs ys false e r h = cc
 own_by : (ks : List Kept) (n : ℕ) (xs : List ℕ) → above_by ks n xs n ≡ xs
 own_by ks n xs = let p : (n == n) ≡ true = eq-eqb n n refl in cc
 
-agree_by : (cs : Classes) (ks : List Kept) (n k : ℕ) (above : List ℕ) → Keeps cs ks → all_above (listing_at ks) (superclasses cs n) ≡ listed above → (n ≡ k) ⊎ (has above k ≡ true)
+pub agree_by : (cs : Classes) (ks : List Kept) (n k : ℕ) (above : List ℕ) → Keeps cs ks → all_above (listing_at ks) (superclasses cs n) ≡ listed above → (n ≡ k) ⊎ (has above k ≡ true)
     → superclasses cs k ≡ above_by ks n (superclasses cs n) k
 agree_by cs ks n k above m h (inl e) = subst (λ v. superclasses cs v ≡ above_by ks n (superclasses cs n) v) e (sym (own_by ks n (superclasses cs n)))
 agree_by cs ks n k above m h (inr g) =
@@ -73,7 +73,7 @@ ordered_same cs ks n (listed above) m b h =
     let g : IsFamily (superclasses cs) n (n ∷ above) = over_all cs (listing_at ks) n above m.whole h in
     ap listed_if (sym (same_order (superclasses cs) (above_by ks n (superclasses cs n)) n (n ∷ above) (λ k i. agree_by cs ks n k above m h (first_or_later n k above i)) g.upward g.self))
 
-found_based : (cs : Classes) (of : ℕ → Listing) (n : ℕ) (a : Listing) → is_based cs n ≡ true → a ≡ in_order (superclasses cs) n (all_above of (superclasses cs n)) → a ≡ found cs of n
+pub found_based : (cs : Classes) (of : ℕ → Listing) (n : ℕ) (a : Listing) → is_based cs n ≡ true → a ≡ in_order (superclasses cs) n (all_above of (superclasses cs n)) → a ≡ found cs of n
 found_based cs of n a b e = cc
 
 -- what is found by the superclasses that are kept is what the definitions say

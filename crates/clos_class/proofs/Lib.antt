@@ -15,8 +15,10 @@ pub mod Families
 pub mod Enough
 pub mod SameOrder
 pub mod Change
+pub mod Marking
 pub mod OneMore
 pub mod Defined
+pub mod Twice
 pub mod Found
 pub mod Filling
 pub mod Circular
@@ -27,6 +29,7 @@ pub mod Placing
 pub mod Admitted
 pub mod Turned
 pub mod Single
+pub mod SameFamily
 pub mod NoListing
 pub mod Listed
 pub mod Numbered

@@ -1,9 +1,9 @@
 -- Lists of classes, the latest first.
-use Rattle.std.proofs.Common.{◌≡◌, ℕ, suc, ◌==◌, Option, Some, None, option_map, Bool, true, false, List, [], ◌∷◌, ◌++◌, ◌||◌, reverse, refl, ap, sym, ◌∙◌}
+use Rattle.std.proofs.Common.{◌≡◌, ℕ, zero, suc, ◌==◌, Option, Some, None, option_map, Bool, true, false, List, [], ◌∷◌, ◌++◌, ◌||◌, reverse, append_assoc, length, arith, refl, ap, sym, ◌∙◌}
 use Rattle.std.specs.List.{list_any}
 use Rattle.std.proofs.lemmas.List.{map-append, reverse-append}
 use Rattle.lisp_data.specs.declared.ids.ClassId.{ClassId}
-use Rattle.clos_class.specs.Precedence.{Supers, has, next_above, are_done, if_all_done, with_first, in_turn}
+use Rattle.clos_class.specs.Precedence.{Supers, has, first_left, if_free, or_else, next_above, are_done, if_all_done, with_first, in_turn}
 use Rattle.clos_class.specs.PrecedenceView.{numbers, latest_first}
 
 pub or_false : (a : Bool) → (a || false) ≡ a
@@ -22,36 +22,40 @@ any_at_end p (y ∷ ys) x = ap (λ b. p y || b) (any_at_end p ys x) ∙ or_swapp
 pub latest : (cs : List ClassId) (c : ClassId) → latest_first (cs ++ c ∷ []) ≡ c.0 ∷ latest_first cs
 latest cs c = ap reverse (map-append (λ k. k.0) cs (c ∷ [])) ∙ reverse-append (numbers cs) (c.0 ∷ [])
 
-reversed_any : (p : ℕ → Bool) (xs : List ℕ) → list_any p (reverse xs) ≡ list_any p xs
+pub reversed_any : (p : ℕ → Bool) (xs : List ℕ) → list_any p (reverse xs) ≡ list_any p xs
 reversed_any p [] = refl
 reversed_any p (x ∷ xs) = ap (list_any p) (reverse-append (x ∷ []) xs) ∙ any_at_end p (reverse xs) x ∙ ap (λ b. p x || b) (reversed_any p xs)
 
-mapped_any : (p : ℕ → Bool) (cs : List ClassId) → list_any p (numbers cs) ≡ list_any (λ c. p c.0) cs
-mapped_any p [] = refl
-mapped_any p (c ∷ cs) = ap (λ b. p c.0 || b) (mapped_any p cs)
+put_first : (done : List ℕ) (x : ℕ) (xs : List ℕ) → reverse (x ∷ done) ++ xs ≡ reverse done ++ (x ∷ xs)
+put_first done x xs = ap (λ l. l ++ xs) (reverse-append (x ∷ []) done) ∙ append_assoc (reverse done) (x ∷ []) xs
 
-pub done_among : (cs : List ClassId) (x : ℕ) → list_any (λ c. c.0 == x) cs ≡ has (latest_first cs) x
-done_among cs x = sym (reversed_any (λ y. y == x) (numbers cs) ∙ mapped_any (λ y. y == x) cs)
-
-one_more : (cs : List ClassId) (c : ClassId) (xs : List ℕ) → numbers (cs ++ c ∷ []) ++ xs ≡ numbers cs ++ (c.0 ∷ xs)
-one_more [] c xs = refl
-one_more (d ∷ cs) c xs = ap (λ ys. d.0 ∷ ys) (one_more cs c xs)
-
-with_one_more : (cs : List ClassId) (c : ClassId) (o : Option (List ℕ))
-    → option_map (λ xs. numbers (cs ++ c ∷ []) ++ xs) o ≡ option_map (λ xs. numbers cs ++ xs) (option_map (λ xs. c.0 ∷ xs) o)
-with_one_more cs c None = refl
-with_one_more cs c (Some xs) = ap Some (one_more cs c xs)
+put_first_if : (done : List ℕ) (x : ℕ) (o : Option (List ℕ)) → option_map (λ xs. reverse (x ∷ done) ++ xs) o ≡ option_map (λ xs. reverse done ++ xs) (option_map (λ xs. x ∷ xs) o)
+put_first_if done x None = refl
+put_first_if done x (Some xs) = ap Some (put_first done x xs)
 
 -- one more class in its turn
-pub one_turn : (f : Supers) (all : List ℕ) (cs : List ClassId) (c : ClassId) (n m : ℕ) → n ≡ suc m → next_above f all (latest_first cs) (latest_first cs) ≡ Some c.0
-    → option_map (λ xs. numbers (cs ++ c ∷ []) ++ xs) (in_turn m f all (latest_first (cs ++ c ∷ [])))
-    ≡ option_map (λ xs. numbers cs ++ xs) (in_turn n f all (latest_first cs))
-one_turn f all cs c n m e h =
-    ap (λ ds. option_map (λ xs. numbers (cs ++ c ∷ []) ++ xs) (in_turn m f all ds)) (latest cs c)
-    ∙ with_one_more cs c (in_turn m f all (c.0 ∷ latest_first cs))
-    ∙ ap (option_map (λ xs. numbers cs ++ xs))
-    (sym (ap (λ k. in_turn k f all (latest_first cs)) e
-    ∙ ap (λ o. with_first o (if_all_done (are_done (latest_first cs) all)) (λ x. in_turn m f all (x ∷ latest_first cs))) h))
+pub one_turn : (f : Supers) (all done : List ℕ) (x n m : ℕ) → n ≡ suc m → next_above f all done done ≡ Some x
+    → option_map (λ xs. reverse (x ∷ done) ++ xs) (in_turn m f all (x ∷ done)) ≡ option_map (λ xs. reverse done ++ xs) (in_turn n f all done)
+one_turn f all done x n m e h =
+    put_first_if done x (in_turn m f all (x ∷ done))
+    ∙ ap (option_map (λ xs. reverse done ++ xs))
+    (sym (ap (λ k. in_turn k f all done) e ∙ ap (λ o. with_first o (if_all_done (are_done done all)) (λ y. in_turn m f all (y ∷ done))) h))
+
+-- the last turn
+pub no_turn : (f : Supers) (all done : List ℕ) (n : ℕ) → next_above f all done done ≡ None
+    → option_map (λ xs. reverse done ++ xs) (if_all_done (are_done done all)) ≡ option_map (λ xs. reverse done ++ xs) (in_turn n f all done)
+no_turn f all done zero h = refl
+no_turn f all done (suc n) h = ap (option_map (λ xs. reverse done ++ xs)) (sym (ap (λ o. with_first o (if_all_done (are_done done all)) (λ y. in_turn n f all (y ∷ done))) h))
+
+-- going back from the latest, one is found
+pub one_above : (f : Supers) (all done : List ℕ) (rest earlier : List ClassId) (latest_one : ClassId) (x : ℕ) → rest ≡ earlier ++ latest_one ∷ [] → Some x ≡ if_free f all done (first_left done (f latest_one.0))
+    → Some x ≡ next_above f all done (latest_first rest)
+one_above f all done rest earlier k x e h =
+    sym (ap (next_above f all done) (ap latest_first e ∙ latest earlier k) ∙ ap (λ o. or_else o (next_above f all done (latest_first earlier))) (sym h))
+
+pub none_above : (f : Supers) (all done : List ℕ) (rest : List ClassId) → length rest ≡ 0 → None ≡ next_above f all done (latest_first rest)
+none_above f all done [] h = refl
+none_above f all done (c ∷ rest) h = absurd (omega (arith, h))
 
 pub any_number : (cs : List ClassId) (x : ℕ) → list_any (λ c. c.0 == x) cs ≡ has (numbers cs) x
 any_number [] x = refl

@@ -8,3 +8,4 @@ pub mod Table
 pub mod TableView
 pub mod Initial
 pub mod Finding
+pub mod OrderView

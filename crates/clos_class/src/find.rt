@@ -1,8 +1,8 @@
 //! How what is kept of a class is found from what is kept of its superclasses.
-ghost use Rattle.std.specs.Prelude.{◌≡◌, ◌++◌, ◌∷◌, [], IfOk, IfSome, OnOk, option_map, true};
-ghost use Rattle.clos_class.specs.Classes.{Classes, found, is_based, superclasses, all_above, in_order, is_lacking, is_broken, list_in, listed_if, listed};
+ghost use Rattle.std.specs.Prelude.{◌≡◌, ◌||◌, ◌∷◌, ℕ, [], IfOk, IfSome, OnOk, option_map, true};
+ghost use Rattle.clos_class.specs.Classes.{Classes, found, is_based, superclasses, is_lacking, is_broken, list_in, listed_if, listed};
 ghost use Rattle.clos_class.specs.Finding.{any_lacking, any_broken, together};
-ghost use Rattle.clos_class.specs.Precedence.{precedence_list};
+ghost use Rattle.clos_class.specs.Precedence.{has, precedence_list};
 ghost use Rattle.clos_class.specs.Kept.{Keeps, IsAbove, IsSingle};
 ghost use Rattle.clos_class.specs.Table.{list_if};
 ghost use Rattle.clos_class.specs.PrecedenceView.{numbers, listing_of, listing_at, above_by};
@@ -10,6 +10,7 @@ ghost use Rattle.clos_class.specs.PrecedenceView.{numbers, listing_of, listing_a
 use crate::definitions::Definitions;
 use crate::kept::{Above, Kept, Line};
 use crate::precedence::{contains, precedence_list};
+use crate::seen::Seen;
 use lisp_data::ClassId;
 use std::alloc::{AllocError, Global};
 use std::rc::Rc;
@@ -78,23 +79,39 @@ pub fn listed(kept: &[Kept], class: ClassId) -> Option<&[ClassId]>
     }
 }
 
-/// A class before the lists of its direct superclasses, one after another.
+/// Adds those of these classes that are not there yet.
+#[tactic(auto, using(crate::proofs::SameFamily::added_there, crate::proofs::SameFamily::added_new))]
+fn add_all(family: &mut Seen, classes: &[ClassId]) -> Result<(), AllocError>
+    ensures { OnOk result ((x : ℕ) → has family.new x ≡ (has family.old x || has (numbers classes.now) x)) }
+{
+    let mut left = classes;
+    while let Some((class, others)) = left.split_first() {
+        if !family.has(*class) {
+            family.add(*class)?;
+        }
+        left = others;
+    }
+    Ok(())
+}
+
+/// A class and all in the lists of its direct superclasses, each once.
+#[tactic(auto, using(crate::proofs::SameFamily::reversed, crate::proofs::Circular::has_both, crate::proofs::Circular::both_or))]
 fn family(
     alloc: Global,
     kept: &[Kept],
     class: ClassId,
     superclasses: &[ClassId],
 ) -> Result<Vec<ClassId>, AllocError>
-    ensures { IfOk result (λ r. numbers r.items ≡ class.0 ∷ together (listing_at kept.now) (numbers superclasses.now)) }
+    ensures { IfOk result (λ r. (x : ℕ) → has (numbers r.items) x ≡ has (class.0 ∷ together (listing_at kept.now) (numbers superclasses.now)) x) }
 {
-    let mut family = Vec::new(alloc);
-    family.push(class)?;
+    let mut family = Seen::new(alloc);
+    family.add(class)?;
     let mut left = superclasses;
     while let Some((superclass, others)) = left.split_first() {
-        family.extend_from_slice(list_of(kept, *superclass))?;
+        add_all(&mut family, list_of(kept, *superclass))?;
         left = others;
     }
-    Ok(family)
+    Ok(family.into_list())
 }
 
 /// What is found of a class over its family.
@@ -123,24 +140,24 @@ fn line(
 }
 
 /// What is found of a class with these direct superclasses.
-#[tactic(auto, using(crate::proofs::Found::some_lack, crate::proofs::Found::some_broken, crate::proofs::Found::all_are))]
+#[tactic(auto, using(crate::proofs::SameFamily::lacking_based, crate::proofs::SameFamily::broken_based))]
 fn find_over(
     alloc: Global,
     kept: &[Kept],
     class: ClassId,
-    superclasses: Vec<ClassId>,
+    direct: Vec<ClassId>,
 ) -> Result<Kept, AllocError>
-    ensures found { IfOk result (λ r. listing_of r ≡ in_order (above_by kept.now class.0 (numbers superclasses.items)) class.0 (all_above (listing_at kept.now) (numbers superclasses.items))) }
-    ensures above { IfOk result (λ r. IsAbove r (numbers superclasses.items)) }
+    ensures found { IfOk result (λ r. (cs : Classes) → is_based cs class.0 ≡ true → numbers direct.items ≡ superclasses cs class.0 → Keeps cs kept.now → listing_of r ≡ found cs (listing_at kept.now) class.0) }
+    ensures above { IfOk result (λ r. IsAbove r (numbers direct.items)) }
 {
-    if any_lacking(kept, superclasses.as_slice()) {
+    if any_lacking(kept, direct.as_slice()) {
         return Ok(Kept::Lacking);
     }
-    if any_broken(kept, superclasses.as_slice()) {
+    if any_broken(kept, direct.as_slice()) {
         return Ok(Kept::Broken);
     }
-    let family = family(alloc, kept, class, superclasses.as_slice())?;
-    line(alloc, kept, class, superclasses, family.as_slice())
+    let family = family(alloc, kept, class, direct.as_slice())?;
+    line(alloc, kept, class, direct, family.as_slice())
 }
 
 /// What is found of a class with one direct superclass, which has a list that it is not in: the class before that list.

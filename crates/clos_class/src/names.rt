@@ -10,6 +10,7 @@ use crate::definitions::Definitions;
 use crate::fault::ClassFault;
 use lisp_data::Name;
 use std::alloc::{AllocError, Global};
+use std::collections::HashSet;
 
 const STANDARD_OBJECT: &str = "STANDARD-OBJECT";
 
@@ -31,24 +32,21 @@ fn is_standard(name: &Name) -> bool
     name.is(&Name::fixed(STANDARD_OBJECT))
 }
 
-fn is_among(names: &[Name], name: &Name) -> bool
-    ensures { result ≡ list_any (same_name name.now) names.now }
-{
-    names.iter().any(|other| name.is(other))
-}
-
 /// Whether a name stands twice.
-fn has_twice(names: &[Name]) -> bool
-    ensures { result ≡ has_twice names.now }
+#[tactic(auto, using(crate::proofs::Twice::none_seen))]
+fn has_twice(alloc: Global, names: &[Name]) -> Result<bool, AllocError>
+    ensures { IfOk result (λ r. r ≡ has_twice names.now) }
 {
+    let mut seen = HashSet::new(alloc);
     let mut left = names;
     while let Some((name, others)) = left.split_first() {
-        if is_among(others, name) {
-            return true;
+        let is_new = seen.insert(name.copy()?)?;
+        if !is_new {
+            return Ok(true);
         }
         left = others;
     }
-    false
+    Ok(false)
 }
 
 /// Whether a name is one of the predefined classes', of which there are so many.
@@ -86,6 +84,7 @@ fn is_full(definitions: &Definitions, predefined: u64, limit: u64, name: &Name) 
 
 /// Finds what is wrong with a definition by its names alone.
 pub fn check_names(
+    alloc: Global,
     definitions: &Definitions,
     predefined: u64,
     limit: u64,
@@ -95,7 +94,7 @@ pub fn check_names(
     ensures ok { OnOk result (misnamed (record { classes = definitions.now; predefined = predefined; limit = limit }) name.now above.now ≡ None) }
     ensures fault { IfErr result (λ e. Refuses e (misnamed (record { classes = definitions.now; predefined = predefined; limit = limit }) name.now above.now)) }
 {
-    if is_predefined(definitions, predefined, name) || has_twice(above) {
+    if is_predefined(definitions, predefined, name) || has_twice(alloc, above)? {
         return Err(ClassFault::ProgramError);
     }
     if is_full(definitions, predefined, limit, name) {

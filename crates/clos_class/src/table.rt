@@ -82,6 +82,7 @@ impl Classes {
     {
         let above = or_standard(alloc, superclasses)?;
         check_names(
+            alloc,
             &self.definitions,
             self.predefined,
             self.limit,
@@ -113,6 +114,7 @@ impl Classes {
     {
         let above = or_standard(alloc, superclasses)?;
         check_names(
+            alloc,
             &self.definitions,
             self.predefined,
             self.limit,

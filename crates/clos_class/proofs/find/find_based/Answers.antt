@@ -1,7 +1,7 @@
 use Rattle.std.proofs.Common.{subst}
 use Rattle.clos_class.specs.Kept.{IsSingle}
 use Rattle.clos_class.specs.PrecedenceView.{numbers, listing_of, listing_at}
-use Rattle.clos_class.proofs.Single.{one_based, over_based}
+use Rattle.clos_class.proofs.Single.{one_based}
 use Rattle.clos_class.proofs.find.find_based.Goals as goal
 
 pub returns-in-Some-clause-found : goal.returns-in-Some-clause-found
@@ -10,4 +10,4 @@ returns-in-Some-clause-found c =
     (subst (λ v. IsSingle (listing_at c.args.kept.now) c.args.class.0 (numbers v) (numbers c.in-Some.above.now)) c.as_slice.ensures.value c.in-Some.ensures) c.in_ok-found.ensures.found
 
 pub returns-clause-found : goal.returns-clause-found
-returns-clause-found c = over_based c.args.kept.now c.args.class.0 (listing_of c.in_ok-found-2.found) (numbers c.args.direct.items) c.in_ok-found-2.ensures.found
+returns-clause-found c = c.in_ok-found-2.ensures.found
