@@ -1,0 +1,26 @@
+-- How a layout is built, one slot after another.
+use Rattle.std.specs.Prelude.{List, [], ◌∷◌, ◌++◌, Option, Some, None, map, if◌then◌else◌}
+use Rattle.std.specs.List.{list_any}
+use Rattle.std.specs.Map.{keys_of}
+use Rattle.lisp_data.specs.Name.{Nam, same_name}
+use Rattle.lisp_data.specs.declared.ids.CellId.{CellId}
+use Rattle.clos_slots.specs.declared.direct.SlotAllocation.{SlotAllocation}
+use Rattle.clos_slots.specs.declared.direct.SlotAllocation.TheVariants.{Local, Shared}
+use Rattle.clos_slots.specs.Slots.{Layout}
+
+-- names with one more, which comes last unless it is there
+abbrev pub with_name : List Nam → Nam → List Nam
+with_name ns n = if list_any (same_name n) ns then ns else ns ++ n ∷ []
+
+abbrev pub with_cell : List (Nam × CellId) → Nam → CellId → List (Nam × CellId)
+with_cell es n c = if list_any (same_name n) (keys_of es) then es else es ++ (n, c) ∷ []
+
+abbrev pub with_slot : Layout → Nam → Option SlotAllocation → Layout
+with_slot l n None = l
+with_slot l n (Some Local) = record l { locals = with_name l.locals n }
+with_slot l n (Some (Shared c)) = record l { shared = with_cell l.shared n c }
+
+-- with one slot after another, each with the allocation that it has here
+abbrev pub with_slots : (Nam → Option SlotAllocation) → Layout → List Nam → Layout
+with_slots of l [] = l
+with_slots of l (n ∷ ns) = with_slots of (with_slot l n (of n)) ns

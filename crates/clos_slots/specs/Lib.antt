@@ -1,0 +1,3 @@
+pub mod Slots
+pub mod SlotsView
+pub mod Building
