@@ -15,8 +15,8 @@ use Rattle.clos_slots.specs.declared.direct.DirectSlot.{DirectSlot}
 use Rattle.clos_slots.specs.declared.direct.SlotAllocation.{SlotAllocation}
 use Rattle.clos_slots.specs.declared.direct.SlotAllocation.TheVariants.{Local, Shared}
 use Rattle.clos_slots.specs.Slots.{DirectSlots, Layout, accessible, allocation, distinct, first_of_each, is_local, layout_of, names, shared_in}
-use Rattle.clos_slots.specs.Building.{with_cell, with_name, with_slot, with_slots}
-use Rattle.clos_slots.proofs.Each.{added, each, filter_all, new_of}
+use Rattle.clos_slots.specs.Building.{new_of, with_cell, with_name, with_slot, with_slots}
+use Rattle.clos_slots.proofs.Each.{added, each, filter_all, none_after}
 
 -- ---- one slot
 
@@ -39,10 +39,6 @@ pub same_cells : (es : List (Nam × CellId)) (n : Nam) (c : CellId) (b : Bool) �
 same_cells es n c b e h = sym (ap (λ a. if a then es else es ++ (n, c) ∷ []) (sym (is_some-lookup (same_name n) es) ∙ sym e ∙ h))
 
 -- ---- all slots
-
-none_after : {X : Type 0} (xs : List X) → xs ≡ xs ++ []
-none_after [] = refl
-none_after (x ∷ xs) = ap (λ l. x ∷ l) (none_after xs)
 
 abbrev local_if : Nam → Bool → Option Nam
 local_if n true = Some n

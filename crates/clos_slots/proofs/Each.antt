@@ -6,6 +6,7 @@ use Rattle.std.proofs.lemmas.List.Folds.{list_any-append}
 use Rattle.lisp_data.specs.Name.{Nam, same_name}
 use Rattle.lisp_data.specs.KeyLaws.{same_name-Decides}
 use Rattle.clos_slots.specs.Slots.{first_of_each, distinct}
+use Rattle.clos_slots.specs.Building.{new_of}
 
 -- ---- names
 
@@ -38,15 +39,15 @@ module _ {X : Type 0} where
   filter_alike p q e [] = refl
   filter_alike p q e (x ∷ xs) = ap (λ b. cond b (x ∷ filter p xs) (filter p xs)) (e x) ∙ ap (λ l. cond (q x) (x ∷ l) l) (filter_alike p q e xs)
 
+  pub none_after : (xs : List X) → xs ≡ xs ++ []
+  none_after [] = refl
+  none_after (x ∷ xs) = ap (λ l. x ∷ l) (none_after xs)
+
   pub filter_all : (xs : List X) → filter (λ x. true) xs ≡ xs
   filter_all [] = refl
   filter_all (x ∷ xs) = ap (λ l. x ∷ l) (filter_all xs)
 
 -- ---- one more of some of which these names are known
-
--- those whose names are not among these
-abbrev pub new_of : {X : Type 0} → (X → Nam) → List Nam → List X → List X
-new_of name ks xs = filter (λ x. not (list_any (same_name (name x)) ks)) xs
 
 none_or : (a b : Bool) → (not a && not b) ≡ not (b || (a || false))
 none_or true true = refl

@@ -1,3 +1,6 @@
 pub mod Noted
 pub mod Each
 pub mod Built
+pub mod FirstInitform
+pub mod Added
+pub mod Completed

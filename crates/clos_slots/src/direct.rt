@@ -62,3 +62,13 @@ pub(crate) fn direct_slots(classes: &[ClassSlots], class: ClassId) -> &[DirectSl
         None => &[],
     }
 }
+
+/// The default initargs of a class.
+pub(crate) fn defaults(classes: &[ClassSlots], class: ClassId) -> &[DefaultInitarg]
+    ensures { result.now ≡ defaults classes.now class.0 }
+{
+    match classes.get(class.0 as usize) {
+        Some(said) => said.defaults.as_slice(),
+        None => &[],
+    }
+}

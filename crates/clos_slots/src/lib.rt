@@ -2,10 +2,16 @@
 #![tactic(auto)]
 
 mod allocation;
+mod defaults;
 mod direct;
+mod initforms;
 mod layout;
 mod names;
+mod slot_initargs;
 
+pub use defaults::default_initargs;
 pub use direct::{ClassSlots, DirectSlot, SlotAllocation};
+pub use initforms::initform;
 pub use layout::{Layout, layout_of};
 pub use names::NameSet;
+pub use slot_initargs::initargs;

@@ -2,7 +2,7 @@
 ghost use Rattle.std.specs.Prelude.{◌≡◌, [], OnOk, length, option_copied, position, slice_get};
 ghost use Rattle.std.specs.List.{list_any};
 ghost use Rattle.lisp_data.specs.Name.{same_name};
-ghost use Rattle.clos_slots.specs.Building.{with_name};
+ghost use Rattle.clos_slots.specs.Building.{with_name, with_names};
 
 use indexmap::IndexSet;
 use lisp_data::Name;
@@ -43,6 +43,19 @@ impl NameSet {
         ensures { OnOk result (self.new ≡ with_name self.old name) }
     {
         self.names.insert(name)?;
+        Ok(())
+    }
+
+    /// Adds those of these names that are not there, at the end.
+    #[tactic(auto, using(crate::proofs::Added::one_name, crate::proofs::Added::same_names))]
+    pub fn add_all(&mut self, names: &[Name]) -> Result<(), AllocError>
+        ensures { OnOk result (self.new ≡ with_names self.old names.now) }
+    {
+        let mut left = names;
+        while let Some((name, others)) = left.split_first() {
+            self.add(name.copy()?)?;
+            left = others;
+        }
         Ok(())
     }
 
