@@ -13,7 +13,7 @@ use Rattle.clos_slots.specs.Building.{new_of}
 pub same_itself : (n : Nam) → same_name n n ≡ true
 same_itself n = (same_name-Decides n n).1 refl
 
-is_same : (n m : Nam) → same_name n m ≡ true → n ≡ m
+pub is_same : (n m : Nam) → same_name n m ≡ true → n ≡ m
 is_same n m h = (same_name-Decides n m).0 h
 
 turned_by : (n m : Nam) (a b : Bool) → same_name n m ≡ a → same_name m n ≡ b → a ≡ b
@@ -22,7 +22,7 @@ turned_by n m false false e h = refl
 turned_by n m true false e h = sym (sym h ∙ ap (λ k. same_name m k) (is_same n m e) ∙ same_itself m)
 turned_by n m false true e h = sym e ∙ ap (λ k. same_name n k) (is_same m n h) ∙ same_itself n
 
-turned : (n m : Nam) → same_name n m ≡ same_name m n
+pub turned : (n m : Nam) → same_name n m ≡ same_name m n
 turned n m = turned_by n m (same_name n m) (same_name m n) refl refl
 
 -- ---- filters

@@ -4,3 +4,4 @@ pub mod Built
 pub mod FirstInitform
 pub mod Added
 pub mod Completed
+pub mod Placed

@@ -1,3 +1,4 @@
 pub mod Slots
 pub mod SlotsView
 pub mod Building
+pub mod Laws

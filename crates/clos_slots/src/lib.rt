@@ -5,6 +5,7 @@ mod allocation;
 mod defaults;
 mod direct;
 mod initforms;
+pub mod laws;
 mod layout;
 mod names;
 mod slot_initargs;
