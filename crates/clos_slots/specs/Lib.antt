@@ -2,3 +2,4 @@ pub mod Slots
 pub mod SlotsView
 pub mod Building
 pub mod Laws
+pub mod Examples
