@@ -1,6 +1,6 @@
 -- Layouts built one slot after another.
-use Rattle.std.proofs.Common.{◌≡◌, ℕ, Bool, true, false, ◌||◌, true≢false, List, [], ◌∷◌, ◌++◌, Option, Some, None, map, refl, ap, sym, ◌∙◌}
-use Rattle.std.specs.Prelude.{reverse, cond, is_some, if◌then◌else◌}
+use Rattle.std.proofs.Common.{◌≡◌, Bool, true, false, ◌||◌, true≢false, List, [], ◌∷◌, ◌++◌, Option, Some, None, refl, ap, sym, ◌∙◌}
+use Rattle.std.specs.Prelude.{cond, is_some, if◌then◌else◌}
 use Rattle.std.specs.List.{filter, filter_map, flat_map, list_any, cons_option}
 use Rattle.std.specs.Map.{keys_of, lookup}
 use Rattle.std.proofs.lemmas.List.{map-append}
@@ -11,11 +11,10 @@ use Rattle.lisp_data.specs.declared.ids.CellId.{CellId}
 use Rattle.lisp_data.specs.declared.ids.ClassId.{ClassId}
 use Rattle.clos_class.specs.PrecedenceView.{numbers, latest_first}
 use Rattle.clos_class.proofs.Lists.{latest}
-use Rattle.clos_slots.specs.declared.direct.DirectSlot.{DirectSlot}
 use Rattle.clos_slots.specs.declared.direct.SlotAllocation.{SlotAllocation}
 use Rattle.clos_slots.specs.declared.direct.SlotAllocation.TheVariants.{Local, Shared}
-use Rattle.clos_slots.specs.Slots.{DirectSlots, Layout, accessible, allocation, distinct, first_of_each, is_local, layout_of, names, shared_in}
-use Rattle.clos_slots.specs.Building.{new_of, with_cell, with_name, with_slot, with_slots}
+use Rattle.clos_slots.specs.Slots.{DirectSlots, Layout, allocation, distinct, first_of_each, is_local, layout_of, names, shared_in}
+use Rattle.clos_slots.specs.Building.{new_of, with_cell, with_slot, with_slots}
 use Rattle.clos_slots.proofs.Each.{added, each, filter_all, none_after}
 
 -- ---- one slot

@@ -1,5 +1,5 @@
 -- What stands in a layout, and that nothing does twice.
-use Rattle.std.proofs.Common.{◌≡◌, ℕ, Bool, true, false, ◌&&◌, ◌||◌, true≢false, List, [], ◌∷◌, ◌++◌, Option, Some, None, map, refl, ap, sym, ◌∙◌}
+use Rattle.std.proofs.Common.{◌≡◌, ℕ, Bool, true, false, ◌&&◌, ◌||◌, true≢false, List, [], ◌∷◌, ◌++◌, Option, Some, None, refl, ap, sym, ◌∙◌}
 use Rattle.std.specs.Prelude.{reverse, cond, not, is_some, if◌then◌else◌}
 use Rattle.std.specs.List.{filter, filter_map, flat_map, list_any, cons_option}
 use Rattle.std.specs.Map.{keys_of, lookup}
@@ -12,7 +12,7 @@ use Rattle.clos_forms.specs.Distinct.{are_distinct}
 use Rattle.clos_slots.specs.declared.direct.DirectSlot.{DirectSlot}
 use Rattle.clos_slots.specs.declared.direct.SlotAllocation.{SlotAllocation}
 use Rattle.clos_slots.specs.declared.direct.SlotAllocation.TheVariants.{Local, Shared}
-use Rattle.clos_slots.specs.Slots.{DirectSlots, accessible, allocation, called, distinct, first_allocation, is_local, layout_of, names, shared_in}
+use Rattle.clos_slots.specs.Slots.{DirectSlots, accessible, allocation, called, distinct, first_allocation, is_local, names, shared_in}
 use Rattle.clos_slots.specs.Laws.{HasNoneTwice, PlacesSlots, cell_in}
 use Rattle.clos_slots.proofs.Each.{is_same, turned}
 

@@ -1,5 +1,5 @@
 -- How layouts and lists of initargs are built, one after another.
-use Rattle.std.specs.Prelude.{not, List, [], ◌∷◌, ◌++◌, Option, Some, None, map, if◌then◌else◌}
+use Rattle.std.specs.Prelude.{not, List, [], ◌∷◌, ◌++◌, Option, Some, None, if◌then◌else◌}
 use Rattle.std.specs.List.{filter, list_any}
 use Rattle.std.specs.Map.{keys_of}
 use Rattle.lisp_data.specs.Name.{Nam, same_name}

@@ -1,8 +1,7 @@
 -- What the classes say of slots, by their numbers.
-use Rattle.std.specs.Prelude.{ℕ, List, [], Option, Some, None, slice_get}
+use Rattle.std.specs.Prelude.{List, [], slice_get}
 use Rattle.std.specs.Option.{option_map_or}
 use Rattle.lisp_data.specs.declared.ids.CellId.{CellId}
-use Rattle.clos_syntax.specs.declared.class.DefaultInitarg.{DefaultInitarg}
 use Rattle.clos_syntax.specs.declared.slot.Allocation.{Allocation}
 use Rattle.clos_syntax.specs.declared.slot.Allocation.TheVariants.{Instance, Class}
 use Rattle.clos_syntax.specs.declared.slot.SlotSpecifier.{SlotSpecifier}

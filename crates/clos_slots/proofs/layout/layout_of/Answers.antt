@@ -1,4 +1,4 @@
-use Rattle.std.proofs.Common.{◌≡◌, ap, sym, ◌∙◌}
+use Rattle.std.proofs.Common.{ap, sym, ◌∙◌}
 use Rattle.std.specs.HashMap.{get}
 use Rattle.lisp_data.specs.Name.{same_name}
 use Rattle.clos_slots.specs.Slots.{names}
