@@ -5,3 +5,4 @@ pub mod FirstInitform
 pub mod Added
 pub mod Completed
 pub mod Placed
+pub mod Given

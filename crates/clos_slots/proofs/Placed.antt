@@ -27,7 +27,7 @@ among_by n m ms ns true e f = refl
 among_by n m ms ns false e f = any-filter_same (same_name n) (λ k. not (same_name m k)) true (λ k h. other_name n m k e h) ms ∙ f
 
 -- a name is among some where it is among them each once
-among_each : (n : Nam) (ns : List Nam) → list_any (same_name n) (distinct ns) ≡ list_any (same_name n) ns
+pub among_each : (n : Nam) (ns : List Nam) → list_any (same_name n) (distinct ns) ≡ list_any (same_name n) ns
 among_each n [] = refl
 among_each n (m ∷ ns) = among_by n m (distinct ns) ns (same_name n m) refl (among_each n ns)
 

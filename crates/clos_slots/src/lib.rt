@@ -15,4 +15,4 @@ pub use direct::{ClassSlots, DirectSlot, SlotAllocation};
 pub use initforms::initform;
 pub use layout::{Layout, layout_of};
 pub use names::NameSet;
-pub use slot_initargs::initargs;
+pub use slot_initargs::{initargs, is_initarg};
