@@ -1,0 +1,42 @@
+-- Slots of a class POINT-3D, which is 2, below POINT, which is 1, below a class 0 without slots: of POINT the slot X with an
+-- initform, and COUNT, shared in the cell 7; of POINT-3D the slots Z, and COUNT again, now local, without an initform.
+use Rattle.std.specs.Prelude.{◌≡◌, ℕ, List, [], ◌∷◌, false, Some, None, codes, slice_get, unwrap_or, refl}
+use Rattle.lisp_data.specs.Name.{Nam}
+use Rattle.clos_forms.specs.Form.{Frm}
+use Rattle.clos_slots.specs.declared.direct.SlotAllocation.TheVariants.{Local, Shared}
+use Rattle.clos_slots.specs.Slots.{DirectSlots, accessible, initargs, initform, layout_of}
+
+abbrev called : List ℕ → Nam
+called text = record { text = text; keyword = false }
+
+abbrev points : Frm → DirectSlots
+points zero_form n =
+    unwrap_or
+    (slice_get
+    ([]
+    ∷ (record { name = called (codes "X"); initargs = called (codes "X") ∷ []; initform = Some zero_form; allocation = Local }
+    ∷ record { name = called (codes "COUNT"); initargs = called (codes "N") ∷ []; initform = Some zero_form; allocation = Shared (record { 0 = 7 }) }
+    ∷ [])
+    ∷ (record { name = called (codes "Z"); initargs = []; initform = None; allocation = Local }
+    ∷ record { name = called (codes "COUNT"); initargs = called (codes "M") ∷ called (codes "N") ∷ []; initform = None; allocation = Local }
+    ∷ [])
+    ∷ [])
+    n)
+    []
+
+-- the slots of the superclass come first
+layout_order : (f : Frm) → accessible (points f) (2 ∷ 1 ∷ 0 ∷ []) ≡ called (codes "X") ∷ called (codes "COUNT") ∷ called (codes "Z") ∷ []
+layout_order f = refl
+
+shared_above : (f : Frm) → layout_of (points f) (1 ∷ 0 ∷ []) ≡ record { locals = called (codes "X") ∷ []; shared = (called (codes "COUNT"), record { 0 = 7 }) ∷ [] }
+shared_above f = refl
+
+local_below : (f : Frm) → layout_of (points f) (2 ∷ 1 ∷ 0 ∷ []) ≡ record { locals = called (codes "X") ∷ called (codes "COUNT") ∷ called (codes "Z") ∷ []; shared = [] }
+local_below f = refl
+
+-- the most specific specifier has none
+initform_above : (f : Frm) → initform (points f) (2 ∷ 1 ∷ 0 ∷ []) (called (codes "COUNT")) ≡ Some f
+initform_above f = refl
+
+all_initargs : (f : Frm) → initargs (points f) (2 ∷ 1 ∷ 0 ∷ []) (called (codes "COUNT")) ≡ called (codes "M") ∷ called (codes "N") ∷ []
+all_initargs f = refl

@@ -1,0 +1,5 @@
+pub mod Slots
+pub mod SlotsView
+pub mod Building
+pub mod Laws
+pub mod Examples

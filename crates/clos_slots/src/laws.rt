@@ -1,0 +1,12 @@
+//! Laws of the definitions.
+ghost use Rattle.clos_slots.specs.Laws.{HasNoneTwice, PlacesSlots};
+
+/// A slot is local in a layout, or shared in a cell, exactly where its most specific specifier says so.
+pub fn places_slots()
+    ensures { PlacesSlots }
+{}
+
+/// No slot stands twice in a layout.
+pub fn has_none_twice()
+    ensures { HasNoneTwice }
+{}

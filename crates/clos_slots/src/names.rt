@@ -1,0 +1,96 @@
+//! Names, each once.
+ghost use Rattle.std.specs.Prelude.{◌≡◌, [], OnOk, length, option_copied, position, slice_get};
+ghost use Rattle.std.specs.List.{list_any};
+ghost use Rattle.lisp_data.specs.Name.{same_name};
+ghost use Rattle.clos_slots.specs.Building.{with_name, with_names};
+
+use indexmap::IndexSet;
+use lisp_data::Name;
+use std::alloc::{AllocError, Global};
+use std::marker::Model;
+
+/// Names, each once, in the order in which they came. Contracts see the list.
+#[derive(Drop)]
+pub struct NameSet {
+    names: IndexSet<Name>,
+}
+
+impl Model for NameSet {
+    ghost use Rattle.std.specs.Prelude.{List};
+    ghost use Rattle.std.specs.Coded.{coded_list};
+    ghost use Rattle.lisp_data.specs.Name.{Nam};
+    ghost use Rattle.lisp_data.specs.NameCode.{name_code};
+
+    ghost Value = { List Nam };
+
+    ghost coded = { coded_list name_code };
+
+    ghost view = { λ a. a.names.keys };
+}
+
+impl NameSet {
+    /// No names.
+    pub fn new(alloc: Global) -> NameSet
+        ensures { result ≡ [] }
+    {
+        NameSet {
+            names: IndexSet::new(alloc),
+        }
+    }
+
+    /// Adds a name at the end, unless it is there.
+    pub fn add(&mut self, name: Name) -> Result<(), AllocError>
+        ensures { OnOk result (self.new ≡ with_name self.old name) }
+    {
+        self.names.insert(name)?;
+        Ok(())
+    }
+
+    /// Adds those of these names that are not there, at the end.
+    #[tactic(auto, using(crate::proofs::Added::one_name, crate::proofs::Added::same_names))]
+    pub fn add_all(&mut self, names: &[Name]) -> Result<(), AllocError>
+        ensures { OnOk result (self.new ≡ with_names self.old names.now) }
+    {
+        let mut left = names;
+        while let Some((name, others)) = left.split_first() {
+            self.add(name.copy()?)?;
+            left = others;
+        }
+        Ok(())
+    }
+
+    /// How many they are.
+    pub fn len(&self) -> usize
+        ensures { result ≡ length self.now }
+    {
+        self.names.len()
+    }
+
+    /// The name at this place.
+    pub fn name(&self, place: usize) -> Option<&Name>
+        ensures { option_copied result ≡ slice_get self.now place }
+    {
+        self.names.get_index(place)
+    }
+
+    /// The place of a name.
+    pub fn place_of(&self, name: &Name) -> Option<usize>
+        ensures { result ≡ position (same_name name.now) self.now }
+    {
+        self.names.get_index_of(name)
+    }
+
+    /// Whether a name is among them.
+    pub fn has(&self, name: &Name) -> bool
+        ensures { result ≡ list_any (same_name name.now) self.now }
+    {
+        self.names.contains(name)
+    }
+
+    /// All of them.
+    pub fn as_slice(&self) -> &[Name]
+        ensures { result.now ≡ self.now }
+    {
+        self.names.as_slice()
+    }
+}
