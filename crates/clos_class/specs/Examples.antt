@@ -1,22 +1,42 @@
--- The example of the standard (HyperSpec 4.3.5.2), and numbers of predefined classes.
-use Rattle.std.specs.Prelude.{◌≡◌, [], ◌∷◌, Some, None, slice_get, unwrap_or, codes, refl}
-use Rattle.clos_class.specs.Precedence.{Supers, precedence_list}
-use Rattle.clos_class.specs.Classes.{named}
-use Rattle.clos_class.specs.Initial.{fixed_name, number, predefined}
+-- Slots of a class POINT-3D, which is 2, below POINT, which is 1, below a class 0 without slots: of POINT the slot X with an
+-- initform, and COUNT, shared in the cell 7; of POINT-3D the slots Z, and COUNT again, now local, without an initform.
+use Rattle.std.specs.Prelude.{◌≡◌, ℕ, List, [], ◌∷◌, false, Some, None, codes, slice_get, unwrap_or, refl}
+use Rattle.lisp_data.specs.Name.{Nam}
+use Rattle.clos_forms.specs.Form.{Frm}
+use Rattle.clos_class.specs.declared.direct.SlotAllocation.TheVariants.{Local, Shared}
+use Rattle.clos_class.specs.Slots.{DirectSlots, accessible, initargs, initform, layout_of}
 
--- T, STANDARD-OBJECT, FOOD, FRUIT, SPICE, APPLE, CINNAMON, PIE, and NEW-CLASS
-abbrev food : Supers
-food n = unwrap_or (slice_get ([] ∷ (0 ∷ []) ∷ (1 ∷ []) ∷ (2 ∷ []) ∷ (2 ∷ []) ∷ (3 ∷ []) ∷ (4 ∷ []) ∷ (5 ∷ 6 ∷ []) ∷ (3 ∷ 5 ∷ []) ∷ []) n) []
+abbrev called : List ℕ → Nam
+called text = record { text = text; keyword = false }
 
-pie : precedence_list food 7 (7 ∷ 5 ∷ 6 ∷ 3 ∷ 4 ∷ 2 ∷ 1 ∷ 0 ∷ []) ≡ Some (7 ∷ 5 ∷ 3 ∷ 6 ∷ 4 ∷ 2 ∷ 1 ∷ 0 ∷ [])
-pie = refl
+abbrev points : Frm → DirectSlots
+points zero_form n =
+    unwrap_or
+    (slice_get
+    ([]
+    ∷ (record { name = called (codes "X"); initargs = called (codes "X") ∷ []; initform = Some zero_form; allocation = Local }
+    ∷ record { name = called (codes "COUNT"); initargs = called (codes "N") ∷ []; initform = Some zero_form; allocation = Shared (record { 0 = 7 }) }
+    ∷ [])
+    ∷ (record { name = called (codes "Z"); initargs = []; initform = None; allocation = Local }
+    ∷ record { name = called (codes "COUNT"); initargs = called (codes "M") ∷ called (codes "N") ∷ []; initform = None; allocation = Local }
+    ∷ [])
+    ∷ [])
+    n)
+    []
 
--- FRUIT before APPLE, which is a fruit
-new_class : precedence_list food 8 (8 ∷ 3 ∷ 5 ∷ 2 ∷ 1 ∷ 0 ∷ []) ≡ None
-new_class = refl
+-- the slots of the superclass come first
+layout_order : (f : Frm) → accessible (points f) (2 ∷ 1 ∷ 0 ∷ []) ≡ called (codes "X") ∷ called (codes "COUNT") ∷ called (codes "Z") ∷ []
+layout_order f = refl
 
-integer : named predefined (fixed_name (codes "INTEGER")) ≡ Some (number (codes "INTEGER"))
-integer = refl
+shared_above : (f : Frm) → layout_of (points f) (1 ∷ 0 ∷ []) ≡ record { locals = called (codes "X") ∷ []; shared = (called (codes "COUNT"), record { 0 = 7 }) ∷ [] }
+shared_above f = refl
 
-standard_method : named predefined (fixed_name (codes "STANDARD-METHOD")) ≡ Some (number (codes "STANDARD-METHOD"))
-standard_method = refl
+local_below : (f : Frm) → layout_of (points f) (2 ∷ 1 ∷ 0 ∷ []) ≡ record { locals = called (codes "X") ∷ called (codes "COUNT") ∷ called (codes "Z") ∷ []; shared = [] }
+local_below f = refl
+
+-- the most specific specifier has none
+initform_above : (f : Frm) → initform (points f) (2 ∷ 1 ∷ 0 ∷ []) (called (codes "COUNT")) ≡ Some f
+initform_above f = refl
+
+all_initargs : (f : Frm) → initargs (points f) (2 ∷ 1 ∷ 0 ∷ []) (called (codes "COUNT")) ≡ called (codes "M") ∷ called (codes "N") ∷ []
+all_initargs f = refl

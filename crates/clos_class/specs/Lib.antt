@@ -1,11 +1,5 @@
-pub mod Precedence
-pub mod PrecedenceView
+pub mod Slots
+pub mod SlotsView
+pub mod Building
+pub mod Laws
 pub mod Examples
-pub mod Classes
-pub mod Ways
-pub mod Kept
-pub mod Table
-pub mod TableView
-pub mod Initial
-pub mod Finding
-pub mod OrderView

@@ -1,12 +1,12 @@
 //! Laws of the definitions.
-ghost use Rattle.clos_class.specs.Ways.{FindsCircles, FindsLacking};
+ghost use Rattle.clos_class.specs.Laws.{HasNoneTwice, PlacesSlots};
 
-/// A class is told to be above itself exactly where some way up from it comes back to it.
-pub fn finds_circles()
-    ensures { FindsCircles }
+/// A slot is local in a layout, or shared in a cell, exactly where its most specific specifier says so.
+pub fn places_slots()
+    ensures { PlacesSlots }
 {}
 
-/// A class is told to be lacking exactly where some way up from it comes to what is not defined, or goes round for ever.
-pub fn finds_lacking()
-    ensures { FindsLacking }
+/// No slot stands twice in a layout.
+pub fn has_none_twice()
+    ensures { HasNoneTwice }
 {}

@@ -1,26 +1,18 @@
-//! Classes and their precedence (HyperSpec 4.3).
+//! The slots that classes have by their class precedence lists (HyperSpec 4.3.4, 7.5.3).
 #![tactic(auto)]
 
-mod admit;
-mod cycle;
-mod definitions;
-mod fault;
-mod fill;
-mod find;
-mod kept;
+mod allocation;
+mod defaults;
+mod direct;
+mod initforms;
 pub mod laws;
+mod layout;
 mod names;
-pub mod numbers;
-mod order;
-mod place;
-mod precedence;
-mod predecessors;
-mod predefined;
-mod relist;
-mod seen;
-mod table;
+mod slot_initargs;
 
-pub use admit::Changed;
-pub use fault::ClassFault;
-pub use precedence::contains;
-pub use table::Classes;
+pub use defaults::default_initargs;
+pub use direct::{ClassSlots, DirectSlot, SlotAllocation};
+pub use initforms::initform;
+pub use layout::{Layout, layout_of};
+pub use names::NameSet;
+pub use slot_initargs::{initargs, is_initarg};

@@ -1,104 +1,96 @@
-//! What is wrong with a definition of a class by its names alone.
-ghost use Rattle.std.specs.Prelude.{◌≡◌, ◌≤◌, ◌-◌, ◌&&◌, ◌||◌, ℕ, not, None, IfOk, IfErr, OnOk, length, nat_lt, nat_le};
+//! Names, each once.
+ghost use Rattle.std.specs.Prelude.{◌≡◌, [], OnOk, length, option_copied, position, slice_get};
 ghost use Rattle.std.specs.List.{list_any};
 ghost use Rattle.lisp_data.specs.Name.{same_name};
-ghost use Rattle.clos_class.specs.Classes.{Classes, number_of};
-ghost use Rattle.clos_class.specs.Table.{Table, misnamed, or_standard, standard_object, is_predefined, has_twice, is_full, invalid_in};
-ghost use Rattle.clos_class.specs.TableView.{Refuses};
+ghost use Rattle.clos_class.specs.Building.{with_name, with_names};
 
-use crate::definitions::Definitions;
-use crate::fault::ClassFault;
+use indexmap::IndexSet;
 use lisp_data::Name;
 use std::alloc::{AllocError, Global};
-use std::collections::HashSet;
+use std::marker::Model;
 
-const STANDARD_OBJECT: &str = "STANDARD-OBJECT";
-
-/// These names, or STANDARD-OBJECT where there are none.
-pub fn or_standard(alloc: Global, names: Vec<Name>) -> Result<Vec<Name>, AllocError>
-    ensures { IfOk result (λ r. r.items ≡ or_standard names.items) }
-{
-    if names.len() > 0 {
-        return Ok(names);
-    }
-    let mut standard = Vec::new(alloc);
-    standard.push(Name::fixed(STANDARD_OBJECT))?;
-    Ok(standard)
+/// Names, each once, in the order in which they came. Contracts see the list.
+#[derive(Drop)]
+pub struct NameSet {
+    names: IndexSet<Name>,
 }
 
-fn is_standard(name: &Name) -> bool
-    ensures { result ≡ same_name name.now standard_object }
-{
-    name.is(&Name::fixed(STANDARD_OBJECT))
+impl Model for NameSet {
+    ghost use Rattle.std.specs.Prelude.{List};
+    ghost use Rattle.std.specs.Coded.{coded_list};
+    ghost use Rattle.lisp_data.specs.Name.{Nam};
+    ghost use Rattle.lisp_data.specs.NameCode.{name_code};
+
+    ghost Value = { List Nam };
+
+    ghost coded = { coded_list name_code };
+
+    ghost view = { λ a. a.names.keys };
 }
 
-/// Whether a name stands twice.
-#[tactic(auto, using(crate::proofs::Twice::none_seen))]
-fn has_twice(alloc: Global, names: &[Name]) -> Result<bool, AllocError>
-    ensures { IfOk result (λ r. r ≡ has_twice names.now) }
-{
-    let mut seen = HashSet::new(alloc);
-    let mut left = names;
-    while let Some((name, others)) = left.split_first() {
-        let is_new = seen.insert(name.copy()?)?;
-        if !is_new {
-            return Ok(true);
+impl NameSet {
+    /// No names.
+    pub fn new(alloc: Global) -> NameSet
+        ensures { result ≡ [] }
+    {
+        NameSet {
+            names: IndexSet::new(alloc),
         }
-        left = others;
     }
-    Ok(false)
-}
 
-/// Whether a name is one of the predefined classes', of which there are so many.
-fn is_predefined(definitions: &Definitions, predefined: u64, name: &Name) -> bool
-    ensures { result ≡ nat_lt (number_of definitions.now name.now) predefined }
-{
-    definitions.number_of(name) < predefined
-}
+    /// Adds a name at the end, unless it is there.
+    pub fn add(&mut self, name: Name) -> Result<(), AllocError>
+        ensures { OnOk result (self.new ≡ with_name self.old name) }
+    {
+        self.names.insert(name)?;
+        Ok(())
+    }
 
-/// Finds the first of these superclasses that is predefined and not STANDARD-OBJECT.
-fn check_superclasses(
-    definitions: &Definitions,
-    predefined: u64,
-    names: &[Name],
-) -> Result<(), ClassFault>
-    ensures ok { OnOk result ((limit : ℕ) → invalid_in (record { classes = definitions.now; predefined = predefined; limit = limit }) names.now ≡ None) }
-    ensures fault { IfErr result (λ e. (limit : ℕ) → Refuses e (invalid_in (record { classes = definitions.now; predefined = predefined; limit = limit }) names.now)) }
-{
-    let mut left = names;
-    while let Some((name, others)) = left.split_first() {
-        if is_predefined(definitions, predefined, name) && !is_standard(name) {
-            return Err(ClassFault::InvalidSuperclass(name.copy()?));
+    /// Adds those of these names that are not there, at the end.
+    #[tactic(auto, using(crate::proofs::Added::one_name, crate::proofs::Added::same_names))]
+    pub fn add_all(&mut self, names: &[Name]) -> Result<(), AllocError>
+        ensures { OnOk result (self.new ≡ with_names self.old names.now) }
+    {
+        let mut left = names;
+        while let Some((name, others)) = left.split_first() {
+            self.add(name.copy()?)?;
+            left = others;
         }
-        left = others;
+        Ok(())
     }
-    Ok(())
-}
 
-/// Whether there is no room for a class of this name, which is new.
-fn is_full(definitions: &Definitions, predefined: u64, limit: u64, name: &Name) -> bool
-    ensures { result ≡ (not (list_any (same_name name.now) definitions.now.names) && nat_le limit (length definitions.now.names - predefined)) }
-{
-    !definitions.has(name) && limit <= (definitions.len() as u64).saturating_sub(predefined)
-}
+    /// How many they are.
+    pub fn len(&self) -> usize
+        ensures { result ≡ length self.now }
+    {
+        self.names.len()
+    }
 
-/// Finds what is wrong with a definition by its names alone.
-pub fn check_names(
-    alloc: Global,
-    definitions: &Definitions,
-    predefined: u64,
-    limit: u64,
-    name: &Name,
-    above: &[Name],
-) -> Result<(), ClassFault>
-    ensures ok { OnOk result (misnamed (record { classes = definitions.now; predefined = predefined; limit = limit }) name.now above.now ≡ None) }
-    ensures fault { IfErr result (λ e. Refuses e (misnamed (record { classes = definitions.now; predefined = predefined; limit = limit }) name.now above.now)) }
-{
-    if is_predefined(definitions, predefined, name) || has_twice(alloc, above)? {
-        return Err(ClassFault::ProgramError);
+    /// The name at this place.
+    pub fn name(&self, place: usize) -> Option<&Name>
+        ensures { option_copied result ≡ slice_get self.now place }
+    {
+        self.names.get_index(place)
     }
-    if is_full(definitions, predefined, limit, name) {
-        return Err(ClassFault::TableLimit);
+
+    /// The place of a name.
+    pub fn place_of(&self, name: &Name) -> Option<usize>
+        ensures { result ≡ position (same_name name.now) self.now }
+    {
+        self.names.get_index_of(name)
     }
-    check_superclasses(definitions, predefined, above)
+
+    /// Whether a name is among them.
+    pub fn has(&self, name: &Name) -> bool
+        ensures { result ≡ list_any (same_name name.now) self.now }
+    {
+        self.names.contains(name)
+    }
+
+    /// All of them.
+    pub fn as_slice(&self) -> &[Name]
+        ensures { result.now ≡ self.now }
+    {
+        self.names.as_slice()
+    }
 }

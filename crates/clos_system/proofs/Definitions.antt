@@ -28,7 +28,7 @@ use Rattle.clos_machine.proofs.Kept.{same, same_then, Kept, evaluation_kept}
 use Rattle.clos_system.specs.Definitions.{DefinesNothing}
 use Rattle.clos_system.specs.Served.{is_combination, served_of}
 use Rattle.clos_system.specs.Session.{Replies}
-use Rattle.clos_class.specs.Table.{Refusal, refusal, or_standard}
+use Rattle.clos_class_core.specs.Table.{Refusal, refusal, or_standard}
 use Rattle.clos_system.specs.Class.{class_defined, define_class, unless_refused}
 use Rattle.clos_system.specs.Step.{checked, define_method, function_added, method_added, new_method, on_function, performed, room_of, served_run, specializer_numbers, step}
 use Rattle.clos_system.specs.declared.served.Served.{Served}

@@ -23,7 +23,7 @@ use Rattle.clos_system.specs.Variable.{room_below, keeps_value, value_given, new
 use Rattle.clos_machine.specs.Machine.{Answers, leaves}
 use Rattle.clos_world.specs.declared.condition.Stop.{Stop}
 use Rattle.clos_world.specs.declared.condition.Stop.TheVariants.{Refused, Storage}
-use Rattle.clos_class.specs.Table.{Refusal, refusal, or_standard}
+use Rattle.clos_class_core.specs.Table.{Refusal, refusal, or_standard}
 use Rattle.clos_system.specs.Class.{define_class, unless_refused}
 use Rattle.clos_system.specs.Step.{define_method, on_function, new_method, specializer_numbers, performed, served_run, checked, step, room_of}
 use Rattle.clos_syntax.specs.Top.{top_of}

@@ -2,8 +2,8 @@
 use Rattle.std.specs.Prelude.{◌≡◌, ℕ, false, List, [], ◌∷◌, Option, Some, None, option_map}
 use Rattle.lisp_data.specs.Name.{Nam}
 use Rattle.lisp_data.specs.Value.{class}
-use Rattle.clos_class.specs.Classes.{number_of, with_class}
-use Rattle.clos_class.specs.Table.{Refusal, program_error, table_limit, invalid_superclass, superclass_cycle, incomplete_class, inconsistent_precedence, refusal, or_standard}
+use Rattle.clos_class_core.specs.Classes.{number_of, with_class}
+use Rattle.clos_class_core.specs.Table.{Refusal, program_error, table_limit, invalid_superclass, superclass_cycle, incomplete_class, inconsistent_precedence, refusal, or_standard}
 use Rattle.clos_forms.specs.Quotation.{name_value}
 use Rattle.clos_world.specs.declared.condition.Condition.{Condition}
 use Rattle.clos_world.specs.declared.condition.ConditionKind.TheVariants.{ProgramError, InvalidSuperclass, InconsistentPrecedence, SuperclassCycle, IncompleteClass, Unsupported, TableLimit}

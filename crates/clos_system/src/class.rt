@@ -1,14 +1,14 @@
 //! What a `defclass` does (HyperSpec 7.7). It takes one step for the whole of its effect; what is refused takes none.
 ghost use Rattle.std.specs.Prelude.{◌≡◌, IfOk, IfErr, Option, option_map, Some};
-ghost use Rattle.clos_class.specs.Table.{Refusal, or_standard};
-ghost use Rattle.clos_class.specs.TableView.{Refuses};
+ghost use Rattle.clos_class_core.specs.Table.{Refusal, or_standard};
+ghost use Rattle.clos_class_core.specs.TableView.{Refuses};
 ghost use Rattle.clos_world.specs.Class.{named};
 ghost use Rattle.clos_world.specs.World.{seen};
 ghost use Rattle.clos_world.specs.declared.condition.Stop.TheVariants.{Storage};
 ghost use Rattle.clos_machine.specs.Machine.{Answers};
 ghost use Rattle.clos_system.specs.Class.{StopsFor, condition_for, define_class, new_class};
 
-use clos_class::ClassFault;
+use clos_class_core::ClassFault;
 use clos_world::{Condition, ConditionKind, Stop, World, about_name, about_names, plain};
 use lisp_data::{Name, Value};
 use std::alloc::Global;

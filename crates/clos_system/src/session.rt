@@ -15,7 +15,7 @@ use crate::function::defun;
 use crate::method::defmethod;
 use crate::served::{Served, is_combination, serve};
 use crate::variable::define_variable;
-use clos_class::Classes;
+use clos_class_core::Classes;
 use clos_eval::evaluate;
 use clos_forms::SyntaxFault;
 use clos_syntax::{Top, parse_top};

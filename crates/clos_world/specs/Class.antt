@@ -1,9 +1,9 @@
 -- The classes of a session, as its functions ask for them (HyperSpec 4.3).
 use Rattle.std.specs.Prelude.{ℕ, List, Option, slice_get}
 use Rattle.lisp_data.specs.Name.{Nam}
-use Rattle.clos_class.specs.Classes.{listing, list_in}
-use Rattle.clos_class.specs.Classes as classes
-use Rattle.clos_class.specs.Table.{Table, list_if}
+use Rattle.clos_class_core.specs.Classes.{listing, list_in}
+use Rattle.clos_class_core.specs.Classes as classes
+use Rattle.clos_class_core.specs.Table.{Table, list_if}
 
 -- the number of the class of this name
 abbrev pub named : Table → Nam → Option ℕ

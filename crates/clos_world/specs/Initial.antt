@@ -1,6 +1,6 @@
 -- A session that begins.
 use Rattle.std.specs.Prelude.{[]}
-use Rattle.clos_class.specs.Initial as classes
+use Rattle.clos_class_core.specs.Initial as classes
 use Rattle.clos_world.specs.World.{State}
 use Rattle.clos_world.specs.declared.limits.Limits.{Limits}
 

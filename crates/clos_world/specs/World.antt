@@ -9,8 +9,8 @@ use Rattle.clos_world.specs.declared.limits.Limits.{Limits}
 use Rattle.clos_world.specs.declared.functions.Function.{Function}
 use Rattle.clos_world.specs.declared.world.World.{World}
 use Rattle.clos_world.specs.Globals.{Variables}
-use Rattle.clos_class.specs.Initial.{number, class_of_class}
-use Rattle.clos_class.specs.Table.{Table}
+use Rattle.clos_class_core.specs.Initial.{number, class_of_class}
+use Rattle.clos_class_core.specs.Table.{Table}
 use Rattle.clos_world.specs.Class.{precedence_or_none, class_name}
 
 -- a lexical variable and its value (3.1.2.1.1)

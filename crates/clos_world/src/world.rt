@@ -1,7 +1,7 @@
 //! The state of a session: its tables, what was written, and its limits.
 ghost use Rattle.std.specs.Prelude.{◌≡◌, OnOk, OnErr, option_map, length, ◌++◌, ◌∷◌, []};
 ghost use Rattle.lisp_data.specs.ValueView.{value_of};
-ghost use Rattle.clos_class.specs.PrecedenceView.{numbers};
+ghost use Rattle.clos_class_core.specs.PrecedenceView.{numbers};
 ghost use Rattle.clos_world.specs.Class.{precedence_or_none};
 ghost use Rattle.clos_world.specs.World.{seen, class_of, class_of_instance, names_of};
 
@@ -9,7 +9,7 @@ use crate::functions::Functions;
 use crate::generic::{Generic, Method};
 use crate::globals::Globals;
 use crate::limits::Limits;
-use clos_class::{Classes, numbers};
+use clos_class_core::{Classes, numbers};
 use lisp_data::{
     ClassId, FunctionName, GenericId, InstanceId, MethodId, Name, Naming, Specializer, Value,
 };

@@ -1,5 +1,0 @@
-use Rattle.clos_class.proofs.Lacking.{finds_lacking}
-use Rattle.clos_class.proofs.laws.finds_lacking.Goals as goal
-
-pub returns : goal.returns
-returns c = finds_lacking

@@ -1,0 +1,44 @@
+-- How layouts and lists of initargs are built, one after another.
+use Rattle.std.specs.Prelude.{Bool, not, List, [], ◌∷◌, ◌++◌, Option, Some, None, if◌then◌else◌}
+use Rattle.std.specs.List.{filter, flat_map, list_any}
+use Rattle.std.specs.Map.{keys_of}
+use Rattle.lisp_data.specs.Name.{Nam, same_name}
+use Rattle.lisp_data.specs.declared.ids.CellId.{CellId}
+use Rattle.clos_class.specs.declared.direct.DirectSlot.{DirectSlot}
+use Rattle.clos_class.specs.declared.direct.SlotAllocation.{SlotAllocation}
+use Rattle.clos_class.specs.declared.direct.SlotAllocation.TheVariants.{Local, Shared}
+use Rattle.clos_syntax.specs.declared.class.DefaultInitarg.{DefaultInitarg}
+use Rattle.clos_class.specs.Slots.{Layout, called, distinct, first_of_each}
+
+-- those whose names are not among these
+abbrev pub new_of : {X : Type 0} → (X → Nam) → List Nam → List X → List X
+new_of name ks xs = filter (λ x. not (list_any (same_name (name x)) ks)) xs
+
+-- names with one more, which comes last unless it is there
+abbrev pub with_name : List Nam → Nam → List Nam
+with_name ns n = if list_any (same_name n) ns then ns else ns ++ n ∷ []
+
+-- names with those of others that are not there, each once
+abbrev pub with_names : List Nam → List Nam → List Nam
+with_names ns more = ns ++ new_of (λ n. n) ns (distinct more)
+
+-- default initargs with those of others whose names are not known, the first of each name
+abbrev pub completed : List Nam → List DefaultInitarg → List DefaultInitarg → List DefaultInitarg
+completed known found ds = found ++ new_of (λ d. d.name) known (first_of_each (λ d. d.name) ds)
+
+abbrev pub with_cell : List (Nam × CellId) → Nam → CellId → List (Nam × CellId)
+with_cell es n c = if list_any (same_name n) (keys_of es) then es else es ++ (n, c) ∷ []
+
+abbrev pub with_slot : Layout → Nam → Option SlotAllocation → Layout
+with_slot l n None = l
+with_slot l n (Some Local) = record l { locals = with_name l.locals n }
+with_slot l n (Some (Shared c)) = record l { shared = with_cell l.shared n c }
+
+-- with one slot after another, each with the allocation that it has here
+abbrev pub with_slots : (Nam → Option SlotAllocation) → Layout → List Nam → Layout
+with_slots of l [] = l
+with_slots of l (n ∷ ns) = with_slots of (with_slot l n (of n)) ns
+
+-- whether one of the slots of a name has this initarg
+abbrev pub any_has : Nam → Nam → List DirectSlot → Bool
+any_has initarg name ss = list_any (same_name initarg) (flat_map (λ s. s.initargs) (called name ss))

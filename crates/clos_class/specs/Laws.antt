@@ -1,0 +1,25 @@
+-- Laws of layouts.
+use Rattle.std.specs.Prelude.{◌≡◌, ℕ, true, List, Option, Some, None}
+use Rattle.std.specs.List.{list_any}
+use Rattle.std.specs.Map.{keys_of, lookup}
+use Rattle.lisp_data.specs.Name.{Nam, same_name}
+use Rattle.lisp_data.specs.declared.ids.CellId.{CellId}
+use Rattle.clos_forms.specs.Distinct.{are_distinct}
+use Rattle.clos_class.specs.declared.direct.SlotAllocation.{SlotAllocation}
+use Rattle.clos_class.specs.declared.direct.SlotAllocation.TheVariants.{Local, Shared}
+use Rattle.clos_class.specs.Slots.{DirectSlots, allocation, is_local, layout_of}
+
+abbrev pub cell_in : Option SlotAllocation → Option CellId
+cell_in None = None
+cell_in (Some Local) = None
+cell_in (Some (Shared c)) = Some c
+
+-- A slot is local in the layout exactly where its most specific specifier makes it so, and shared, in the cell of that specifier,
+-- exactly where that one does. So a name without a specifier is in neither.
+abbrev pub PlacesSlots : Type 0
+PlacesSlots = (of : DirectSlots) (l : List ℕ) (name : Nam)
+    → (list_any (same_name name) (layout_of of l).locals ≡ is_local (allocation of l name)) × (lookup (same_name name) (layout_of of l).shared ≡ cell_in (allocation of l name))
+
+-- No slot stands twice in the layout.
+abbrev pub HasNoneTwice : Type 0
+HasNoneTwice = (of : DirectSlots) (l : List ℕ) → (are_distinct (layout_of of l).locals ≡ true) × (are_distinct (keys_of (layout_of of l).shared) ≡ true)

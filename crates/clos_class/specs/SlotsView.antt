@@ -1,0 +1,27 @@
+-- What the classes say of slots, by their numbers.
+use Rattle.std.specs.Prelude.{List, [], slice_get}
+use Rattle.std.specs.Option.{option_map_or}
+use Rattle.lisp_data.specs.declared.ids.CellId.{CellId}
+use Rattle.clos_syntax.specs.declared.slot.Allocation.{Allocation}
+use Rattle.clos_syntax.specs.declared.slot.Allocation.TheVariants.{Instance, Class}
+use Rattle.clos_syntax.specs.declared.slot.SlotSpecifier.{SlotSpecifier}
+use Rattle.clos_class.specs.declared.direct.ClassSlots.{ClassSlots}
+use Rattle.clos_class.specs.declared.direct.DirectSlot.{DirectSlot}
+use Rattle.clos_class.specs.declared.direct.SlotAllocation.{SlotAllocation}
+use Rattle.clos_class.specs.declared.direct.SlotAllocation.TheVariants.{Local, Shared}
+use Rattle.clos_class.specs.Slots.{Defaults, DirectSlots}
+
+-- a class of which nothing is said has no direct slots
+abbrev pub direct_slots : List ClassSlots → DirectSlots
+direct_slots classes n = option_map_or (λ c. c.slots) (slice_get classes n) []
+
+abbrev pub defaults : List ClassSlots → Defaults
+defaults classes n = option_map_or (λ c. c.defaults) (slice_get classes n) []
+
+-- a slot with allocation :class is in the cell
+abbrev pub allocated : Allocation → CellId → SlotAllocation
+allocated Instance cell = Local
+allocated Class cell = Shared cell
+
+abbrev pub direct_slot : SlotSpecifier → CellId → DirectSlot
+direct_slot s cell = record { name = s.name; initargs = s.initargs; initform = s.initform; allocation = allocated s.allocation cell }

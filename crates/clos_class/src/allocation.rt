@@ -1,0 +1,57 @@
+//! Which slots are local and which are shared (HyperSpec 7.5.3).
+ghost use Rattle.std.specs.Prelude.{◌≡◌, ◌∷◌, [], IfOk, OnOk};
+ghost use Rattle.std.specs.Option.{option_or};
+ghost use Rattle.std.specs.HashMap.{get};
+ghost use Rattle.lisp_data.specs.Name.{Nam, same_name};
+ghost use Rattle.clos_class_core.specs.PrecedenceView.{numbers};
+ghost use Rattle.clos_class.specs.Slots.{allocation, called, first_allocation};
+ghost use Rattle.clos_class.specs.SlotsView.{direct_slots};
+
+use crate::direct::{ClassSlots, DirectSlot, SlotAllocation, direct_slots};
+use lisp_data::{ClassId, Name};
+use std::alloc::{AllocError, Global};
+use std::collections::HashMap;
+
+/// Notes the allocation of a slot, unless one is noted of its name.
+fn note(noted: &mut HashMap<Name, SlotAllocation>, slot: &DirectSlot) -> Result<(), AllocError>
+    ensures { OnOk result ((n : Nam) → get same_name noted.new n ≡ option_or (get same_name noted.old n) (first_allocation (called n (slot.now ∷ [])))) }
+{
+    if !noted.contains_key(&slot.name) {
+        noted.insert(slot.name.copy()?, slot.allocation)?;
+    }
+    Ok(())
+}
+
+/// Notes the allocations of slots, the first of each name.
+#[tactic(auto, using(crate::proofs::Noted::more_noted, crate::proofs::Noted::all_noted))]
+fn note_all(
+    noted: &mut HashMap<Name, SlotAllocation>,
+    slots: &[DirectSlot],
+) -> Result<(), AllocError>
+    ensures { OnOk result ((n : Nam) → get same_name noted.new n ≡ option_or (get same_name noted.old n) (first_allocation (called n slots.now))) }
+{
+    let mut left = slots;
+    while let Some((slot, others)) = left.split_first() {
+        note(noted, slot)?;
+        left = others;
+    }
+    Ok(())
+}
+
+/// The allocation of each accessible slot, that of its most specific specifier.
+#[tactic(auto, using(crate::proofs::Noted::more_noted, crate::proofs::Noted::all_noted))]
+pub fn allocations(
+    alloc: Global,
+    classes: &[ClassSlots],
+    list: &[ClassId],
+) -> Result<HashMap<Name, SlotAllocation>, AllocError>
+    ensures { IfOk result (λ r. (n : Nam) → get same_name r n ≡ allocation (direct_slots classes.now) (numbers list.now) n) }
+{
+    let mut noted = HashMap::new(alloc);
+    let mut left = list;
+    while let Some((class, others)) = left.split_first() {
+        note_all(&mut noted, direct_slots(classes, *class))?;
+        left = others;
+    }
+    Ok(noted)
+}

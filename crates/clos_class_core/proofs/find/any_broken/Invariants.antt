@@ -1,0 +1,10 @@
+use Rattle.std.proofs.Common.{◌≡◌, length}
+use Rattle.clos_class_core.specs.Finding.{any_broken}
+use Rattle.clos_class_core.specs.PrecedenceView.{numbers, listing_at}
+use Rattle.clos_class_core.proofs.find.any_broken.Given as goal
+
+abbrev pub invariant-loop-class : goal.invariant-loop-class
+invariant-loop-class l = any_broken (listing_at l.fn.kept) (numbers l.left) ≡ any_broken (listing_at l.fn.kept) (numbers l.fn.classes)
+
+abbrev pub decreases-loop-class : goal.decreases-loop-class
+decreases-loop-class l = length l.left

@@ -1,0 +1,11 @@
+pub mod Precedence
+pub mod PrecedenceView
+pub mod Examples
+pub mod Classes
+pub mod Ways
+pub mod Kept
+pub mod Table
+pub mod TableView
+pub mod Initial
+pub mod Finding
+pub mod OrderView

@@ -1,0 +1,24 @@
+-- Which classes are done, and what stands before each, as the code keeps them by numbers.
+use Rattle.std.specs.Prelude.{◌≡◌, ℕ, Bool, false, List, [], slice_get, unwrap_or, map}
+use Rattle.std.specs.declared.alloc.Global.{Global}
+use Rattle.std.specs.declared.vec.Vec.{Vec}
+use Rattle.lisp_data.specs.declared.ids.ClassId.{ClassId}
+use Rattle.clos_class_core.specs.Precedence.{Supers, has, are_done, is_free}
+use Rattle.clos_class_core.specs.PrecedenceView.{numbers}
+
+abbrev pub is_marked : List Bool → ℕ → Bool
+is_marked marks x = unwrap_or (slice_get marks x) false
+
+-- just these are marked
+abbrev pub Marks : List Bool → List ℕ → Type 0
+Marks marks classes = (x : ℕ) → is_marked marks x ≡ has classes x
+
+abbrev pub rows_of : List (Vec ClassId Global) → List (List ℕ)
+rows_of rows = map (λ row. numbers row.items) rows
+
+abbrev pub row_at : List (List ℕ) → ℕ → List ℕ
+row_at rows x = unwrap_or (slice_get rows x) []
+
+-- By these rows a class is free just where all in its row are done.
+abbrev pub TellsFree : Supers → List ℕ → List (List ℕ) → Type 0
+TellsFree f all rows = (done : List ℕ) (x : ℕ) → are_done done (row_at rows x) ≡ is_free f all done x

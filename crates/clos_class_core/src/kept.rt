@@ -1,0 +1,46 @@
+//! What is kept of each class: its class precedence list, where there is one.
+ghost use Rattle.std.specs.Prelude.{◌≡◌};
+ghost use Rattle.clos_class_core.specs.PrecedenceView.{numbers, above_in};
+
+use lisp_data::ClassId;
+use std::rc::Rc;
+
+/// The class precedence list of a class, and its direct superclasses.
+#[derive(Drop)]
+pub struct Line {
+    pub list: Vec<ClassId>,
+    pub superclasses: Vec<ClassId>,
+}
+
+/// What there is to say of a class. A list is shared, never copied.
+#[derive(Drop)]
+pub enum Kept {
+    /// One of its superclasses, or of theirs and so on, is not defined.
+    Lacking,
+    /// All are, and there is no class precedence list.
+    Broken,
+    Listed(Rc<Line>),
+}
+
+/// The direct superclasses of classes, as they are kept, but for one class, whose are new.
+#[derive(Clone, Copy)]
+pub struct Above<'a> {
+    pub kept: &'a [Kept],
+    pub class: ClassId,
+    pub superclasses: &'a [ClassId],
+}
+
+impl Above<'_> {
+    /// Those of this class.
+    pub fn of(&self, class: ClassId) -> &[ClassId]
+        ensures { numbers result.now ≡ above_in self.now class.0 }
+    {
+        if class.0 == self.class.0 {
+            return self.superclasses;
+        }
+        match self.kept.get(class.0 as usize) {
+            Some(Kept::Listed(line)) => line.superclasses.as_slice(),
+            _ => &[],
+        }
+    }
+}

@@ -1,8 +1,0 @@
-pub mod Noted
-pub mod Each
-pub mod Built
-pub mod FirstInitform
-pub mod Added
-pub mod Completed
-pub mod Placed
-pub mod Given

@@ -1,5 +1,0 @@
-use Rattle.clos_slots.proofs.Placed.{has_none_twice}
-use Rattle.clos_slots.proofs.laws.has_none_twice.Goals as goal
-
-pub returns : goal.returns
-returns c = has_none_twice

@@ -1,5 +1,0 @@
-pub mod Slots
-pub mod SlotsView
-pub mod Building
-pub mod Laws
-pub mod Examples
