@@ -1,4 +1,5 @@
 pub mod Lists
+pub mod Looking
 pub mod Truth
 pub mod Unique
 pub mod Before

@@ -8,4 +8,5 @@ pub mod Table
 pub mod TableView
 pub mod Initial
 pub mod Finding
+pub mod Outlook
 pub mod OrderView

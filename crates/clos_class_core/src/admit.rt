@@ -1,7 +1,8 @@
 //! One more class among the others.
-ghost use Rattle.std.specs.Prelude.{◌≡◌, ◌<◌, ◌≤◌, ◌&&◌, ◌||◌, not, None, IfOk, IfErr, OnOk, OnErr, length};
+ghost use Rattle.std.specs.Prelude.{◌≡◌, ◌<◌, ℕ, ◌≤◌, ◌&&◌, ◌||◌, not, None, IfOk, IfErr, OnOk, OnErr, length};
 ghost use Rattle.clos_class_core.specs.Classes.{number_of, with_class, is_lacking, listing};
 ghost use Rattle.clos_class_core.specs.Kept.{IsConsistent, Knows, WasBefore};
+ghost use Rattle.clos_class_core.specs.Outlook.{listing_then};
 ghost use Rattle.clos_class_core.specs.PrecedenceView.{numbers, listing_at};
 ghost use Rattle.clos_class_core.specs.Table.{misplaced, changed};
 ghost use Rattle.clos_class_core.specs.TableView.{Refuses};
@@ -11,6 +12,7 @@ use crate::fault::ClassFault;
 use crate::find::is_lacking;
 use crate::kept::Kept;
 use crate::place::{Placed, place};
+use crate::preview::Preview;
 use lisp_data::{ClassId, Name};
 use std::alloc::{AllocError, Global};
 
@@ -104,7 +106,8 @@ pub fn admit(
     })
 }
 
-/// What stands against defining a class among the others, which stay as they were.
+/// What there would be to say of all classes, if this one were defined among the others, which stay as they were.
+#[tactic(auto, using(crate::proofs::Looking::then_known))]
 pub fn check_place(
     alloc: Global,
     definitions: &mut Definitions,
@@ -112,13 +115,32 @@ pub fn check_place(
     name: &Name,
     above: Vec<Name>,
     has_shared_slots: bool,
-) -> Result<(), ClassFault>
+) -> Result<Preview, ClassFault>
     requires { length kept.now ≡ length definitions.old.names }
     ensures ok { OnOk result (Knows definitions.old kept.now → misplaced (with_class definitions.old name.now above.items) (number_of definitions.old name.now) name.now (has_shared_slots || not (is_lacking (listing definitions.old (number_of definitions.old name.now)))) ≡ None) }
+    ensures class { IfOk result (λ r. r.class ≡ number_of definitions.old name.now) }
+    ensures lists { IfOk result (λ r. Knows definitions.old kept.now → (n : ℕ) → listing_then r n ≡ listing (with_class definitions.old name.now above.items) n) }
+    ensures changed { IfOk result (λ r. Knows definitions.old kept.now → r.changed ≡ changed definitions.old (with_class definitions.old name.now above.items)) }
     ensures fault { IfErr result (λ e. Knows definitions.old kept.now → Refuses e (misplaced (with_class definitions.old name.now above.items) (number_of definitions.old name.now) name.now (has_shared_slots || not (is_lacking (listing definitions.old (number_of definitions.old name.now)))))) }
     ensures same { definitions.new ≡ definitions.old }
 {
-    let admitted = put_and_place(alloc, definitions, kept, name, above, has_shared_slots)?;
-    definitions.take_back(admitted.put);
-    Ok(())
+    let Admitted { put, placed } = put_and_place(
+        alloc,
+        definitions,
+        kept,
+        name,
+        above,
+        has_shared_slots,
+    )?;
+    let class = put.class;
+    definitions.take_back(put);
+    let Placed {
+        kept: found,
+        changed,
+    } = placed;
+    Ok(Preview {
+        class,
+        kept: found,
+        changed,
+    })
 }

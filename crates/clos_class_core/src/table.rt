@@ -3,6 +3,7 @@ ghost use Rattle.std.specs.Prelude.{◌≡◌, ◌↔◌, ℕ, None, true, IfOk,
 ghost use Rattle.clos_class_core.specs.Classes.{named, number_of, with_class, listing, broken, list_in};
 ghost use Rattle.clos_class_core.specs.Precedence.{has};
 ghost use Rattle.clos_class_core.specs.Initial.{initial, is_standard, class_of_class};
+ghost use Rattle.clos_class_core.specs.Outlook.{listing_then};
 ghost use Rattle.clos_class_core.specs.PrecedenceView.{numbers};
 ghost use Rattle.clos_class_core.specs.Table.{Table, refusal, or_standard, changed, list_if};
 ghost use Rattle.clos_class_core.specs.TableView.{Refuses, IsListOf, HasCircle};
@@ -17,6 +18,7 @@ use crate::names::{check_names, or_standard};
 use crate::numbers::{BUILT_IN_CLASS, STANDARD_CLASS, STANDARD_OBJECT};
 use crate::precedence::contains;
 use crate::predefined::define_predefined;
+use crate::preview::Preview;
 use lisp_data::{ClassId, Name};
 use std::alloc::{AllocError, Global};
 use std::marker::Model;
@@ -99,16 +101,19 @@ impl Classes {
         )
     }
 
-    /// What stands against defining this class, or defining it again: the fault that `define` would answer. The table
-    /// stays as it was.
+    /// The fault that `define` would answer, or else what there would be to say of all classes after it. The table stays as it
+    /// was.
     pub fn check(
         &mut self,
         alloc: Global,
         name: &Name,
         superclasses: Vec<Name>,
         has_shared_slots: bool,
-    ) -> Result<(), ClassFault>
+    ) -> Result<Preview, ClassFault>
         ensures ok { OnOk result (refusal self.old name.now (or_standard superclasses.items) has_shared_slots ≡ None) }
+        ensures class { IfOk result (λ r. r.class ≡ number_of self.old.classes name.now) }
+        ensures lists { IfOk result (λ r. (n : ℕ) → listing_then r n ≡ listing (with_class self.old.classes name.now (or_standard superclasses.items)) n) }
+        ensures changed { IfOk result (λ r. r.changed ≡ changed self.old.classes (with_class self.old.classes name.now (or_standard superclasses.items))) }
         ensures fault { IfErr result (λ e. Refuses e (refusal self.old name.now (or_standard superclasses.items) has_shared_slots)) }
         ensures same { self.new ≡ self.old }
     {
