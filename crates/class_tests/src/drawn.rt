@@ -59,7 +59,7 @@ impl Draw {
 fn names(alloc: Global, above: &[u8]) -> Result<Vec<Name>, AllocError> {
     let mut names = Vec::new(alloc);
     for class in above {
-        names.push(Name::fixed(name(*class)))?;
+        names.push(Name::new(alloc, name(*class), false)?)?;
     }
     Ok(names)
 }
@@ -75,7 +75,7 @@ fn agrees(
     let above = draw.superclasses(alloc, class)?;
     let shared = draw.next() % 4 == 0;
     let wanted = model.define(alloc, class, above.as_slice(), shared)?;
-    let own = Name::fixed(name(class));
+    let own = Name::new(alloc, name(class), false)?;
     let asked = classes.check(alloc, &own, names(alloc, above.as_slice())?, shared);
     let answer = classes.define(alloc, &own, names(alloc, above.as_slice())?, shared);
     let found = told(alloc, classes, &answer)?;

@@ -32,7 +32,7 @@ impl Shape {
 
 fn name(alloc: Global, place: u64) -> Result<Name, AllocError> {
     let text = format!(in alloc; "C{place}")?;
-    Ok(Name::new(Text::new(text)?, false))
+    Name::new(alloc, text.as_str(), false)
 }
 
 /// The names of the classes of these places, the latest first.

@@ -103,14 +103,14 @@ fn read_form(alloc: Global, text: &'static str) -> Result<Form, AllocError> {
     let mut words = text.split_whitespace();
     let first = words.next().unwrap_or("");
     for word in words {
-        superclasses.push(Name::fixed(word))?;
+        superclasses.push(Name::new(alloc, word, false)?)?;
     }
     let (name, has_shared_slots) = match first.strip_prefix('+') {
         Some(name) => (name, true),
         None => (first, false),
     };
     Ok(Form {
-        name: Name::fixed(name),
+        name: Name::new(alloc, name, false)?,
         superclasses,
         has_shared_slots,
     })
@@ -185,8 +185,8 @@ fn class_of(alloc: Global, classes: &Classes, name: &Name) -> Result<String, All
 fn is_sub(alloc: Global, classes: &Classes, text: &'static str) -> Result<String, AllocError> {
     let (name, above) = text.split_once(' ').unwrap_or((text, ""));
     let line = match (
-        classes.named(&Name::fixed(name)),
-        classes.named(&Name::fixed(above)),
+        classes.named(&Name::new(alloc, name, false)?),
+        classes.named(&Name::new(alloc, above, false)?),
     ) {
         (Some(class), Some(above)) if classes.is_sub(class, above) => " yes",
         (Some(_), Some(_)) => " no",
@@ -199,10 +199,10 @@ fn is_sub(alloc: Global, classes: &Classes, text: &'static str) -> Result<String
 /// is another class or below it.
 fn outcome(alloc: Global, classes: &mut Classes, form: &'static str) -> Result<String, AllocError> {
     if let Some(name) = form.strip_prefix("? ") {
-        return list_of(alloc, classes, &Name::fixed(name));
+        return list_of(alloc, classes, &Name::new(alloc, name, false)?);
     }
     if let Some(name) = form.strip_prefix("@ ") {
-        return class_of(alloc, classes, &Name::fixed(name));
+        return class_of(alloc, classes, &Name::new(alloc, name, false)?);
     }
     if let Some(pair) = form.strip_prefix("< ") {
         return is_sub(alloc, classes, pair);

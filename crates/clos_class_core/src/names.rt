@@ -22,14 +22,14 @@ pub fn or_standard(alloc: Global, names: Vec<Name>) -> Result<Vec<Name>, AllocEr
         return Ok(names);
     }
     let mut standard = Vec::new(alloc);
-    standard.push(Name::fixed(STANDARD_OBJECT))?;
+    standard.push(Name::fixed(&STANDARD_OBJECT))?;
     Ok(standard)
 }
 
 fn is_standard(name: &Name) -> bool
     ensures { result ≡ same_name name.now standard_object }
 {
-    name.is(&Name::fixed(STANDARD_OBJECT))
+    name.is(&Name::fixed(&STANDARD_OBJECT))
 }
 
 /// Whether a name stands twice.

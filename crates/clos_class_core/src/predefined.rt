@@ -10,13 +10,13 @@ use crate::relist::relist;
 use lisp_data::Name;
 use std::alloc::{AllocError, Global};
 
-fn names(alloc: Global, texts: &[&'static str]) -> Result<Vec<Name>, AllocError>
+fn names(alloc: Global, texts: &'static [&'static str]) -> Result<Vec<Name>, AllocError>
     ensures { IfOk result (λ r. r.items ≡ fixed_names (map (λ t. t.now) texts.now)) }
 {
     let mut names = Vec::new(alloc);
     let mut place = 0;
     while place < texts.len() {
-        names.push(Name::fixed(texts[place]))?;
+        names.push(Name::fixed(&texts[place]))?;
         place += 1;
     }
     Ok(names)
@@ -28,11 +28,11 @@ fn add(
     alloc: Global,
     definitions: &mut Definitions,
     kept: &mut Vec<Kept>,
-    name: &'static str,
-    above: &[&'static str],
+    name: &'static &'static str,
+    above: &'static [&'static str],
 ) -> Result<(), AllocError>
     requires { Knows definitions.old kept.old.items }
-    ensures defined { OnOk result (definitions.new ≡ with_class definitions.old (fixed_name name.now) (fixed_names (map (λ t. t.now) above.now))) }
+    ensures defined { OnOk result (definitions.new ≡ with_class definitions.old (fixed_name name.now.now) (fixed_names (map (λ t. t.now) above.now))) }
     ensures knows { OnOk result (Knows definitions.new kept.new.items) }
 {
     let _rows = definitions.len();
@@ -51,24 +51,24 @@ fn add_objects_and_numbers(
     ensures defined { OnOk result (definitions.new ≡ all_defined definitions.old objects_and_numbers) }
     ensures knows { OnOk result (Knows definitions.new kept.new.items) }
 {
-    add(alloc, definitions, kept, "T", &[])?;
-    add(alloc, definitions, kept, "STANDARD-OBJECT", &["T"])?;
+    add(alloc, definitions, kept, &"T", &[])?;
+    add(alloc, definitions, kept, &"STANDARD-OBJECT", &["T"])?;
     add(
         alloc,
         definitions,
         kept,
-        "INTEGER",
+        &"INTEGER",
         &["RATIONAL", "REAL", "NUMBER", "T"],
     )?;
     add(
         alloc,
         definitions,
         kept,
-        "RATIONAL",
+        &"RATIONAL",
         &["REAL", "NUMBER", "T"],
     )?;
-    add(alloc, definitions, kept, "REAL", &["NUMBER", "T"])?;
-    add(alloc, definitions, kept, "NUMBER", &["T"])?;
+    add(alloc, definitions, kept, &"REAL", &["NUMBER", "T"])?;
+    add(alloc, definitions, kept, &"NUMBER", &["T"])?;
     Ok(())
 }
 
@@ -85,28 +85,34 @@ fn add_symbols_and_sequences(
         alloc,
         definitions,
         kept,
-        "NULL",
+        &"NULL",
         &["SYMBOL", "LIST", "SEQUENCE", "T"],
     )?;
-    add(alloc, definitions, kept, "SYMBOL", &["T"])?;
-    add(alloc, definitions, kept, "LIST", &["SEQUENCE", "T"])?;
-    add(alloc, definitions, kept, "SEQUENCE", &["T"])?;
-    add(alloc, definitions, kept, "CONS", &["LIST", "SEQUENCE", "T"])?;
+    add(alloc, definitions, kept, &"SYMBOL", &["T"])?;
+    add(alloc, definitions, kept, &"LIST", &["SEQUENCE", "T"])?;
+    add(alloc, definitions, kept, &"SEQUENCE", &["T"])?;
     add(
         alloc,
         definitions,
         kept,
-        "STRING",
+        &"CONS",
+        &["LIST", "SEQUENCE", "T"],
+    )?;
+    add(
+        alloc,
+        definitions,
+        kept,
+        &"STRING",
         &["VECTOR", "ARRAY", "SEQUENCE", "T"],
     )?;
     add(
         alloc,
         definitions,
         kept,
-        "VECTOR",
+        &"VECTOR",
         &["ARRAY", "SEQUENCE", "T"],
     )?;
-    add(alloc, definitions, kept, "ARRAY", &["T"])?;
+    add(alloc, definitions, kept, &"ARRAY", &["T"])?;
     Ok(())
 }
 
@@ -119,44 +125,50 @@ fn add_functions_and_metaobjects(
     ensures defined { OnOk result (definitions.new ≡ all_defined definitions.old functions_and_metaobjects) }
     ensures knows { OnOk result (Knows definitions.new kept.new.items) }
 {
-    add(alloc, definitions, kept, "FUNCTION", &["T"])?;
+    add(alloc, definitions, kept, &"FUNCTION", &["T"])?;
     add(
         alloc,
         definitions,
         kept,
-        "GENERIC-FUNCTION",
+        &"GENERIC-FUNCTION",
         &["FUNCTION", "T"],
     )?;
     add(
         alloc,
         definitions,
         kept,
-        "STANDARD-GENERIC-FUNCTION",
+        &"STANDARD-GENERIC-FUNCTION",
         &["GENERIC-FUNCTION", "FUNCTION", "T"],
     )?;
-    add(alloc, definitions, kept, "CLASS", &["STANDARD-OBJECT", "T"])?;
     add(
         alloc,
         definitions,
         kept,
-        "STANDARD-CLASS",
+        &"CLASS",
+        &["STANDARD-OBJECT", "T"],
+    )?;
+    add(
+        alloc,
+        definitions,
+        kept,
+        &"STANDARD-CLASS",
         &["CLASS", "STANDARD-OBJECT", "T"],
     )?;
     add(
         alloc,
         definitions,
         kept,
-        "BUILT-IN-CLASS",
+        &"BUILT-IN-CLASS",
         &["CLASS", "STANDARD-OBJECT", "T"],
     )?;
     add(
         alloc,
         definitions,
         kept,
-        "STANDARD-METHOD",
+        &"STANDARD-METHOD",
         &["METHOD", "STANDARD-OBJECT", "T"],
     )?;
-    add(alloc, definitions, kept, "METHOD", &["T"])?;
+    add(alloc, definitions, kept, &"METHOD", &["T"])?;
     Ok(())
 }
 

@@ -186,7 +186,7 @@ pub fn setter_value(alloc: Global, name: &Name) -> Result<Value, AllocError>
     let Ok(names) = Items::cons(alloc, value_named(name)?, Items::new()) else {
         return Err(AllocError);
     };
-    let Ok(names) = Items::cons(alloc, value_named(&Name::fixed("SETF"))?, names) else {
+    let Ok(names) = Items::cons(alloc, value_named(&Name::fixed(&"SETF"))?, names) else {
         return Err(AllocError);
     };
     Ok(Value::List(names))

@@ -226,7 +226,7 @@ fn symbol_in(value: &Value) -> Result<Option<Name>, AllocError>
     match value {
         Value::Sym(name) => Ok(Some(name.copy()?)),
         Value::List(items) => match items.split_first() {
-            None => Ok(Some(Name::fixed("NIL"))),
+            None => Ok(Some(Name::fixed(&"NIL"))),
             Some(_) => Ok(None),
         },
         _ => Ok(None),

@@ -34,7 +34,7 @@ fn designate_list(alloc: Global, world: &World, items: Items) -> Result<ClassId,
     ensures { Designates (designated (seen world.now).classes (list items)) result }
 {
     match items.split_first() {
-        None => found(alloc, world, &Name::fixed("NIL")),
+        None => found(alloc, world, &Name::fixed(&"NIL")),
         Some(_) => {
             let condition = about(alloc, ConditionKind::TypeError, Value::List(items))?;
             Err(Stop::Refused(condition))

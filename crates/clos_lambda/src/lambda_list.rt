@@ -233,8 +233,7 @@ fn parse_plain_key(alloc: Global, name: Name, rest: &Data) -> Result<Key, Syntax
 fn keyword_of(alloc: Global, name: &Name) -> Result<Name, AllocError>
     ensures { IfOk result (λ n. n ≡ keyword_of name.now) }
 {
-    let text = Text::from_str(alloc, name.as_str())?;
-    Ok(Name::new(text, true))
+    Name::new(alloc, name.as_str(), true)
 }
 
 /// `(name v)`, and what follows it.

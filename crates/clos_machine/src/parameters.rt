@@ -125,7 +125,7 @@ fn is_symbol_named(value: &Value, name: &Name) -> bool
 {
     match value {
         Value::Sym(other) => other.is(name),
-        Value::List(items) => items.split_first().is_none() && Name::fixed("NIL").is(name),
+        Value::List(items) => items.split_first().is_none() && Name::fixed(&"NIL").is(name),
         _ => false,
     }
 }

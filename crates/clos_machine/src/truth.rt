@@ -27,7 +27,7 @@ pub fn is_true(value: &Value) -> bool
 pub fn t() -> Value
     ensures { value_of result ≡ truth true }
 {
-    Value::Sym(Name::fixed("T"))
+    Value::Sym(Name::fixed(&"T"))
 }
 
 /// The value NIL, the empty list.

@@ -91,7 +91,7 @@ fn parse_specializer(alloc: Global, datum: &Datum) -> Result<ParameterSpecialize
     ensures { Gives (λ s. s) result (specializer_in (datum_of datum.now)) }
 {
     match datum {
-        Datum::Sym(_) => Ok(ParameterSpecializer::Class(Name::fixed("T"))),
+        Datum::Sym(_) => Ok(ParameterSpecializer::Class(Name::fixed(&"T"))),
         Datum::List(elements) => parse_listed_specializer(alloc, elements),
         Datum::Int(_) => Err(SyntaxFault::Program),
         Datum::Str(_) => Err(SyntaxFault::Program),

@@ -257,7 +257,7 @@ fn class_name(specializer: &ParameterSpecializer) -> Result<Name, AllocError>
 {
     match specializer {
         ParameterSpecializer::Class(name) => name.copy(),
-        ParameterSpecializer::Eql(_) => Ok(Name::fixed("T")),
+        ParameterSpecializer::Eql(_) => Ok(Name::fixed(&"T")),
     }
 }
 

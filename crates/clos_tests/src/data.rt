@@ -19,14 +19,9 @@ pub fn list(alloc: Global, text: &str) -> Result<Data, Fail> {
 }
 
 /// The list of a symbol, a datum and others.
-pub fn list_of(
-    alloc: Global,
-    symbol: &'static str,
-    datum: Datum,
-    others: Data,
-) -> Result<Datum, Fail> {
+pub fn list_of(alloc: Global, symbol: &str, datum: Datum, others: Data) -> Result<Datum, Fail> {
     let rest = Data::cons(alloc, datum, others)?;
-    let list = Data::cons(alloc, Datum::Sym(Name::fixed(symbol)), rest)?;
+    let list = Data::cons(alloc, Datum::Sym(Name::new(alloc, symbol, false)?), rest)?;
     Ok(Datum::List(list))
 }
 

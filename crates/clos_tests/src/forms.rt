@@ -321,8 +321,7 @@ fn bindings_and_slots_are_told(rt: HostRuntime) -> Result<(), Fail> {
 
 /// Whether the keyword of this name is a special operator, as the symbol may be.
 fn is_special_keyword(alloc: Global, name: &str) -> Option<bool> {
-    let text = Text::from_str(alloc, name).ok()?;
-    Some(is_special_operator(&Name::new(text, true)))
+    Some(is_special_operator(&Name::new(alloc, name, true).ok()?))
 }
 
 fn names_setf(datum: &Datum) -> bool {
@@ -331,11 +330,11 @@ fn names_setf(datum: &Datum) -> bool {
 
 #[test]
 fn names_of_the_language(rt: HostRuntime) -> Result<(), Fail> {
-    assert!(rt; is_definition(&Name::fixed("DEFCLASS")));
-    assert!(rt; is_special_operator(&Name::fixed("LET*")));
-    assert!(rt; is_function(&Name::fixed("NATIVE-CALL")));
-    assert!(rt; is_system_function(&Name::fixed("SLOT-UNBOUND")));
-    assert!(rt; is_closed_function(&Name::fixed("PRINT-OBJECT")));
+    assert!(rt; is_definition(&Name::fixed(&"DEFCLASS")));
+    assert!(rt; is_special_operator(&Name::fixed(&"LET*")));
+    assert!(rt; is_function(&Name::fixed(&"NATIVE-CALL")));
+    assert!(rt; is_system_function(&Name::fixed(&"SLOT-UNBOUND")));
+    assert!(rt; is_closed_function(&Name::fixed(&"PRINT-OBJECT")));
     assert!(rt; is_special_keyword(rt.alloc(), "LET") == Some(false));
     assert!(rt; names_setf(&datum(rt.alloc(), "(setf f)")?));
     assert!(rt; variable_name(&datum(rt.alloc(), "t")?).is_none());

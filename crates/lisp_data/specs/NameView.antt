@@ -1,8 +1,15 @@
--- The characters of a spelling.
-use Rattle.std.specs.Prelude.{ℕ, List}
+-- The names that spellings are of.
+use Rattle.std.specs.Prelude.{◌≡◌, false}
+use Rattle.lisp_data.specs.Keys.{hash_of}
+use Rattle.lisp_data.specs.Name.{Nam}
 use Rattle.lisp_data.specs.declared.name.Spelling.{Spelling}
 use Rattle.lisp_data.specs.declared.name.Spelling.TheVariants.{Fixed, Shared}
 
-abbrev pub spelled : Spelling → List ℕ
-spelled (Fixed text) = text.now
-spelled (Shared text) = text
+abbrev pub name_of : Spelling → Nam
+name_of (Fixed text) = record { text = text.now.now; keyword = false }
+name_of (Shared spelled) = record { text = spelled.value.text; keyword = spelled.value.keyword }
+
+-- the hash that is kept is that of the characters
+abbrev pub IsHashed : Spelling → Type 0
+IsHashed (Fixed text) = Unit {0}
+IsHashed (Shared spelled) = spelled.value.digest ≡ hash_of spelled.value.text

@@ -1,5 +1,6 @@
 -- The value that a `Value` stands for, and the list that a link does.
-use Rattle.lisp_data.specs.Value.{Val, integer, symbol, string, list, class, generic, method, instance, Vals, nil, cons}
+use Rattle.std.specs.Prelude.{◌≡◌}
+use Rattle.lisp_data.specs.Value.{length_of, nesting_in, Val, integer, symbol, string, list, class, generic, method, instance, Vals, nil, cons}
 use Rattle.lisp_data.specs.declared.value.Value.{Value}
 use Rattle.lisp_data.specs.declared.value.Value.TheVariants.{Int, Sym, Str, List, Class, Generic, Method, Instance}
 use Rattle.lisp_data.specs.declared.value.Link.{Link}
@@ -18,3 +19,9 @@ value_of (Instance id) = instance id.0
 abbrev pub items_of : Link → Vals
 items_of End = nil
 items_of (More pair) = cons (value_of pair.value.head) pair.value.tail
+
+-- the length and the nesting that a list keeps are its own
+abbrev pub KnowsItself : Link → Type 0
+KnowsItself End = Unit {0}
+KnowsItself (More pair) =
+    (pair.value.length ≡ length_of (items_of (More pair))) × (pair.value.nesting ≡ nesting_in (items_of (More pair)))

@@ -4,15 +4,24 @@ ghost use Rattle.lisp_data.specs.Name.{same_name};
 ghost use Rattle.std.specs.Prelude.{◌≡◌, ◌↔◌, IfOk, IsTrue};
 
 use crate::text::Text;
-use std::alloc::AllocError;
+use std::alloc::{AllocError, Global};
 use std::hash::{FoldHasher, Hasher};
 use std::marker::Model;
+use std::rc::Rc;
+
+/// What the copies of a name share: its characters with a hash of them, and whether it is a keyword.
+#[derive(Drop)]
+pub struct Spelled {
+    text: Text,
+    digest: u64,
+    keyword: bool,
+}
 
 /// Where the characters of a name lie.
 #[derive(Drop)]
 pub enum Spelling {
-    Fixed(&'static str),
-    Shared(Text),
+    Fixed(&'static &'static str),
+    Shared(Rc<Spelled>),
 }
 
 /// The name of a symbol: its characters, in upper case, and whether it is a keyword (HyperSpec 11.1.2.3). It keeps a
@@ -20,8 +29,6 @@ pub enum Spelling {
 #[derive(Drop)]
 pub struct Name {
     spelling: Spelling,
-    digest: u64,
-    keyword: bool,
 }
 
 impl Model for Name {
@@ -32,41 +39,42 @@ impl Model for Name {
 
     ghost coded = { name_code };
 
-    ghost use Rattle.lisp_data.specs.NameView.{spelled};
+    ghost use Rattle.lisp_data.specs.NameView.{name_of, IsHashed};
 
-    ghost view = { λ a. record { text = spelled a.spelling; keyword = a.keyword } };
+    ghost view = { λ a. name_of a.spelling };
 
-    ghost use Rattle.std.specs.Prelude.{◌≡◌};
-    ghost use Rattle.lisp_data.specs.Keys.{hash_of};
-
-    ghost invariant = { λ a. a.digest ≡ hash_of (spelled a.spelling) };
+    ghost invariant = { λ a. IsHashed a.spelling };
 }
 
 impl Name {
-    ghost use Rattle.lisp_data.specs.NameView.{spelled};
     ghost use Rattle.std.specs.Prelude.{false};
 
     /// A name of the program's own, which takes no memory. It is no keyword.
-    pub fn fixed(text: &'static str) -> Name
-        ensures { result ≡ record { text = text.now; keyword = false } }
+    pub fn fixed(text: &'static &'static str) -> Name
+        ensures { result ≡ record { text = text.now.now; keyword = false } }
     {
         Name {
             spelling: Spelling::Fixed(text),
-            digest: text_hash(text),
-            keyword: false,
         }
     }
 
     /// The name of these characters.
-    pub fn new(text: Text, keyword: bool) -> Name
-        ensures { result ≡ record { text = text; keyword = keyword } }
+    pub fn new(alloc: Global, text: &str, keyword: bool) -> Result<Name, AllocError>
+        ensures { IfOk result (λ r. r ≡ record { text = text.now; keyword = keyword }) }
     {
-        let digest = text_hash(text.as_str());
-        Name {
-            spelling: Spelling::Shared(text),
-            digest,
-            keyword,
-        }
+        let digest = text_hash(text);
+        let text = Text::from_str(alloc, text)?;
+        let spelled = Rc::new(
+            alloc,
+            Spelled {
+                text,
+                digest,
+                keyword,
+            },
+        )?;
+        Ok(Name {
+            spelling: Spelling::Shared(spelled),
+        })
     }
 
     /// Its characters, a keyword's without the colon.
@@ -75,7 +83,7 @@ impl Name {
     {
         match &self.spelling {
             Spelling::Fixed(text) => text,
-            Spelling::Shared(text) => text.as_str(),
+            Spelling::Shared(spelled) => spelled.text.as_str(),
         }
     }
 
@@ -83,7 +91,10 @@ impl Name {
     pub fn is_keyword(&self) -> bool
         ensures { result ≡ self.now.keyword }
     {
-        self.keyword
+        match &self.spelling {
+            Spelling::Fixed(_) => false,
+            Spelling::Shared(spelled) => spelled.keyword,
+        }
     }
 
     /// The same name, in a few steps whatever its length.
@@ -92,13 +103,9 @@ impl Name {
     {
         let spelling = match &self.spelling {
             Spelling::Fixed(text) => Spelling::Fixed(text),
-            Spelling::Shared(text) => Spelling::Shared(text.copy()?),
+            Spelling::Shared(spelled) => Spelling::Shared(spelled.clone()?),
         };
-        Ok(Name {
-            spelling,
-            digest: self.hash_code(),
-            keyword: self.keyword,
-        })
+        Ok(Name { spelling })
     }
 
     /// Whether both are one name.
@@ -107,15 +114,18 @@ impl Name {
         ensures only { IsTrue result ↔ (self.now ≡ other.now) }
     {
         self.hash_code() == other.hash_code()
-            && self.keyword == other.keyword
+            && self.is_keyword() == other.is_keyword()
             && self.as_str() == other.as_str()
     }
 
-    /// The hash of its characters that it keeps.
+    /// The hash of its characters, which a name that is shared keeps.
     pub fn hash_code(&self) -> u64
         ensures { result ≡ hash_of self.now.text }
     {
-        self.digest
+        match &self.spelling {
+            Spelling::Fixed(text) => text_hash(text),
+            Spelling::Shared(spelled) => spelled.digest,
+        }
     }
 }
 

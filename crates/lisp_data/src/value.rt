@@ -60,8 +60,6 @@ impl Value {
 #[cycle(value)]
 pub struct Items {
     first: Link,
-    length: u32,
-    nesting: u16,
 }
 
 #[cycle(value)]
@@ -76,23 +74,24 @@ enum Link {
 struct Pair {
     head: Value,
     tail: Items,
+    /// Of the list that begins here, like the nesting.
+    length: u32,
+    nesting: u16,
 }
 
 impl Model for Items {
-    ghost use Rattle.std.specs.Prelude.{◌≡◌};
-    ghost use Rattle.lisp_data.specs.Value.{Vals, size_of_values, length_of, nesting_in, IsWithinLimits};
+    ghost use Rattle.lisp_data.specs.Value.{Vals, size_of_values, IsWithinLimits};
     ghost use Rattle.lisp_data.specs.ValueCode.{values_code};
 
     ghost Value = { Vals };
 
     ghost coded = { values_code };
 
-    ghost use Rattle.lisp_data.specs.ValueView.{items_of};
+    ghost use Rattle.lisp_data.specs.ValueView.{items_of, KnowsItself};
 
     ghost view = { λ a. items_of a.first };
 
-    ghost invariant = { λ a. (a.length ≡ length_of (items_of a.first)) × (a.nesting ≡ nesting_in (items_of a.first))
-        × IsWithinLimits (items_of a.first) };
+    ghost invariant = { λ a. KnowsItself a.first × IsWithinLimits (items_of a.first) };
 
     ghost size = { size_of_values };
 }
@@ -102,11 +101,7 @@ impl Items {
     pub fn new() -> Items
         ensures { result ≡ nil }
     {
-        Items {
-            first: Link::End,
-            length: 0,
-            nesting: 0,
-        }
+        Items { first: Link::End }
     }
 
     /// The number of elements.
@@ -114,7 +109,10 @@ impl Items {
         ensures value { result ≡ length_of self.now }
         ensures most { result ≤ most_elements }
     {
-        u64::from(self.length)
+        match &self.first {
+            Link::End => 0,
+            Link::More(pair) => u64::from(pair.length),
+        }
     }
 
     /// How deep lists nest in it, itself included: the empty list nests none.
@@ -122,7 +120,10 @@ impl Items {
         ensures value { result ≡ nesting_in self.now }
         ensures most { result ≤ most_nesting }
     {
-        u64::from(self.nesting)
+        match &self.first {
+            Link::End => 0,
+            Link::More(pair) => u64::from(pair.nesting),
+        }
     }
 
     /// The list with this element before the others, where it is neither too long nor too deep.
@@ -136,11 +137,15 @@ impl Items {
         if length > MAX_ELEMENTS || nesting > MAX_NESTING {
             return Err(ListFault::Limit);
         }
-        let pair = Rc::new(alloc, Pair { head, tail })?;
-        Ok(Items {
-            first: Link::More(pair),
+        let pair = Pair {
+            head,
+            tail,
             length: length as u32,
             nesting: nesting as u16,
+        };
+        let pair = Rc::new(alloc, pair)?;
+        Ok(Items {
+            first: Link::More(pair),
         })
     }
 
@@ -162,8 +167,6 @@ impl Items {
             Link::End => Ok(Items::new()),
             Link::More(pair) => Ok(Items {
                 first: Link::More(pair.clone()?),
-                length: self.length,
-                nesting: self.nesting,
             }),
         }
     }
@@ -171,11 +174,7 @@ impl Items {
     fn into_first(self) -> Link
         ensures { items_of result ≡ self }
     {
-        let Items {
-            first,
-            length: _,
-            nesting: _,
-        } = self;
+        let Items { first } = self;
         first
     }
 }
@@ -183,18 +182,21 @@ impl Items {
 impl Drop for Items {
     #[cycle(value)]
     fn drop(self) {
-        let Items {
-            first,
-            length: _,
-            nesting: _,
-        } = self;
+        let Items { first } = self;
         let mut link = first;
         loop {
             match link {
                 Link::End => return,
                 Link::More(pair) => match Rc::into_inner(pair) {
                     None => return,
-                    Some(Pair { head, tail }) => {
+                    Some(
+                        Pair {
+                            head,
+                            tail,
+                            length: _,
+                            nesting: _,
+                        },
+                    ) => {
                         drop(head);
                         link = tail.into_first();
                     }

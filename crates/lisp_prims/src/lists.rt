@@ -159,7 +159,7 @@ fn copied_symbol(name: &Name) -> Result<Value, PrimFault>
     if let Ok(copy) = name.copy() {
         return Ok(Value::Sym(copy));
     }
-    let truth = Name::fixed("T");
+    let truth = Name::fixed(&"T");
     if name.is(&truth) {
         Ok(Value::Sym(truth))
     } else {

@@ -146,7 +146,7 @@ fn truth(holds: bool) -> Value
     ensures { value_of result ≡ truth holds }
 {
     if holds {
-        Value::Sym(Name::fixed("T"))
+        Value::Sym(Name::fixed(&"T"))
     } else {
         Value::List(Items::new())
     }

@@ -9,12 +9,12 @@ use lisp_data::{Data, Datum, Dot, ListFault, Name};
 use std::alloc::{AllocError, Global};
 
 /// The list of this symbol and this datum.
-pub fn prefixed_by(alloc: Global, operator: &'static str, datum: Datum) -> Result<Datum, AllocError>
+pub fn prefixed_by(alloc: Global, operator: &str, datum: Datum) -> Result<Datum, AllocError>
     requires { nesting_of (datum_of datum) < most_nesting }
     ensures { IfOk result (λ d. datum_of d ≡ prefixed_by operator.now (datum_of datum)) }
 {
     let tail = longer(alloc, datum, Data::new())?;
-    let items = longer(alloc, Datum::Sym(Name::fixed(operator)), tail)?;
+    let items = longer(alloc, Datum::Sym(Name::new(alloc, operator, false)?), tail)?;
     Ok(Datum::List(items))
 }
 
@@ -24,7 +24,7 @@ pub fn list_of(alloc: Global, items: Vec<Datum>) -> Result<Datum, AllocError>
     ensures { MatchResult result (λ d. datum_of d ≡ list_of (map datum_of items.items)) (λ e. 0 < length items.items) }
 {
     if items.is_empty() {
-        return Ok(Datum::Sym(Name::fixed("NIL")));
+        return Ok(Datum::Sym(Name::fixed(&"NIL")));
     }
     Ok(Datum::List(prepended(alloc, items, Data::new())?))
 }
@@ -75,7 +75,7 @@ fn dotted(alloc: Global, items: Vec<Datum>, atom: Datum) -> Result<Datum, AllocE
 fn is_nil(name: &Name) -> bool
     ensures { result ≡ is_nil name.now }
 {
-    name.is(&Name::fixed("NIL"))
+    name.is(&Name::fixed(&"NIL"))
 }
 
 /// These elements before those of the list.

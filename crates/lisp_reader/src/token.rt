@@ -237,5 +237,5 @@ fn upcased_name(alloc: Global, text: &str, keyword: bool) -> Result<Name, AllocE
 {
     let mut upcased = String::from_str(alloc, text)?;
     upcased.make_ascii_uppercase();
-    Ok(Name::new(Text::new(upcased)?, keyword))
+    Name::new(alloc, upcased.as_str(), keyword)
 }

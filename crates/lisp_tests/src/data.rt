@@ -218,15 +218,20 @@ fn place_of_value(alloc: Global, keys: &str, key: &str) -> Option<(usize, Option
 }
 
 fn name(alloc: Global, keyword: bool) -> Option<Name> {
-    Some(Name::new(Text::from_str(alloc, "FOO").ok()?, keyword))
+    Name::new(alloc, "FOO", keyword).ok()
 }
 
 fn names(alloc: Global) -> Option<Vec<Name>> {
-    vec![in alloc; Name::fixed("FOO"), name(alloc, true)?, name(alloc, false)?].ok()
+    vec![in alloc;
+        Name::fixed(&"FOO"),
+        name(alloc, true)?,
+        name(alloc, false)?,
+    ]
+    .ok()
 }
 
 fn place_of_name(alloc: Global) -> Option<(usize, Option<u64>)> {
-    place_of(alloc, names(alloc)?, &Name::fixed("FOO"))
+    place_of(alloc, names(alloc)?, &Name::fixed(&"FOO"))
 }
 
 fn data(alloc: Global) -> Option<Vec<Datum>> {

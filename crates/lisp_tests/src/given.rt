@@ -76,7 +76,7 @@ fn as_items(alloc: Global, data: &Data, end: Items) -> Option<Items> {
 
 fn dotted(alloc: Global, last: Value) -> Option<Items> {
     let end = Items::cons(alloc, last, Items::new()).ok()?;
-    Items::cons(alloc, Value::Sym(Name::fixed(".")), end).ok()
+    Items::cons(alloc, Value::Sym(Name::fixed(&".")), end).ok()
 }
 
 /// The value of a name: NIL is the empty list, and names such as CLASS/1 stand for objects.

@@ -273,8 +273,7 @@ const NAMES: &[(&str, bool, bool)] = &[
 ];
 
 fn is_served(alloc: Global, name: &str, keyword: bool) -> Option<bool> {
-    let text = Text::from_str(alloc, name).ok()?;
-    Some(serves(&Name::new(text, keyword)))
+    Some(serves(&Name::new(alloc, name, keyword).ok()?))
 }
 
 #[test]

@@ -80,8 +80,8 @@ impl Naming for Told {
 
 pub fn no_methods(alloc: Global) -> Told {
     Told {
-        class: Name::fixed("P"),
-        generic: Name::fixed("G"),
+        class: Name::fixed(&"P"),
+        generic: Name::fixed(&"G"),
         methods: Vec::new(alloc),
     }
 }
