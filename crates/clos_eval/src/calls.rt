@@ -31,7 +31,7 @@ use clos_machine::parameters::{ParameterPlan, fits, plan_for, requires_only};
 use clos_machine::truth::nil;
 use clos_world::{
     ConditionKind, Function, Generic, Method, PrecedenceLists, Stop, Values, World, about,
-    about_call, about_name, generic_named, method_numbered, ordered_methods, plain,
+    about_call, about_name, method_numbered, ordered_methods, plain,
 };
 use lisp_data::{Items, MethodId, Name, Value};
 use lisp_prims::Primitive;
@@ -125,9 +125,9 @@ pub fn call(
     ensures leads { Leads (inside machine.old (λ w. called_function (meaning machine.old.room) name.now values (function_named w.generics name.now) w)) (seen world.now) result machine.new }
     ensures small { Grows 6 machine.old.levels result machine.new }
 {
-    match generic_named(&world.generics, name) {
+    match world.generics.named(name) {
         None => call_named(alloc, machine, world, name, values),
-        Some(id) => match world.generics.get(id.0 as usize) {
+        Some(id) => match world.generics.get(id) {
             None => Err(Stop::Refused(plain(alloc, ConditionKind::ProgramError))),
             Some(generic) => call_generic(alloc, machine, world, generic, values),
         },
@@ -555,7 +555,7 @@ pub fn function_named(
     ensures small { Grows 6 machine.old.levels result machine.new }
 {
     match name {
-        FunctionName::Symbol(name) => match generic_named(&world.generics, name) {
+        FunctionName::Symbol(name) => match world.generics.named(name) {
             Some(id) => Ok(Doing::Give(Value::Generic(id))),
             None => {
                 let known = is_plain_function(world, name);

@@ -92,3 +92,10 @@ pub tree_step : (room m : ℕ) (context : Context) (p : Part) (s : Shape) (fs : 
 tree_step room m context p s fs r h n =
     ap (λ k. tree_at k context p) r ∙ ap (λ o. o >>= λ u. trees_at m context u.parts >>= λ gs. Some (form u.operator gs)) h
     ∙ ap (λ o. o >>= λ gs. Some (form s.operator gs)) n
+
+-- where the list further in is refused
+pub tree_refused : (e : SyntaxFault) (room m : ℕ) (context : Context) (p : Part) (s : Shape) → room ≡ suc m → shape_of context p.role p.datum ≡ Some s → Fails e (trees_at m context s.parts) → Fails e (tree_at room context p)
+tree_refused Program room m context p s r h n =
+    ap (λ k. tree_at k context p) r ∙ ap (λ o. o >>= λ u. trees_at m context u.parts >>= λ gs. Some (form u.operator gs)) h
+    ∙ ap (λ o. o >>= λ gs. Some (form s.operator gs)) n
+tree_refused Memory room m context p s r h n = tt

@@ -10,7 +10,7 @@ ghost use Rattle.clos_system.specs.Function.{define_function, new_function_defin
 
 use clos_eval::setter_value;
 use clos_forms::{FunctionName, value_named};
-use clos_world::{ConditionKind, Function, Stop, World, generic_named, plain};
+use clos_world::{ConditionKind, Function, Stop, World, plain};
 use lisp_data::{Name, Value};
 use std::alloc::Global;
 
@@ -49,7 +49,7 @@ fn define_named(
 ) -> Result<Value, Stop>
     ensures { Answers (new_function_defined name function) (seen world.old) steps.old result (seen world.new) steps.new }
 {
-    if generic_named(&world.generics, &name).is_some() {
+    if world.generics.named(&name).is_some() {
         return Err(Stop::Refused(plain(alloc, ConditionKind::ProgramError)));
     }
     if world.functions.get(&name).is_none() && !has_room(world) {

@@ -13,7 +13,7 @@ ghost use Rattle.clos_system.specs.Step.{specializer_number, specializer_numbers
 use clos_forms::Forms;
 use clos_world::{
     ClassIds, ConditionKind, Generic, Method, MethodIds, Parameters, Stop, World, about_name,
-    generic_named, method_numbered, plain,
+    method_numbered, plain,
 };
 use lisp_data::{ClassId, GenericId, MethodId, Name, Value};
 use std::alloc::{AllocError, Global};
@@ -95,7 +95,7 @@ pub fn defmethod(
     }
     match specializers(alloc, world, classes) {
         Err(stop) => Err(stop),
-        Ok(specializers) => match generic_named(&world.generics, &name) {
+        Ok(specializers) => match world.generics.named(&name) {
             None => add_function(alloc, world, name, parameters, specializers, body, steps),
             Some(id) => add_method(
                 alloc,
@@ -137,7 +137,7 @@ fn add_function(
         return Err(Stop::Storage);
     };
     let generic = GenericId(functions);
-    let Ok(()) = reserve(world) else {
+    let Ok(()) = world.methods.reserve(1) else {
         return Err(Stop::Storage);
     };
     let Ok(()) = world.generics.push(Generic {
@@ -146,7 +146,7 @@ fn add_function(
         methods,
     })
     else {
-        unreachable!()
+        return Err(Stop::Storage);
     };
     let Ok(()) = world.methods.push(Method {
         generic,
@@ -161,17 +161,6 @@ fn add_function(
     Ok(Value::Method(id))
 }
 
-/// Makes room for one more generic function and one more method.
-fn reserve(world: &mut World) -> Result<(), AllocError>
-    ensures same { seen world.new ≡ seen world.old }
-    ensures generics { OnOk result (vec_len world.new.generics < vec_capacity world.new.generics) }
-    ensures methods { OnOk result (vec_len world.new.methods < vec_capacity world.new.methods) }
-{
-    world.generics.reserve(1)?;
-    world.methods.reserve(1)?;
-    Ok(())
-}
-
 /// The methods of a function with this one among them, where nothing stands against it.
 fn prepare(
     alloc: Global,
@@ -184,7 +173,7 @@ fn prepare(
 ) -> Result<MethodIds, Stop>
     ensures { Prepares (seen world.now) name.now id.0 parameters.now specializers.now steps result }
 {
-    match world.generics.get(id.0 as usize) {
+    match world.generics.get(id) {
         None => Err(Stop::Refused(plain(alloc, ConditionKind::ProgramError))),
         Some(generic) => {
             if generic.required != parameters.as_slice().len() as u64 {
@@ -232,8 +221,7 @@ fn add_method(
             else {
                 return Err(Stop::Storage);
             };
-            let place = id.0 as usize;
-            world.generics[place].methods = methods;
+            world.generics.set_methods(id, methods);
             *steps -= 1;
             Ok(Value::Method(MethodId(count)))
         }

@@ -19,7 +19,9 @@ use clos_class_core::Classes;
 use clos_eval::evaluate;
 use clos_forms::SyntaxFault;
 use clos_syntax::{Top, parse_top};
-use clos_world::{ConditionKind, Function, Functions, Globals, Limits, Stop, Values, World, plain};
+use clos_world::{
+    ConditionKind, Function, Functions, Generics, Globals, Limits, Stop, Values, World, plain,
+};
 use lisp_data::{Datum, Items, Value};
 use std::alloc::{AllocError, Global};
 
@@ -54,7 +56,7 @@ impl Session {
         let classes = Classes::new(alloc, limits.classes)?;
         let world = World {
             classes,
-            generics: Vec::new(alloc),
+            generics: Generics::new(alloc),
             methods: Vec::new(alloc),
             functions: Functions::new(alloc),
             setters: Functions::new(alloc),

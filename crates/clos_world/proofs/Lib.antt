@@ -1,3 +1,4 @@
 pub mod Lists
 pub mod Variables
 pub mod Order
+pub mod Indexed

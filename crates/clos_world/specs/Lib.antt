@@ -2,6 +2,7 @@ pub mod Limits
 pub mod Values
 pub mod Class
 pub mod Generic
+pub mod GenericsView
 pub mod ParametersView
 pub mod Condition
 pub mod Globals

@@ -33,7 +33,7 @@ pub record State : Type 0 where
 abbrev pub seen : World → State
 seen w = record {
   classes = w.classes;
-  generics = w.generics.items;
+  generics = w.generics;
   methods = w.methods.items;
   functions = w.functions;
   setters = w.setters;

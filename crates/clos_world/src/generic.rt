@@ -1,11 +1,17 @@
 //! Generic functions and their methods (HyperSpec 7.6.1, 7.6.2).
-ghost use Rattle.std.specs.Prelude.{◌≡◌, ◌<◌, ◌≤◌, [], IfOk, if◌then◌else◌, is_ok, option_map, length, slice_index, slice_get, insert, remove};
+ghost use Rattle.std.specs.Prelude.{◌≡◌, ◌<◌, ◌≤◌, ◌++◌, ◌∷◌, [], Some, IfOk, OnOk, OnErr, if◌then◌else◌, is_ok, option_map, option_copied, length, slice_index, slice_get, slice_set, insert, remove};
+ghost use Rattle.std.specs.Option.{option_or};
+ghost use Rattle.std.specs.HashMap.{get};
+ghost use Rattle.lisp_data.specs.Name.{Nam, same_name};
 ghost use Rattle.clos_world.specs.Generic.{function_named};
+ghost use Rattle.clos_world.specs.GenericsView.{noted};
+ghost use Rattle.clos_world.specs.declared.generic.Generic.{Generic};
 
 use crate::class_ids::ClassIds;
 use clos_forms::Forms;
 use lisp_data::{GenericId, MethodId, Name};
 use std::alloc::{AllocError, Global};
+use std::collections::HashMap;
 use std::marker::Model;
 use std::rc::Rc;
 
@@ -149,20 +155,98 @@ pub struct Generic {
     pub methods: MethodIds,
 }
 
-/// The number of the generic function of this name.
-pub fn generic_named(generics: &[Generic], name: &Name) -> Option<GenericId>
-    ensures { option_map (λ g. g.0) result ≡ function_named generics.now name.now }
-{
-    match place_named(generics, name) {
-        Some(place) => Some(GenericId(place as u64)),
-        None => None,
-    }
+/// The generic functions of a session, each known by its number, its place among them, and found by its name. Contracts
+/// see the list.
+#[derive(Drop)]
+pub struct Generics {
+    functions: Vec<Generic>,
+    /// Of each name the first function that has it.
+    index: HashMap<Name, GenericId>,
 }
 
-fn place_named(generics: &[Generic], name: &Name) -> Option<usize>
-    ensures { result ≡ function_named generics.now name.now }
+impl Model for Generics {
+    ghost use Rattle.std.specs.Prelude.{List};
+    ghost use Rattle.std.specs.Coded.{coded_list};
+    ghost use Rattle.clos_world.specs.declared.generic.Generic.{Generic};
+    ghost use Rattle.clos_world.specs.contracts.generic.Generic as generic;
+
+    ghost Value = { List Generic };
+
+    ghost coded = { coded_list generic.the_row.coded };
+
+    ghost view = { λ a. a.functions.items };
+
+    ghost use Rattle.clos_world.specs.GenericsView.{IsIndexed};
+    ghost use Rattle.std.specs.HashMap.{get};
+    ghost use Rattle.lisp_data.specs.Name.{same_name};
+
+    ghost invariant = { λ a. IsIndexed a.functions.items (λ n. get same_name a.index n) };
+}
+
+/// Notes the number of a function under its name, unless the name has one.
+fn note(index: &mut HashMap<Name, GenericId>, name: &Name, id: GenericId) -> Result<(), AllocError>
+    ensures ok { OnOk result ((n : Nam) → get same_name index.new n ≡ option_or (get same_name index.old n) (noted name.now id n)) }
+    ensures err { OnErr result ((n : Nam) → get same_name index.new n ≡ get same_name index.old n) }
 {
-    generics.iter().position(|generic| generic.name.is(name))
+    if !index.contains_key(name) {
+        index.insert(name.copy()?, id)?;
+    }
+    Ok(())
+}
+
+impl Generics {
+    /// No functions.
+    pub fn new(alloc: Global) -> Generics
+        ensures { result ≡ [] }
+    {
+        Generics {
+            functions: Vec::new(alloc),
+            index: HashMap::new(alloc),
+        }
+    }
+
+    /// How many they are.
+    pub fn len(&self) -> usize
+        ensures { result ≡ length self.now }
+    {
+        self.functions.len()
+    }
+
+    /// The function of this number.
+    pub fn get(&self, id: GenericId) -> Option<&Generic>
+        ensures { option_copied result ≡ slice_get self.now id.0 }
+    {
+        self.functions.get(id.0 as usize)
+    }
+
+    /// The number of the function of this name.
+    pub fn named(&self, name: &Name) -> Option<GenericId>
+        ensures { option_map (λ g. g.0) result ≡ function_named self.now name.now }
+    {
+        self.index.get(name).copied()
+    }
+
+    /// One more function, which comes last.
+    #[tactic(auto, using(crate::proofs::Indexed::one_more))]
+    pub fn push(&mut self, function: Generic) -> Result<(), AllocError>
+        ensures ok { OnOk result (self.new ≡ self.old ++ function ∷ []) }
+        ensures err { OnErr result (self.new ≡ self.old) }
+    {
+        self.functions.reserve(1)?;
+        let id = GenericId(self.functions.len() as u64);
+        note(&mut self.index, &function.name, id)?;
+        self.functions.push(function)?;
+        Ok(())
+    }
+
+    /// Gives the function of this number these methods.
+    #[tactic(auto, using(crate::proofs::Indexed::same_names))]
+    pub fn set_methods(&mut self, id: GenericId, methods: MethodIds)
+        requires { id.0 < length self.old }
+        ensures { (g : Generic) → slice_get self.old id.0 ≡ Some g → self.new ≡ slice_set self.old id.0 (record g { methods = methods }) }
+    {
+        self.functions[id.0 as usize].methods = methods;
+    }
 }
 
 /// The method of this number.

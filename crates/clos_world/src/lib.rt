@@ -17,7 +17,7 @@ pub use condition::{
 };
 pub use dispatch::{PrecedenceLists, ordered_methods};
 pub use functions::{Function, Functions};
-pub use generic::{Generic, Method, MethodIds, Parameters, generic_named, method_numbered};
+pub use generic::{Generic, Generics, Method, MethodIds, Parameters, method_numbered};
 pub use globals::Globals;
 pub use limits::Limits;
 pub use values::Values;

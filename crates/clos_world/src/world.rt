@@ -6,7 +6,7 @@ ghost use Rattle.clos_world.specs.Class.{precedence_or_none};
 ghost use Rattle.clos_world.specs.World.{seen, class_of, class_of_instance, names_of};
 
 use crate::functions::Functions;
-use crate::generic::{Generic, Method};
+use crate::generic::{Generics, Method};
 use crate::globals::Globals;
 use crate::limits::Limits;
 use clos_class_core::{Classes, numbers};
@@ -19,7 +19,7 @@ use std::alloc::AllocError;
 #[derive(Drop)]
 pub struct World {
     pub classes: Classes,
-    pub generics: Vec<Generic>,
+    pub generics: Generics,
     /// All ever made.
     pub methods: Vec<Method>,
     /// By symbols.
@@ -102,7 +102,7 @@ impl Naming for World {
     }
 
     fn generic_name(&self, id: GenericId) -> Option<FunctionName<'_>> {
-        match self.generics.get(id.0 as usize) {
+        match self.generics.get(id) {
             Some(generic) => Some(FunctionName::Symbol(&generic.name)),
             None => None,
         }

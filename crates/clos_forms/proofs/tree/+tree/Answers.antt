@@ -1,7 +1,7 @@
 use Rattle.std.proofs.Common.{◌-◌, ap, arith, sym, ◌∙◌, Some, map}
 use Rattle.clos_forms.specs.Grammar.{each_part, tree_at}
 use Rattle.clos_forms.specs.PartView.{part_of, shape_told}
-use Rattle.clos_forms.proofs.Parts.{trees_failed, trees_go_on, tree_step}
+use Rattle.clos_forms.proofs.Parts.{trees_failed, trees_go_on, tree_refused, tree_step}
 use Rattle.clos_forms.proofs.tree.+tree.Goals as goal
 
 pub tree_at-returns-in_ok-new-in-Ok-trees_at : goal.tree_at-returns-in_ok-new-in-Ok-trees_at
@@ -9,6 +9,10 @@ tree_at-returns-in_ok-new-in-Ok-trees_at t c =
     tree_step c.args.room (c.args.room - 1) c.args.context (part_of c.args.part) (shape_told c.in-Ok.shape) c.in-Ok-trees_at.forms
     (omega (arith, c.if-room-eq0.false)) c.in-Ok.ensures c.in-Ok-trees_at.ensures
     ∙ ap Some (sym c.in_ok-new-in-Ok-trees_at.ensures)
+
+pub tree_at-returns-in-Err-trees_at : goal.tree_at-returns-in-Err-trees_at
+tree_at-returns-in-Err-trees_at t c =
+    tree_refused c.in-Err-trees_at.fault c.args.room (c.args.room - 1) c.args.context (part_of c.args.part) (shape_told c.in-Ok.shape) (omega (arith, c.if-room-eq0.false)) c.in-Ok.ensures c.in-Err-trees_at.ensures
 
 pub trees_at-returns-in-Err : goal.trees_at-returns-in-Err
 trees_at-returns-in-Err t c =
