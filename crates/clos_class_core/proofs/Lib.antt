@@ -34,6 +34,7 @@ pub mod NoListing
 pub mod Listed
 pub mod Numbered
 pub mod Ways
+pub mod Climbing
 pub mod Lacking
 pub mod Consistent
 pub mod Superclasses

@@ -1,7 +1,6 @@
 -- A class precedence list does not depend on how its family is listed.
-use Rattle.std.proofs.Common.{◌≡◌, ℕ, ◌==◌, Bool, true, false, List, [], ◌∷◌, Option, Some, None, inl, inr, length, reverse, arith, refl, sym, subst, ap, ◌∙◌}
+use Rattle.std.proofs.Common.{◌≡◌, ℕ, ◌==◌, true, false, List, [], ◌∷◌, Option, Some, None, inl, inr, length, reverse, arith, refl, sym, subst, ap, ◌∙◌}
 use Rattle.std.specs.Prelude.{◌||◌, ◌⊎◌}
-use Rattle.std.proofs.lemmas.Bool.{eqb-true}
 use Rattle.lisp_data.specs.declared.ids.ClassId.{ClassId}
 use Rattle.clos_class_core.specs.Precedence.{Supers, has, are_before_done, is_free, Next, InTurn, IsPrecedenceList, precedence_list, IsFamily, Tells}
 use Rattle.clos_class_core.specs.Classes.{Classes, Listing, lacking, broken, listed, all_above, listed_if, in_order, found, superclasses, is_based}
@@ -64,18 +63,6 @@ same_members f c a b s m =
     same_told f a b (precedence_list f c a) (precedence_list f c b) s (tells f c a (precedence_list f c a) refl m) (tells f c b (precedence_list f c b) refl (same_family f c a b s m))
 
 -- ---- the family of a class, each member once
-
-pub added_there_by : (family others : List ℕ) (c x : ℕ) (b : Bool) → (c == x) ≡ b → has family c ≡ true → (has family x || (b || has others x)) ≡ (has family x || has others x)
-added_there_by family others c x true e h = let p : has family x ≡ true = subst (λ v. has family v ≡ true) (eqb-true c x e) h in cc
-added_there_by family others c x false e h = refl
-
-pub added_there : (family others : List ℕ) (c x : ℕ) → has family c ≡ true → (has family x || has (c ∷ others) x) ≡ (has family x || has others x)
-added_there family others c x h = added_there_by family others c x (c == x) refl h
-
-pub added_new : (a b c : Bool) → ((a || b) || c) ≡ (b || (a || c))
-added_new true true c = refl
-added_new true false c = refl
-added_new false b c = refl
 
 pub reversed : (family : List ℕ) (x : ℕ) → has (reverse family) x ≡ has family x
 reversed family x = reversed_any (λ y. y == x) family

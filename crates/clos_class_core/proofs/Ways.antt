@@ -128,7 +128,7 @@ of_one : (cs : Classes) (n x : ℕ) → (n ≡ x) ⊎ (has [] x ≡ true) → Is
 of_one cs n x (inl e) s = subst (λ v. IsSuperclass cs v n) (sym e) s
 of_one cs n x (inr h) s = nothing h
 
-own_superclass : (cs : Classes) (n : ℕ) → is_circular cs n ≡ true → IsSuperclass cs n n
+pub own_superclass : (cs : Classes) (n : ℕ) → is_circular cs n ≡ true → IsSuperclass cs n n
 own_superclass cs n h = let p : Above cs (n ∷ []) n = above (length cs.names) cs n (n ∷ []) h in of_one cs n p.0 (first_or_later n p.0 [] p.1) p.2
 
 pub is_circle : (cs : Classes) (n : ℕ) → IsSuperclass cs n n → is_circular cs n ≡ true

@@ -1,5 +1,5 @@
 -- Which classes are done, and what stands before each, as the code keeps them by numbers.
-use Rattle.std.specs.Prelude.{◌≡◌, ℕ, Bool, false, List, [], slice_get, unwrap_or, map}
+use Rattle.std.specs.Prelude.{◌≡◌, ℕ, Bool, false, List, [], ◌∷◌, slice_get, unwrap_or, map, if◌then◌else◌}
 use Rattle.std.specs.declared.alloc.Global.{Global}
 use Rattle.std.specs.declared.vec.Vec.{Vec}
 use Rattle.lisp_data.specs.declared.ids.ClassId.{ClassId}
@@ -12,6 +12,15 @@ is_marked marks x = unwrap_or (slice_get marks x) false
 -- just these are marked
 abbrev pub Marks : List Bool → List ℕ → Type 0
 Marks marks classes = (x : ℕ) → is_marked marks x ≡ has classes x
+
+-- those that were seen, the latest first, after this one was met
+abbrev pub with_seen : List ℕ → ℕ → List ℕ
+with_seen seen x = if has seen x then seen else x ∷ seen
+
+-- .. after all these were met
+abbrev pub with_all_seen : List ℕ → List ℕ → List ℕ
+with_all_seen seen [] = seen
+with_all_seen seen (x ∷ xs) = with_all_seen (with_seen seen x) xs
 
 abbrev pub rows_of : List (Vec ClassId Global) → List (List ℕ)
 rows_of rows = map (λ row. numbers row.items) rows

@@ -79,23 +79,8 @@ pub fn listed(kept: &[Kept], class: ClassId) -> Option<&[ClassId]>
     }
 }
 
-/// Adds those of these classes that are not there yet.
-#[tactic(auto, using(crate::proofs::SameFamily::added_there, crate::proofs::SameFamily::added_new))]
-fn add_all(family: &mut Seen, classes: &[ClassId]) -> Result<(), AllocError>
-    ensures { OnOk result ((x : ℕ) → has family.new x ≡ (has family.old x || has (numbers classes.now) x)) }
-{
-    let mut left = classes;
-    while let Some((class, others)) = left.split_first() {
-        if !family.has(*class) {
-            family.add(*class)?;
-        }
-        left = others;
-    }
-    Ok(())
-}
-
 /// A class and all in the lists of its direct superclasses, each once.
-#[tactic(auto, using(crate::proofs::SameFamily::reversed, crate::proofs::Circular::has_both, crate::proofs::Circular::both_or))]
+#[tactic(auto, using(crate::proofs::SameFamily::reversed, crate::proofs::Circular::seen_all, crate::proofs::Circular::has_both, crate::proofs::Circular::both_or))]
 fn family(
     alloc: Global,
     kept: &[Kept],
@@ -108,7 +93,7 @@ fn family(
     family.add(class)?;
     let mut left = superclasses;
     while let Some((superclass, others)) = left.split_first() {
-        add_all(&mut family, list_of(kept, *superclass))?;
+        family.add_all(list_of(kept, *superclass))?;
         left = others;
     }
     Ok(family.into_list())

@@ -1,8 +1,8 @@
 //! Classes that were seen, each with a mark by its number, so that it is found at once.
-ghost use Rattle.std.specs.Prelude.{◌≡◌, ◌==◌, ◌∷◌, ◌||◌, ℕ, [], OnErr, OnOk, reverse, option_map};
+ghost use Rattle.std.specs.Prelude.{◌≡◌, ◌<◌, ◌==◌, ◌∷◌, ◌||◌, ℕ, [], OnErr, OnOk, length, reverse, option_map, slice_index};
 ghost use Rattle.clos_class_core.specs.Precedence.{has, are_done, first_left};
 ghost use Rattle.clos_class_core.specs.PrecedenceView.{numbers, latest_first};
-ghost use Rattle.clos_class_core.specs.OrderView.{is_marked};
+ghost use Rattle.clos_class_core.specs.OrderView.{is_marked, with_seen, with_all_seen};
 
 use lisp_data::ClassId;
 use std::alloc::{AllocError, Global};
@@ -70,6 +70,43 @@ impl Seen {
         mark(&mut self.marks, class)?;
         self.classes.push(class)?;
         Ok(())
+    }
+
+    /// Adds a class, unless it is among them.
+    pub fn add_new(&mut self, class: ClassId) -> Result<(), AllocError>
+        ensures { OnOk result (self.new ≡ with_seen self.old class.0) }
+    {
+        if self.has(class) {
+            return Ok(());
+        }
+        self.add(class)
+    }
+
+    /// Adds those of these classes that are not among them yet.
+    pub fn add_all(&mut self, classes: &[ClassId]) -> Result<(), AllocError>
+        ensures { OnOk result (self.new ≡ with_all_seen self.old (numbers classes.now)) }
+    {
+        let mut left = classes;
+        while let Some((class, others)) = left.split_first() {
+            self.add_new(*class)?;
+            left = others;
+        }
+        Ok(())
+    }
+
+    /// How many they are.
+    pub fn len(&self) -> usize
+        ensures { result ≡ length self.now }
+    {
+        self.classes.len()
+    }
+
+    /// The class that was added after so many others.
+    pub fn at(&self, place: usize) -> ClassId
+        requires { place < length self.now }
+        ensures { result.0 ≡ slice_index (reverse self.now) place }
+    {
+        self.classes[place]
     }
 
     /// The classes, the latest last.
