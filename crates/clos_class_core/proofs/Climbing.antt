@@ -5,13 +5,13 @@ use Rattle.std.proofs.lemmas.Bool.{eqb-true, eqb-false}
 use Rattle.std.proofs.lemmas.List.{reverse-append, get_or_append_left, length-reverse}
 use Rattle.std.proofs.Math.Seq.{get_or-append_seam}
 use Rattle.lisp_data.specs.Name.{Nam}
-use Rattle.clos_class_core.specs.Precedence.{has}
-use Rattle.clos_class_core.specs.OrderView.{with_seen, with_all_seen}
+use Rattle.clos_precedence.specs.Precedence.{has}
+use Rattle.clos_precedence.specs.OrderView.{with_seen, with_all_seen}
 use Rattle.clos_class_core.specs.Classes.{Classes, defined, names_above, superclasses, is_circular}
 use Rattle.clos_class_core.specs.Ways.{Series, IsSuperclass}
-use Rattle.clos_class_core.proofs.Truth.{or_left, or_right, either, nothing}
-use Rattle.clos_class_core.proofs.Members.{Once, has_first, has_later, first_or_later, no_more, below, length_below, is_below}
-use Rattle.clos_class_core.proofs.Circular.{same_truth, seen_all}
+use Rattle.clos_precedence.proofs.Truth.{or_left, or_right, either, nothing, same_truth}
+use Rattle.clos_precedence.proofs.Members.{Once, has_first, has_later, first_or_later, no_more, below, length_below, is_below}
+use Rattle.clos_precedence.proofs.Meeting.{seen_all}
 use Rattle.clos_class_core.proofs.Ways.{end_below, is_circle, own_superclass}
 
 -- all that are directly above x are among these

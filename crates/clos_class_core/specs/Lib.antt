@@ -1,5 +1,4 @@
-pub mod Precedence
-pub mod PrecedenceView
+pub mod KeptView
 pub mod Examples
 pub mod Classes
 pub mod Ways
@@ -8,4 +7,3 @@ pub mod Table
 pub mod TableView
 pub mod Initial
 pub mod Finding
-pub mod OrderView

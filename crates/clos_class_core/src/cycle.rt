@@ -1,10 +1,10 @@
 //! Classes that would be their own superclasses (HyperSpec 4.3.4).
 ghost use Rattle.std.specs.Prelude.{◌≡◌, IfOk, OnOk};
 ghost use Rattle.clos_class_core.specs.Classes.{defined, is_circular};
-ghost use Rattle.clos_class_core.specs.OrderView.{with_all_seen};
+ghost use Rattle.clos_precedence.specs.OrderView.{with_all_seen};
 
 use crate::definitions::Definitions;
-use crate::seen::Seen;
+use clos_precedence::Seen;
 use lisp_data::{ClassId, Name};
 use std::alloc::{AllocError, Global};
 

@@ -2,15 +2,15 @@
 ghost use Rattle.std.specs.Prelude.{◌≡◌, ◌||◌, ◌∷◌, ℕ, [], IfOk, IfSome, OnOk, option_map, true};
 ghost use Rattle.clos_class_core.specs.Classes.{Classes, found, is_based, superclasses, is_lacking, is_broken, list_in, listed_if, listed};
 ghost use Rattle.clos_class_core.specs.Finding.{any_lacking, any_broken, together};
-ghost use Rattle.clos_class_core.specs.Precedence.{has, precedence_list};
+ghost use Rattle.clos_precedence.specs.Precedence.{has, precedence_list};
 ghost use Rattle.clos_class_core.specs.Kept.{Keeps, IsAbove, IsSingle};
 ghost use Rattle.clos_class_core.specs.Table.{list_if};
-ghost use Rattle.clos_class_core.specs.PrecedenceView.{numbers, listing_of, listing_at, above_by};
+ghost use Rattle.clos_precedence.specs.PrecedenceView.{numbers};
+ghost use Rattle.clos_class_core.specs.KeptView.{listing_of, listing_at, above_by};
 
 use crate::definitions::Definitions;
 use crate::kept::{Above, Kept, Line};
-use crate::precedence::{contains, precedence_list};
-use crate::seen::Seen;
+use clos_precedence::{Seen, contains, precedence_list};
 use lisp_data::ClassId;
 use std::alloc::{AllocError, Global};
 use std::rc::Rc;
@@ -80,7 +80,7 @@ pub fn listed(kept: &[Kept], class: ClassId) -> Option<&[ClassId]>
 }
 
 /// A class and all in the lists of its direct superclasses, each once.
-#[tactic(auto, using(crate::proofs::SameFamily::reversed, crate::proofs::Circular::seen_all, crate::proofs::Circular::has_both, crate::proofs::Circular::both_or))]
+#[tactic(auto, using(clos_precedence::proofs::Lists::reversed, clos_precedence::proofs::Meeting::seen_all, clos_precedence::proofs::Lists::has_both, clos_precedence::proofs::Lists::both_or))]
 fn family(
     alloc: Global,
     kept: &[Kept],

@@ -1,6 +1,6 @@
 use Rattle.std.proofs.Common.{◌≡◌, length}
 use Rattle.clos_class_core.specs.Classes.{defined}
-use Rattle.clos_class_core.specs.OrderView.{with_all_seen}
+use Rattle.clos_precedence.specs.OrderView.{with_all_seen}
 use Rattle.clos_class_core.proofs.cycle.add_defined.Given as goal
 
 abbrev pub invariant-loop-name : goal.invariant-loop-name
