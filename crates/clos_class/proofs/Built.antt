@@ -9,8 +9,8 @@ use Rattle.indexmap.specs.IndexMap.{insert_entry}
 use Rattle.lisp_data.specs.Name.{Nam, same_name}
 use Rattle.lisp_data.specs.declared.ids.CellId.{CellId}
 use Rattle.lisp_data.specs.declared.ids.ClassId.{ClassId}
-use Rattle.clos_class_core.specs.PrecedenceView.{numbers, latest_first}
-use Rattle.clos_class_core.proofs.Lists.{latest}
+use Rattle.clos_precedence.specs.PrecedenceView.{numbers, latest_first}
+use Rattle.clos_precedence.proofs.Lists.{latest}
 use Rattle.clos_class.specs.declared.direct.SlotAllocation.{SlotAllocation}
 use Rattle.clos_class.specs.declared.direct.SlotAllocation.TheVariants.{Local, Shared}
 use Rattle.clos_class.specs.Slots.{DirectSlots, Layout, allocation, distinct, first_of_each, is_local, layout_of, names, shared_in}

@@ -3,7 +3,7 @@ ghost use Rattle.std.specs.Prelude.{◌≡◌, ◌∷◌, [], IfOk, OnOk};
 ghost use Rattle.std.specs.Option.{option_or};
 ghost use Rattle.std.specs.HashMap.{get};
 ghost use Rattle.lisp_data.specs.Name.{Nam, same_name};
-ghost use Rattle.clos_class_core.specs.PrecedenceView.{numbers};
+ghost use Rattle.clos_precedence.specs.PrecedenceView.{numbers};
 ghost use Rattle.clos_class.specs.Slots.{allocation, called, first_allocation};
 ghost use Rattle.clos_class.specs.SlotsView.{direct_slots};
 

@@ -1,7 +1,7 @@
 //! Default initargs of classes (HyperSpec 4.3.4.2).
 ghost use Rattle.std.specs.Prelude.{◌≡◌, ◌++◌, ◌∷◌, List, IfOk, OnOk};
 ghost use Rattle.clos_syntax.specs.declared.class.DefaultInitarg.{DefaultInitarg};
-ghost use Rattle.clos_class_core.specs.PrecedenceView.{numbers};
+ghost use Rattle.clos_precedence.specs.PrecedenceView.{numbers};
 ghost use Rattle.clos_class.specs.Slots.{default_initargs};
 ghost use Rattle.clos_class.specs.SlotsView.{defaults};
 ghost use Rattle.clos_class.specs.Building.{completed};

@@ -1,6 +1,6 @@
 //! Initforms of slots (HyperSpec 7.5.3).
 ghost use Rattle.std.specs.Prelude.{◌≡◌, ◌∷◌, [], option_copied};
-ghost use Rattle.clos_class_core.specs.PrecedenceView.{numbers};
+ghost use Rattle.clos_precedence.specs.PrecedenceView.{numbers};
 ghost use Rattle.clos_class.specs.Slots.{called, first_initform, initform};
 ghost use Rattle.clos_class.specs.SlotsView.{direct_slots};
 

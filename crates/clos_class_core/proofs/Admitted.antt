@@ -5,7 +5,7 @@ use Rattle.std.specs.List.{list_any}
 use Rattle.lisp_data.specs.Name.{Nam, same_name}
 use Rattle.clos_class_core.specs.Classes.{Classes, number_of, with_class, is_lacking, listing}
 use Rattle.clos_class_core.specs.declared.kept.Kept.{Kept}
-use Rattle.clos_class_core.specs.PrecedenceView.{listing_at}
+use Rattle.clos_class_core.specs.KeptView.{listing_at}
 use Rattle.clos_class_core.specs.Kept.{Changes, Knows}
 use Rattle.clos_class_core.specs.declared.fault.ClassFault.{ClassFault}
 use Rattle.clos_class_core.specs.Table.{misplaced, changed}

@@ -4,7 +4,7 @@ use Rattle.std.specs.Prelude.{slice_get, if◌then◌else◌}
 use Rattle.lisp_data.specs.Name.{Nam}
 use Rattle.clos_class_core.specs.Classes.{Classes, is_broken, listing}
 use Rattle.clos_class_core.specs.declared.kept.Kept.{Kept}
-use Rattle.clos_class_core.specs.PrecedenceView.{listing_at}
+use Rattle.clos_class_core.specs.KeptView.{listing_at}
 use Rattle.clos_class_core.specs.Kept.{Knows}
 use Rattle.clos_class_core.specs.Table.{inconsistent_precedence, broken_from}
 

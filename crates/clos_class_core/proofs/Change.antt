@@ -3,17 +3,17 @@ use Rattle.std.proofs.Common.{◌≡◌, ℕ, ◌==◌, Bool, true, false, List,
 use Rattle.std.specs.Prelude.{nat_lt, is_some, if◌then◌else◌}
 use Rattle.std.proofs.lemmas.Bool.{ltb-true, lt-ltb}
 use Rattle.lisp_data.specs.Name.{Nam}
-use Rattle.clos_class_core.specs.Precedence.{has, precedence_list, IsFamily}
+use Rattle.clos_precedence.specs.Precedence.{has, precedence_list, IsFamily}
 use Rattle.clos_class_core.specs.Classes.{Classes, Listing, lacking, broken, listed, all_above, in_order, found, named, names_above, defined, are_defined, superclasses, is_based}
-use Rattle.clos_class_core.proofs.Truth.{and_left, and_right, both}
-use Rattle.clos_class_core.proofs.InTurn.{found_is_one}
-use Rattle.clos_class_core.proofs.Members.{has_later, differs}
+use Rattle.clos_precedence.proofs.Truth.{and_left, and_right, both}
+use Rattle.clos_precedence.proofs.InTurn.{found_is_one}
+use Rattle.clos_precedence.proofs.Members.{has_later, differs}
 use Rattle.clos_class_core.proofs.Rounds.{Holds}
 use Rattle.clos_class_core.specs.Kept.{Changes, without, More, Sound, AreWhole, Within, ListWithin}
 use Rattle.clos_class_core.specs.Ways.{IsWhole}
 use Rattle.clos_class_core.proofs.Families.{each_above, Base, base_of, Under, over, listed_same}
 use Rattle.clos_class_core.proofs.Enough.{same_above}
-use Rattle.clos_class_core.proofs.SameOrder.{same_order}
+use Rattle.clos_precedence.proofs.SameOrder.{same_order}
 
 is_some_same : (o p : Option ℕ) → is_some o ≡ true → ((i : ℕ) → o ≡ Some i → p ≡ Some i) → p ≡ o
 is_some_same None p h r = cc

@@ -4,16 +4,16 @@ use Rattle.std.specs.Prelude.{not, ◌&&◌, ◌⊎◌, nat_lt, option_to_list, 
 use Rattle.std.specs.List.{list_all}
 use Rattle.std.proofs.lemmas.Bool.{eqb-true, eqb-false, eq-eqb, ltb-true}
 use Rattle.lisp_data.specs.Name.{Nam}
-use Rattle.clos_class_core.specs.Precedence.{has}
+use Rattle.clos_precedence.specs.Precedence.{has}
 use Rattle.clos_class_core.specs.Classes.{Classes, Listing, lacking, broken, listed, named, number_of, with_class, defined, names_above, superclasses, is_based, is_circular, is_lacking, is_broken, list_in, listing}
 use Rattle.clos_class_core.specs.declared.kept.Kept.{Kept}
-use Rattle.clos_class_core.specs.PrecedenceView.{listing_at}
+use Rattle.clos_class_core.specs.KeptView.{listing_at}
 use Rattle.clos_class_core.specs.Kept.{Changes, Knows, IsConsistent}
 use Rattle.clos_class_core.specs.Table.{Refusal, superclass_cycle, incomplete_class, inconsistent_precedence, when, or_else, broken_from, out_of_order, misplaced, list_if}
 use Rattle.clos_class_core.specs.Initial.{predefined}
 use Rattle.clos_class_core.specs.Ways.{Series, IsSuperclass, IsSelfOrAbove, IsComplete, IsIncomplete, HasNoBase}
-use Rattle.clos_class_core.proofs.Truth.{and_left, and_right, neither, nothing}
-use Rattle.clos_class_core.proofs.Members.{has_first, first_or_later, in_first, in_second, in_either, below, is_below}
+use Rattle.clos_precedence.proofs.Truth.{and_left, and_right, neither, nothing}
+use Rattle.clos_precedence.proofs.Members.{has_first, first_or_later, in_first, in_second, in_either, below, is_below}
 use Rattle.clos_class_core.proofs.Ways.{one_of, end_below, is_circle}
 use Rattle.clos_class_core.proofs.Lacking.{no_base, up_to, finds_lacking}
 use Rattle.clos_class_core.proofs.Superclasses.{members, whole_list}

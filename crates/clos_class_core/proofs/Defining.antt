@@ -4,13 +4,13 @@ use Rattle.std.specs.Prelude.{◌||◌, nat_lt, slice_get, slice_set, unwrap_or,
 use Rattle.std.specs.List.{list_any, position_or_len}
 use Rattle.std.proofs.lemmas.Bool.{ltb-true, ltb-false, lt-ltb, eqb-false}
 use Rattle.lisp_data.specs.Name.{Nam, same_name}
-use Rattle.clos_class_core.specs.Precedence.{has}
+use Rattle.clos_precedence.specs.Precedence.{has}
 use Rattle.clos_class_core.specs.Classes.{Classes, Listing, lacking, broken, listed, number_of, with_class, found, is_lacking}
 use Rattle.clos_class_core.specs.declared.kept.Kept.{Kept}
-use Rattle.clos_class_core.specs.PrecedenceView.{listing_of, listing_at}
+use Rattle.clos_class_core.specs.KeptView.{listing_of, listing_at}
 use Rattle.clos_class_core.specs.Kept.{Adds, Changes, More, Sound, AreWhole, AreNested, ListWithin, Knows, Progress, lacking_in, without, Restarts}
 use Rattle.clos_class_core.specs.Ways.{IsWhole}
-use Rattle.clos_class_core.proofs.Members.{apart}
+use Rattle.clos_precedence.proofs.Members.{apart}
 use Rattle.clos_class_core.proofs.Rounds.{Holds, sound_holds}
 use Rattle.clos_class_core.proofs.Change.{Stays, stays, is_kept, within_without, others, still_based, kept_sound, kept_whole}
 use Rattle.clos_class_core.proofs.Enough.{same_found}

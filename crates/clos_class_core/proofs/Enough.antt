@@ -2,15 +2,15 @@
 use Rattle.std.proofs.Common.{◌≡◌, ℕ, zero, suc, ◌==◌, Bool, true, false, List, [], ◌∷◌, Some, None, inl, inr, length, ◌≤◌, ◌<◌, arith, refl, sym, subst, ap}
 use Rattle.std.specs.Prelude.{not, ◌||◌, ◌⊎◌, nat_lt, if◌then◌else◌, option_map}
 use Rattle.std.proofs.lemmas.Bool.{ltb-true}
-use Rattle.clos_class_core.specs.Precedence.{Supers, has, are_before_done, is_free, IsPrecedenceList, precedence_list, IsFamily, in_turn}
+use Rattle.clos_precedence.specs.Precedence.{Supers, has, are_before_done, is_free, IsPrecedenceList, precedence_list, IsFamily, in_turn}
 use Rattle.clos_class_core.specs.Classes.{Classes, Listing, lacking, listed, all_above, in_order, found, names_above, are_defined, superclasses, is_based, listing_within}
-use Rattle.clos_class_core.proofs.Truth.{and_left, and_right, after_first, nothing}
-use Rattle.clos_class_core.proofs.Next.{free_at}
-use Rattle.clos_class_core.proofs.InTurn.{found_is_one}
-use Rattle.clos_class_core.proofs.Circle.{no_member}
-use Rattle.clos_class_core.proofs.Members.{Once, has_first, has_later, it_is, first_or_later, no_more, below, length_below, is_below}
+use Rattle.clos_precedence.proofs.Truth.{and_left, and_right, after_first, nothing}
+use Rattle.clos_precedence.proofs.Next.{free_at}
+use Rattle.clos_precedence.proofs.InTurn.{found_is_one}
+use Rattle.clos_precedence.proofs.Circle.{no_member}
+use Rattle.clos_precedence.proofs.Members.{Once, has_first, has_later, it_is, first_or_later, no_more, below, length_below, is_below}
 use Rattle.clos_class_core.proofs.Rounds.{Holds}
-use Rattle.clos_class_core.proofs.Depth.{each_once}
+use Rattle.clos_precedence.proofs.Depth.{each_once}
 use Rattle.clos_class_core.specs.Kept.{AreWhole, Within, ListWithin}
 use Rattle.clos_class_core.proofs.Families.{each_above, Base, base_of, Under, over, listed_same}
 

@@ -1,14 +1,14 @@
 -- What is found of a class, and of the classes above it.
 use Rattle.std.proofs.Common.{◌≡◌, ℕ, Bool, true, false, List, [], ◌∷◌, ◌++◌, Option, Some, None, inl, inr, refl, sym, subst, ap}
 use Rattle.std.specs.Prelude.{◌⊎◌, if◌then◌else◌}
-use Rattle.clos_class_core.specs.Precedence.{Supers, has, IsPrecedenceList, precedence_list, IsFamily}
+use Rattle.clos_precedence.specs.Precedence.{Supers, has, IsPrecedenceList, precedence_list, IsFamily}
 use Rattle.clos_class_core.specs.Classes.{Classes, Listing, lacking, broken, listed, joined, all_above, listed_if, in_order, found, superclasses, is_based}
 use Rattle.clos_class_core.specs.Kept.{AreWhole, Within, ListWithin}
 use Rattle.clos_class_core.specs.Ways.{IsWhole}
-use Rattle.clos_class_core.proofs.Truth.{nothing}
-use Rattle.clos_class_core.proofs.InTurn.{found_is_one}
-use Rattle.clos_class_core.proofs.Members.{has_first, has_later, first_or_later, in_first, in_second, in_either}
-use Rattle.clos_class_core.proofs.Depth.{none_done}
+use Rattle.clos_precedence.proofs.Truth.{nothing}
+use Rattle.clos_precedence.proofs.InTurn.{found_is_one}
+use Rattle.clos_precedence.proofs.Members.{has_first, has_later, first_or_later, in_first, in_second, in_either}
+use Rattle.clos_precedence.proofs.Depth.{none_done}
 
 -- ---- the lists of the superclasses
 

@@ -2,15 +2,15 @@
 use Rattle.std.proofs.Common.{◌≡◌, ℕ, zero, suc, ◌==◌, ◌+◌, Bool, true, false, List, [], ◌∷◌, inl, inr, length, ◌<◌, ◌≤◌, arith, refl, sym, subst, ap, ◌∙◌}
 use Rattle.std.specs.Prelude.{◌||◌, ◌⊎◌, nat_lt, slice_set, if◌then◌else◌}
 use Rattle.std.proofs.lemmas.Bool.{eqb-true, eqb-false, ltb-true}
-use Rattle.clos_class_core.specs.Precedence.{has, IsPrecedenceList}
+use Rattle.clos_precedence.specs.Precedence.{has, IsPrecedenceList}
 use Rattle.clos_class_core.specs.Classes.{Classes, Listing, lacking, broken, listed, found, superclasses, is_lacking}
 use Rattle.clos_class_core.specs.declared.kept.Kept.{Kept}
-use Rattle.clos_class_core.specs.PrecedenceView.{listing_of, listing_at, kept_at}
+use Rattle.clos_class_core.specs.KeptView.{listing_of, listing_at, kept_at}
 use Rattle.clos_class_core.specs.Kept.{More, AreWhole, AreNested, IsAbove, AreAbove, Within, ListWithin, Keeps, lacking_in, Adds, Progress, Ends, Knows, Filled}
-use Rattle.clos_class_core.proofs.Members.{has_later, first_or_later, apart}
+use Rattle.clos_precedence.proofs.Members.{has_later, first_or_later, apart}
 use Rattle.clos_class_core.proofs.Families.{Base, base_of, From, from_above, each_above, over, listed_same}
-use Rattle.clos_class_core.proofs.InTurn.{found_is_one}
-use Rattle.clos_class_core.proofs.Depth.{none_done}
+use Rattle.clos_precedence.proofs.InTurn.{found_is_one}
+use Rattle.clos_precedence.proofs.Depth.{none_done}
 use Rattle.clos_class_core.proofs.OneMore.{Fills, fills_more, fill_sound, fill_whole, fill_reached, settle, is_listing}
 use Rattle.clos_class_core.proofs.Rounds.{more_through, Settled}
 

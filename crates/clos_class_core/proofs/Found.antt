@@ -2,16 +2,16 @@
 use Rattle.std.proofs.Common.{◌≡◌, ℕ, ◌==◌, Bool, true, false, List, [], ◌∷◌, ◌++◌, inl, inr, refl, sym, subst, ap}
 use Rattle.std.specs.Prelude.{◌||◌, ◌⊎◌}
 use Rattle.std.proofs.lemmas.Bool.{eqb-true, eq-eqb}
-use Rattle.clos_class_core.specs.Precedence.{has, IsFamily}
+use Rattle.clos_precedence.specs.Precedence.{has, IsFamily}
 use Rattle.clos_class_core.specs.Classes.{Classes, Listing, lacking, broken, listed, joined, all_above, listed_if, in_order, found, superclasses, is_based, is_lacking, is_broken, list_in}
 use Rattle.clos_class_core.specs.Finding.{any_lacking, any_broken, together}
 use Rattle.clos_class_core.specs.declared.kept.Kept.{Kept}
-use Rattle.clos_class_core.specs.PrecedenceView.{listing_at, kept_above, kept_at, above_by}
+use Rattle.clos_class_core.specs.KeptView.{listing_at, kept_above, kept_at, above_by}
 use Rattle.clos_class_core.specs.Kept.{Keeps, ListWithin}
-use Rattle.clos_class_core.proofs.Truth.{neither}
-use Rattle.clos_class_core.proofs.Members.{first_or_later}
+use Rattle.clos_precedence.proofs.Truth.{neither}
+use Rattle.clos_precedence.proofs.Members.{first_or_later}
 use Rattle.clos_class_core.proofs.Families.{From, from_above, over_all}
-use Rattle.clos_class_core.proofs.SameOrder.{same_order}
+use Rattle.clos_precedence.proofs.SameOrder.{same_order}
 
 -- ---- the lists of the superclasses, together
 

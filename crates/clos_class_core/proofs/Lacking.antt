@@ -1,11 +1,11 @@
 -- A class is told to be lacking exactly where it or one of its superclasses has no base.
 use Rattle.std.proofs.Common.{◌≡◌, ℕ, zero, suc, ◌+◌, Bool, true, false, List, [], ◌∷◌, Option, Some, None, inl, inr, length, ◌<◌, ◌≤◌, arith, refl, sym, subst, ap, ◌∙◌}
 use Rattle.std.specs.Prelude.{◌⊎◌, if◌then◌else◌}
-use Rattle.clos_class_core.specs.Precedence.{Supers, has, precedence_list}
+use Rattle.clos_precedence.specs.Precedence.{Supers, has, precedence_list}
 use Rattle.clos_class_core.specs.Classes.{Classes, Listing, lacking, broken, listed, joined, all_above, listed_if, in_order, found, superclasses, is_based, listing_within, listing}
 use Rattle.clos_class_core.specs.Ways.{Series, IsSuperclass, IsSelfOrAbove, HasNoBase, FindsLacking}
-use Rattle.clos_class_core.proofs.Truth.{nothing}
-use Rattle.clos_class_core.proofs.Members.{Once, has_first, has_later, first_or_later, no_more, below, length_below, is_below}
+use Rattle.clos_precedence.proofs.Truth.{nothing}
+use Rattle.clos_precedence.proofs.Members.{Once, has_first, has_later, first_or_later, no_more, below, length_below, is_below}
 use Rattle.clos_class_core.proofs.Rounds.{joined_lacking}
 use Rattle.clos_class_core.proofs.Change.{based_below}
 use Rattle.clos_class_core.proofs.Ways.{members_below}

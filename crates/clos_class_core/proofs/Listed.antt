@@ -3,15 +3,15 @@ use Rattle.std.proofs.Common.{◌≡◌, ℕ, false, List, [], ◌∷◌, Some, 
 use Rattle.std.specs.Prelude.{nat_lt}
 use Rattle.std.proofs.lemmas.Bool.{le-ltb}
 use Rattle.lisp_data.specs.Name.{Nam}
-use Rattle.clos_class_core.specs.Precedence.{IsPrecedenceList}
+use Rattle.clos_precedence.specs.Precedence.{IsPrecedenceList}
 use Rattle.clos_class_core.specs.Classes.{Classes, Listing, lacking, broken, listed, number_of, with_class, found, superclasses, listing}
 use Rattle.clos_class_core.specs.declared.kept.Kept.{Kept}
-use Rattle.clos_class_core.specs.PrecedenceView.{listing_at}
+use Rattle.clos_class_core.specs.KeptView.{listing_at}
 use Rattle.clos_class_core.specs.Kept.{Changes, Knows}
 use Rattle.clos_class_core.specs.Table.{list_if}
 use Rattle.clos_class_core.specs.TableView.{IsListOf}
 use Rattle.clos_class_core.specs.Initial.{Row, fixed_name, fixed_names, all_defined}
-use Rattle.clos_class_core.proofs.Unique.{at_most_one}
+use Rattle.clos_precedence.proofs.Unique.{at_most_one}
 use Rattle.clos_class_core.proofs.Rounds.{sound_holds}
 use Rattle.clos_class_core.proofs.Turned.{own_list}
 use Rattle.clos_class_core.proofs.Admitted.{changed_by}

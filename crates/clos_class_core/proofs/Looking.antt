@@ -5,7 +5,7 @@ use Rattle.std.proofs.lemmas.Option.{slice_get-map}
 use Rattle.clos_class_core.specs.Classes.{Classes, Listing, lacking, listing, list_in}
 use Rattle.clos_class_core.specs.declared.kept.Kept.{Kept}
 use Rattle.clos_class_core.specs.Kept.{Knows}
-use Rattle.clos_class_core.specs.PrecedenceView.{listing_of, listing_at}
+use Rattle.clos_class_core.specs.KeptView.{listing_of, listing_at}
 use Rattle.clos_class_core.specs.declared.kept.Kept.TheVariants.{Lacking}
 
 of_option : (o : Option Kept) → unwrap_or (option_map listing_of o) lacking ≡ listing_of (unwrap_or o Lacking)

@@ -1,12 +1,12 @@
 -- Where there is no list of a class, some classes come before one another in a circle.
 use Rattle.std.proofs.Common.{◌≡◌, ℕ, zero, suc, ◌+◌, Bool, true, false, List, [], ◌∷◌, Option, Some, None, length, refl}
 use Rattle.std.specs.Prelude.{if◌then◌else◌}
-use Rattle.clos_class_core.specs.Precedence.{Supers, has, precedence_list, IsFamily, Circle, Tells}
+use Rattle.clos_precedence.specs.Precedence.{Supers, has, precedence_list, IsFamily, Circle, Tells}
 use Rattle.clos_class_core.specs.Classes.{Classes, Listing, lacking, broken, listed, joined, all_above, listed_if, in_order, superclasses, is_based, listing_within, listing}
 use Rattle.clos_class_core.specs.Kept.{AreWhole}
 use Rattle.clos_class_core.specs.TableView.{HasCircle}
-use Rattle.clos_class_core.proofs.Members.{has_first, has_later}
-use Rattle.clos_class_core.proofs.OnPrecedence.{tells}
+use Rattle.clos_precedence.proofs.Members.{has_first, has_later}
+use Rattle.clos_precedence.proofs.OnPrecedence.{tells}
 use Rattle.clos_class_core.proofs.Families.{over_all, whole_found}
 
 -- what is found in rounds is whole

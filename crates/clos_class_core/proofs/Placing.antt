@@ -4,10 +4,10 @@ use Rattle.std.specs.Prelude.{not, nat_le, if◌then◌else◌}
 use Rattle.std.specs.Str.{bytes_eq}
 use Rattle.std.proofs.lemmas.Bool.{eq-eqb, leb-true}
 use Rattle.lisp_data.specs.Name.{Nam}
-use Rattle.clos_class_core.specs.Precedence.{has}
+use Rattle.clos_precedence.specs.Precedence.{has}
 use Rattle.clos_class_core.specs.Classes.{Classes, Listing, lacking, broken, listed, list_in, is_circular, listing}
 use Rattle.clos_class_core.specs.declared.kept.Kept.{Kept}
-use Rattle.clos_class_core.specs.PrecedenceView.{listing_at}
+use Rattle.clos_class_core.specs.KeptView.{listing_at}
 use Rattle.clos_class_core.specs.Kept.{Knows, More, without}
 use Rattle.clos_class_core.specs.Table.{superclass_cycle, misplaced, out_of_order, changed, changed_among, is_other}
 use Rattle.clos_class_core.specs.Finding.{is_other_if, changed_if}

@@ -2,13 +2,13 @@
 use Rattle.std.proofs.Common.{◌≡◌, ℕ, zero, suc, ◌==◌, ◌+◌, Bool, true, false, List, [], ◌∷◌, ◌++◌, length, ◌<◌, ◌≤◌, arith, refl, sym, subst, ap, ◌∙◌}
 use Rattle.std.specs.Prelude.{nat_lt}
 use Rattle.std.proofs.lemmas.Bool.{eqb-true, eqb-false, ltb-true, ltb-false}
-use Rattle.clos_class_core.specs.Precedence.{has}
+use Rattle.clos_precedence.specs.Precedence.{has}
 use Rattle.clos_class_core.specs.Classes.{Classes, Listing, lacking, broken, listed, list_in, names_above, are_defined, is_based}
 use Rattle.clos_class_core.specs.declared.kept.Kept.{Kept}
 use Rattle.clos_class_core.specs.declared.kept.Kept.TheVariants.{Lacking}
-use Rattle.clos_class_core.specs.PrecedenceView.{listing_of, listing_at, kept_above, kept_at}
+use Rattle.clos_class_core.specs.KeptView.{listing_of, listing_at, kept_above, kept_at}
 use Rattle.clos_class_core.specs.Kept.{without, without_broken, Knows, Restarts, RestartsBelow}
-use Rattle.clos_class_core.proofs.Truth.{and_left}
+use Rattle.clos_precedence.proofs.Truth.{and_left}
 
 pub restarts_none : (c : ℕ) (old : List Kept) → RestartsBelow c old [] 0
 restarts_none c old = (refl, λ n h. absurd (omega (arith, h)))

@@ -1,7 +1,7 @@
 -- Listings that are found round after round.
 use Rattle.std.proofs.Common.{◌≡◌, ℕ, zero, suc, Bool, true, false, List, [], ◌∷◌, inl, inr, ◌≤◌, arith, refl, sym, subst, ap}
 use Rattle.std.specs.Prelude.{if◌then◌else◌}
-use Rattle.clos_class_core.specs.Precedence.{Supers}
+use Rattle.clos_precedence.specs.Precedence.{Supers}
 use Rattle.clos_class_core.specs.Classes.{Classes, Listing, lacking, broken, listed, joined, all_above, in_order, found, superclasses, is_based, listing_within}
 use Rattle.clos_class_core.specs.Kept.{More, Sound}
 

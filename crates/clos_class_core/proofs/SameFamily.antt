@@ -1,84 +1,23 @@
--- A class precedence list does not depend on how its family is listed.
-use Rattle.std.proofs.Common.{◌≡◌, ℕ, ◌==◌, Bool, true, false, List, [], ◌∷◌, Option, Some, None, inl, inr, length, reverse, arith, refl, sym, subst, ap, ◌∙◌}
-use Rattle.std.specs.Prelude.{◌||◌, ◌⊎◌}
-use Rattle.std.proofs.lemmas.Bool.{eqb-true}
+-- What is found of a class over its family, however that is listed.
+use Rattle.std.proofs.Common.{◌≡◌, ℕ, true, false, List, [], ◌∷◌, length, reverse, arith, sym, subst, ap, ◌∙◌}
+use Rattle.std.specs.Prelude.{◌||◌}
 use Rattle.lisp_data.specs.declared.ids.ClassId.{ClassId}
-use Rattle.clos_class_core.specs.Precedence.{Supers, has, are_before_done, is_free, Next, InTurn, IsPrecedenceList, precedence_list, IsFamily, Tells}
+use Rattle.clos_precedence.specs.Precedence.{has, precedence_list, IsFamily}
 use Rattle.clos_class_core.specs.Classes.{Classes, Listing, lacking, broken, listed, all_above, listed_if, in_order, found, superclasses, is_based}
 use Rattle.clos_class_core.specs.Finding.{any_lacking, any_broken, together}
 use Rattle.clos_class_core.specs.declared.kept.Kept.{Kept}
-use Rattle.clos_class_core.specs.PrecedenceView.{numbers, listing_at, above_by}
+use Rattle.clos_precedence.specs.PrecedenceView.{numbers}
+use Rattle.clos_class_core.specs.KeptView.{listing_at, above_by}
 use Rattle.clos_class_core.specs.Kept.{Keeps}
-use Rattle.clos_class_core.proofs.Truth.{both}
-use Rattle.clos_class_core.proofs.Lists.{or_false, reversed_any}
-use Rattle.clos_class_core.proofs.Members.{has_first, has_later, first_or_later}
-use Rattle.clos_class_core.proofs.Next.{free_at}
-use Rattle.clos_class_core.proofs.OnPrecedence.{tells}
-use Rattle.clos_class_core.proofs.SameOrder.{same_order}
+use Rattle.clos_precedence.proofs.Lists.{or_false, reversed}
+use Rattle.clos_precedence.proofs.Members.{first_or_later}
+use Rattle.clos_precedence.proofs.SameOrder.{same_order}
 use Rattle.clos_class_core.proofs.Families.{over_all}
-use Rattle.clos_class_core.proofs.Circular.{Same, same_truth}
+use Rattle.clos_precedence.proofs.SameMembers.{Same, same_family, same_members}
 use Rattle.clos_class_core.proofs.Found.{some_lack, some_broken, all_are, agree_by, found_based}
 use Rattle.clos_class_core.proofs.Single.{over_based}
 
--- ---- families with the same members
-
-free_within : (f : Supers) (a b done : List ℕ) (x : ℕ) → ((k : ℕ) → has b k ≡ true → has a k ≡ true) → is_free f a done x ≡ true → is_free f b done x ≡ true
-free_within f a [] done x s h = refl
-free_within f a (k ∷ ks) done x s h =
-    both (are_before_done done x k (f k)) (is_free f ks done x) (free_at f a done x k h (s k (has_first k ks))) (free_within f a ks done x (λ j g. s j (has_later k j ks g)) h)
-
-same_free : (f : Supers) (a b done : List ℕ) (x : ℕ) → Same a b → is_free f a done x ≡ is_free f b done x
-same_free f a b done x s =
-    same_truth (is_free f a done x) (is_free f b done x) (free_within f a b done x (λ k h. s k ∙ h)) (free_within f b a done x (λ k h. sym (s k) ∙ h))
-
-same_next : (f : Supers) (a b done : List ℕ) (x : ℕ) → Same a b → Next f a done x → Next f b done x
-same_next f a b done x s p =
-    (sym (s x) ∙ p.0, p.1, sym (same_free f a b done x s) ∙ p.2, λ y h n e. p.3 y (s y ∙ h) n (same_free f a b done y s ∙ e))
-
-same_turns : (f : Supers) (a b done l : List ℕ) → Same a b → InTurn f a done l → InTurn f b done l
-same_turns f a b done [] s p = tt
-same_turns f a b done (x ∷ xs) s p = (same_next f a b done x s p.0, same_turns f a b (x ∷ done) xs s p.1)
-
-same_list : (f : Supers) (a b l : List ℕ) → Same a b → IsPrecedenceList f a l → IsPrecedenceList f b l
-same_list f a b l s p = (same_turns f a b [] l s p.0, λ x h. p.1 x (s x ∙ h))
-
-below_by : (f : Supers) (c : ℕ) (a b : List ℕ) (y : ℕ) → Same a b → (y ≡ c) ⊎ ((k : ℕ) × (has a k ≡ true) × (has (f k) y ≡ true)) → (y ≡ c) ⊎ ((k : ℕ) × (has b k ≡ true) × (has (f k) y ≡ true))
-below_by f c a b y s (inl e) = inl e
-below_by f c a b y s (inr q) = inr (q.0, sym (s q.0) ∙ q.1, q.2)
-
-same_family : (f : Supers) (c : ℕ) (a b : List ℕ) → Same a b → IsFamily f c a → IsFamily f c b
-same_family f c a b s m = record {
-  self = sym (s c) ∙ m.self;
-  upward = λ k x h g. sym (s x) ∙ m.upward k x (s k ∙ h) g;
-  below = λ y h. below_by f c a b y s (m.below y (s y ∙ h));
-}
-
-same_told : (f : Supers) (a b : List ℕ) (o p : Option (List ℕ)) → Same a b → Tells f a o → Tells f b p → o ≡ p
-same_told f a b None None s g h = refl
-same_told f a b None (Some l) s g h = absurd (g.0 l (same_list f b a l (λ x. sym (s x)) h.0))
-same_told f a b (Some l) None s g h = absurd (h.0 l (same_list f a b l s g.0))
-same_told f a b (Some l) (Some m) s g h = ap Some (h.1 l (same_list f a b l s g.0))
-
-same_members : (f : Supers) (c : ℕ) (a b : List ℕ) → Same a b → IsFamily f c a → precedence_list f c a ≡ precedence_list f c b
-same_members f c a b s m =
-    same_told f a b (precedence_list f c a) (precedence_list f c b) s (tells f c a (precedence_list f c a) refl m) (tells f c b (precedence_list f c b) refl (same_family f c a b s m))
-
 -- ---- the family of a class, each member once
-
-pub added_there_by : (family others : List ℕ) (c x : ℕ) (b : Bool) → (c == x) ≡ b → has family c ≡ true → (has family x || (b || has others x)) ≡ (has family x || has others x)
-added_there_by family others c x true e h = let p : has family x ≡ true = subst (λ v. has family v ≡ true) (eqb-true c x e) h in cc
-added_there_by family others c x false e h = refl
-
-pub added_there : (family others : List ℕ) (c x : ℕ) → has family c ≡ true → (has family x || has (c ∷ others) x) ≡ (has family x || has others x)
-added_there family others c x h = added_there_by family others c x (c == x) refl h
-
-pub added_new : (a b c : Bool) → ((a || b) || c) ≡ (b || (a || c))
-added_new true true c = refl
-added_new true false c = refl
-added_new false b c = refl
-
-pub reversed : (family : List ℕ) (x : ℕ) → has (reverse family) x ≡ has family x
-reversed family x = reversed_any (λ y. y == x) family
 
 pub family_end : (of : ℕ → Listing) (left : List ClassId) (items family all : List ℕ) → length left ≡ 0 → items ≡ reverse family
     → ((x : ℕ) → (has family x || has (together of (numbers left)) x) ≡ has all x) → (x : ℕ) → has items x ≡ has all x

@@ -3,14 +3,14 @@ use Rattle.std.proofs.Common.{◌≡◌, ℕ, Bool, true, false, List, [], ◌�
 use Rattle.std.specs.Prelude.{nat_lt, if◌then◌else◌}
 use Rattle.std.proofs.lemmas.Bool.{lt-ltb}
 use Rattle.std.proofs.lemmas.List.{append-nil}
-use Rattle.clos_class_core.specs.Precedence.{Supers, precedence_list, IsPrecedenceList, IsFamily, Tells}
+use Rattle.clos_precedence.specs.Precedence.{Supers, precedence_list, IsPrecedenceList, IsFamily, Tells}
 use Rattle.clos_class_core.specs.Classes.{Classes, Listing, listed, joined, all_above, listed_if, in_order, found, names_above, are_defined, superclasses, is_based}
 use Rattle.clos_class_core.specs.declared.kept.Kept.{Kept}
-use Rattle.clos_class_core.specs.PrecedenceView.{listing_at, above_by}
+use Rattle.clos_class_core.specs.KeptView.{listing_at, above_by}
 use Rattle.clos_class_core.specs.Kept.{Keeps, IsSingle}
-use Rattle.clos_class_core.proofs.Truth.{both}
-use Rattle.clos_class_core.proofs.OneSuperclass.{one_superclass}
-use Rattle.clos_class_core.proofs.OnPrecedence.{tells}
+use Rattle.clos_precedence.proofs.Truth.{both}
+use Rattle.clos_precedence.proofs.OneSuperclass.{one_superclass}
+use Rattle.clos_precedence.proofs.OnPrecedence.{tells}
 use Rattle.clos_class_core.proofs.Families.{over_all}
 use Rattle.clos_class_core.proofs.Rounds.{sound_holds}
 use Rattle.clos_class_core.proofs.Found.{finds_based}

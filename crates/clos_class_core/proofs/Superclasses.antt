@@ -1,12 +1,12 @@
 -- A class precedence list has just the class and its superclasses.
 use Rattle.std.proofs.Common.{◌≡◌, ◌↔◌, ℕ, zero, suc, ◌+◌, true, List, [], ◌∷◌, inl, inr, length, subst}
 use Rattle.std.specs.Prelude.{◌⊎◌}
-use Rattle.clos_class_core.specs.Precedence.{has, IsPrecedenceList}
+use Rattle.clos_precedence.specs.Precedence.{has, IsPrecedenceList}
 use Rattle.clos_class_core.specs.Classes.{Classes, listed, superclasses, listing_within, listing}
 use Rattle.clos_class_core.specs.Ways.{Series, IsSelfOrAbove, IsWhole}
-use Rattle.clos_class_core.proofs.InTurn.{found_is_one}
-use Rattle.clos_class_core.proofs.Members.{first_or_later}
-use Rattle.clos_class_core.proofs.Depth.{none_done}
+use Rattle.clos_precedence.proofs.InTurn.{found_is_one}
+use Rattle.clos_precedence.proofs.Members.{first_or_later}
+use Rattle.clos_precedence.proofs.Depth.{none_done}
 use Rattle.clos_class_core.proofs.Families.{Base, base_of, From, from_above, over}
 use Rattle.clos_class_core.proofs.NoListing.{rounds_whole}
 use Rattle.clos_class_core.proofs.Lacking.{one_more}

@@ -1,13 +1,13 @@
 -- A class precedence list, over its own members.
 use Rattle.std.proofs.Common.{◌≡◌, ℕ, true, List, [], ◌∷◌, refl}
-use Rattle.clos_class_core.specs.Precedence.{Supers, are_before_done, is_free, Next, InTurn, IsPrecedenceList, IsFamily}
+use Rattle.clos_precedence.specs.Precedence.{Supers, are_before_done, is_free, Next, InTurn, IsPrecedenceList, IsFamily}
 use Rattle.clos_class_core.specs.Classes.{Classes, Listing, listed, superclasses}
 use Rattle.clos_class_core.specs.Kept.{Within, AreWhole}
-use Rattle.clos_class_core.proofs.Truth.{both}
-use Rattle.clos_class_core.proofs.Next.{free_at}
-use Rattle.clos_class_core.proofs.InTurn.{found_is_one}
-use Rattle.clos_class_core.proofs.Members.{has_first, has_later}
-use Rattle.clos_class_core.proofs.Depth.{none_done}
+use Rattle.clos_precedence.proofs.Truth.{both}
+use Rattle.clos_precedence.proofs.Next.{free_at}
+use Rattle.clos_precedence.proofs.InTurn.{found_is_one}
+use Rattle.clos_precedence.proofs.Members.{has_first, has_later}
+use Rattle.clos_precedence.proofs.Depth.{none_done}
 use Rattle.clos_class_core.proofs.Rounds.{Holds}
 use Rattle.clos_class_core.proofs.Families.{Base, base_of, over}
 

@@ -4,12 +4,22 @@ use Rattle.std.specs.Prelude.{◌⊎◌, nat_lt, position, option_to_list}
 use Rattle.std.specs.List.{position_or_len}
 use Rattle.std.proofs.lemmas.Bool.{ltb-true}
 use Rattle.lisp_data.specs.Name.{Nam, same_name}
-use Rattle.clos_class_core.specs.Precedence.{has}
+use Rattle.clos_precedence.specs.Precedence.{has}
 use Rattle.clos_class_core.specs.Classes.{Classes, named, defined, names_above, superclasses, one_up, is_met, is_circular}
 use Rattle.clos_class_core.specs.Ways.{Series, IsSuperclass, FindsCircles}
-use Rattle.clos_class_core.proofs.Truth.{or_left, or_right, either, nothing}
-use Rattle.clos_class_core.proofs.Members.{Once, has_first, has_later, first_or_later, in_either, no_more, below, length_below, is_below}
-use Rattle.clos_class_core.proofs.Circular.{up_to}
+use Rattle.clos_precedence.proofs.Truth.{or_left, or_right, either, nothing}
+use Rattle.clos_precedence.proofs.Members.{Once, has_first, has_later, first_or_later, in_first, in_second, in_either, no_more, below, length_below, is_below}
+
+-- ---- one step up
+
+up_to_by : (cs : Classes) (z : ℕ) (zs : List ℕ) (x y : ℕ) → (z ≡ x) ⊎ (has zs x ≡ true) → has (superclasses cs x) y ≡ true → (has zs x ≡ true → has (one_up cs zs) y ≡ true)
+    → has (one_up cs (z ∷ zs)) y ≡ true
+up_to_by cs z zs x y (inl e) k r = in_first (superclasses cs z) (one_up cs zs) y (subst (λ v. has (superclasses cs v) y ≡ true) (sym e) k)
+up_to_by cs z zs x y (inr h) k r = in_second (superclasses cs z) (one_up cs zs) y (r h)
+
+up_to : (cs : Classes) (xs : List ℕ) (x y : ℕ) → has xs x ≡ true → has (superclasses cs x) y ≡ true → has (one_up cs xs) y ≡ true
+up_to cs [] x y h k = nothing h
+up_to cs (z ∷ zs) x y h k = up_to_by cs z zs x y (first_or_later z x zs h) k (λ e. up_to cs zs x y e k)
 
 -- ---- superclasses are classes
 
@@ -128,7 +138,7 @@ of_one : (cs : Classes) (n x : ℕ) → (n ≡ x) ⊎ (has [] x ≡ true) → Is
 of_one cs n x (inl e) s = subst (λ v. IsSuperclass cs v n) (sym e) s
 of_one cs n x (inr h) s = nothing h
 
-own_superclass : (cs : Classes) (n : ℕ) → is_circular cs n ≡ true → IsSuperclass cs n n
+pub own_superclass : (cs : Classes) (n : ℕ) → is_circular cs n ≡ true → IsSuperclass cs n n
 own_superclass cs n h = let p : Above cs (n ∷ []) n = above (length cs.names) cs n (n ∷ []) h in of_one cs n p.0 (first_or_later n p.0 [] p.1) p.2
 
 pub is_circle : (cs : Classes) (n : ℕ) → IsSuperclass cs n n → is_circular cs n ≡ true

@@ -2,7 +2,7 @@
 use Rattle.std.specs.Prelude.{ℕ, zero, suc, ◌+◌, Bool, true, false, ◌&&◌, ◌||◌, nat_lt, List, [], ◌∷◌, ◌++◌, Option, Some, None, is_some, option_to_list, unwrap_or, slice_get, slice_set, position, length, if◌then◌else◌}
 use Rattle.std.specs.List.{list_all, list_any, position_or_len}
 use Rattle.lisp_data.specs.Name.{Nam, same_name}
-use Rattle.clos_class_core.specs.Precedence.{Supers, has, precedence_list}
+use Rattle.clos_precedence.specs.Precedence.{Supers, has, precedence_list}
 
 pub record Classes : Type 0 where
   pub names : List Nam  -- of each class its name

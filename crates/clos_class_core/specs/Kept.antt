@@ -4,10 +4,10 @@ use Rattle.std.specs.declared.alloc.Global.{Global}
 use Rattle.std.specs.declared.vec.Vec.{Vec}
 use Rattle.lisp_data.specs.Name.{Nam}
 use Rattle.clos_class_core.specs.declared.kept.Kept.{Kept}
-use Rattle.clos_class_core.specs.Precedence.{has}
+use Rattle.clos_precedence.specs.Precedence.{has}
 use Rattle.clos_class_core.specs.Classes.{Classes, Listing, lacking, broken, listed, found, superclasses, is_lacking, is_broken, listing_within, listing, named, names_above}
 use Rattle.clos_class_core.specs.Ways.{IsSuperclass, IsWhole}
-use Rattle.clos_class_core.specs.PrecedenceView.{listing_of, listing_at, kept_above, kept_at}
+use Rattle.clos_class_core.specs.KeptView.{listing_of, listing_at, kept_above, kept_at}
 
 -- what the classes were before this one came last, or got these direct superclasses in place of others
 abbrev pub WasBefore : Option (Vec Nam Global) → Classes → Classes → ℕ → Nam → List Nam → Type 0

@@ -1,5 +1,4 @@
-pub mod Precedence
-pub mod PrecedenceView
+pub mod KeptView
 pub mod Examples
 pub mod Classes
 pub mod Ways
@@ -9,4 +8,3 @@ pub mod TableView
 pub mod Initial
 pub mod Finding
 pub mod Outlook
-pub mod OrderView

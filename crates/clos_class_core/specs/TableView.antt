@@ -2,7 +2,7 @@
 use Rattle.std.specs.Prelude.{◌≡◌, ℕ, List, Option, Some}
 use Rattle.clos_class_core.specs.declared.fault.ClassFault.{ClassFault}
 use Rattle.clos_class_core.specs.declared.fault.ClassFault.TheVariants.{ProgramError, TableLimit, InvalidSuperclass, SuperclassCycle, IncompleteClass, InconsistentPrecedence, Memory}
-use Rattle.clos_class_core.specs.Precedence.{IsPrecedenceList, IsFamily, Circle}
+use Rattle.clos_precedence.specs.Precedence.{IsPrecedenceList, IsFamily, Circle}
 use Rattle.clos_class_core.specs.Classes.{Classes, superclasses}
 use Rattle.clos_class_core.specs.Ways.{IsWhole}
 use Rattle.clos_class_core.specs.Table.{Refusal, program_error, table_limit, invalid_superclass, superclass_cycle, incomplete_class, inconsistent_precedence}

@@ -1,6 +1,6 @@
 -- Superclasses (HyperSpec 4.3.1), and what the definitions find on the way up to them.
 use Rattle.std.specs.Prelude.{◌≡◌, ◌↔◌, ℕ, true, false, List, [], ◌∷◌, ◌⊎◌}
-use Rattle.clos_class_core.specs.Precedence.{has, IsFamily}
+use Rattle.clos_precedence.specs.Precedence.{has, IsFamily}
 use Rattle.clos_class_core.specs.Classes.{Classes, superclasses, is_based, is_circular, lacking, listing}
 
 -- a series of classes between n and m, each a direct superclass of the one before

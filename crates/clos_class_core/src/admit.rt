@@ -3,7 +3,8 @@ ghost use Rattle.std.specs.Prelude.{◌≡◌, ◌<◌, ℕ, ◌≤◌, ◌&&◌
 ghost use Rattle.clos_class_core.specs.Classes.{number_of, with_class, is_lacking, listing};
 ghost use Rattle.clos_class_core.specs.Kept.{IsConsistent, Knows, WasBefore};
 ghost use Rattle.clos_class_core.specs.Outlook.{listing_then};
-ghost use Rattle.clos_class_core.specs.PrecedenceView.{numbers, listing_at};
+ghost use Rattle.clos_precedence.specs.PrecedenceView.{numbers};
+ghost use Rattle.clos_class_core.specs.KeptView.{listing_at};
 ghost use Rattle.clos_class_core.specs.Table.{misplaced, changed};
 ghost use Rattle.clos_class_core.specs.TableView.{Refuses};
 

@@ -4,7 +4,7 @@ ghost use Rattle.std.specs.List.{list_any};
 ghost use Rattle.lisp_data.specs.Name.{Nam, same_name};
 ghost use Rattle.clos_class_core.specs.Classes.{Classes, named, number_of, with_class, names_above, defined, are_defined};
 ghost use Rattle.clos_class_core.specs.Kept.{WasBefore};
-ghost use Rattle.clos_class_core.specs.PrecedenceView.{numbers};
+ghost use Rattle.clos_precedence.specs.PrecedenceView.{numbers};
 
 use indexmap::IndexSet;
 use lisp_data::{ClassId, Name};

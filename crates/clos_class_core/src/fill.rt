@@ -1,7 +1,7 @@
 //! What is kept of the classes, found for one after another until no more is found.
 ghost use Rattle.std.specs.Prelude.{◌≡◌, ◌<◌, ℕ, IfOk, OnOk, length};
 ghost use Rattle.clos_class_core.specs.Kept.{Adds, Ends, Filled, Progress, Knows};
-ghost use Rattle.clos_class_core.specs.PrecedenceView.{listing_of};
+ghost use Rattle.clos_class_core.specs.KeptView.{listing_of};
 ghost use Rattle.clos_class_core.specs.Classes.{is_lacking};
 
 use crate::definitions::Definitions;

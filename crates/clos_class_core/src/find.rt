@@ -2,15 +2,15 @@
 ghost use Rattle.std.specs.Prelude.{◌≡◌, ◌||◌, ◌∷◌, ℕ, [], IfOk, IfSome, OnOk, option_map, true};
 ghost use Rattle.clos_class_core.specs.Classes.{Classes, found, is_based, superclasses, is_lacking, is_broken, list_in, listed_if, listed};
 ghost use Rattle.clos_class_core.specs.Finding.{any_lacking, any_broken, together};
-ghost use Rattle.clos_class_core.specs.Precedence.{has, precedence_list};
+ghost use Rattle.clos_precedence.specs.Precedence.{has, precedence_list};
 ghost use Rattle.clos_class_core.specs.Kept.{Keeps, IsAbove, IsSingle};
 ghost use Rattle.clos_class_core.specs.Table.{list_if};
-ghost use Rattle.clos_class_core.specs.PrecedenceView.{numbers, listing_of, listing_at, above_by};
+ghost use Rattle.clos_precedence.specs.PrecedenceView.{numbers};
+ghost use Rattle.clos_class_core.specs.KeptView.{listing_of, listing_at, above_by};
 
 use crate::definitions::Definitions;
 use crate::kept::{Above, Kept, Line};
-use crate::precedence::{contains, precedence_list};
-use crate::seen::Seen;
+use clos_precedence::{Seen, contains, precedence_list};
 use lisp_data::ClassId;
 use std::alloc::{AllocError, Global};
 use std::rc::Rc;
@@ -79,23 +79,8 @@ pub fn listed(kept: &[Kept], class: ClassId) -> Option<&[ClassId]>
     }
 }
 
-/// Adds those of these classes that are not there yet.
-#[tactic(auto, using(crate::proofs::SameFamily::added_there, crate::proofs::SameFamily::added_new))]
-fn add_all(family: &mut Seen, classes: &[ClassId]) -> Result<(), AllocError>
-    ensures { OnOk result ((x : ℕ) → has family.new x ≡ (has family.old x || has (numbers classes.now) x)) }
-{
-    let mut left = classes;
-    while let Some((class, others)) = left.split_first() {
-        if !family.has(*class) {
-            family.add(*class)?;
-        }
-        left = others;
-    }
-    Ok(())
-}
-
 /// A class and all in the lists of its direct superclasses, each once.
-#[tactic(auto, using(crate::proofs::SameFamily::reversed, crate::proofs::Circular::has_both, crate::proofs::Circular::both_or))]
+#[tactic(auto, using(clos_precedence::proofs::Lists::reversed, clos_precedence::proofs::Meeting::seen_all, clos_precedence::proofs::Lists::has_both, clos_precedence::proofs::Lists::both_or))]
 fn family(
     alloc: Global,
     kept: &[Kept],
@@ -108,7 +93,7 @@ fn family(
     family.add(class)?;
     let mut left = superclasses;
     while let Some((superclass, others)) = left.split_first() {
-        add_all(&mut family, list_of(kept, *superclass))?;
+        family.add_all(list_of(kept, *superclass))?;
         left = others;
     }
     Ok(family.into_list())

@@ -1,7 +1,5 @@
 //! What is kept of each class: its class precedence list, where there is one.
-ghost use Rattle.std.specs.Prelude.{◌≡◌};
-ghost use Rattle.clos_class_core.specs.PrecedenceView.{numbers, above_in};
-
+use clos_precedence::Superclasses;
 use lisp_data::ClassId;
 use std::rc::Rc;
 
@@ -30,11 +28,12 @@ pub struct Above<'a> {
     pub superclasses: &'a [ClassId],
 }
 
-impl Above<'_> {
-    /// Those of this class.
-    pub fn of(&self, class: ClassId) -> &[ClassId]
-        ensures { numbers result.now ≡ above_in self.now class.0 }
-    {
+impl Superclasses for Above<'_> {
+    ghost use Rattle.clos_class_core.specs.KeptView.{above_in};
+
+    ghost above = { above_in };
+
+    fn of(&self, class: ClassId) -> &[ClassId] {
         if class.0 == self.class.0 {
             return self.superclasses;
         }

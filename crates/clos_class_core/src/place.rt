@@ -3,7 +3,8 @@ ghost use Rattle.std.specs.Prelude.{◌≡◌, ◌≤◌, nat_le, ◌&&◌, ◌+
 ghost use Rattle.lisp_data.specs.Name.{Nam};
 ghost use Rattle.clos_class_core.specs.Classes.{Classes, is_lacking, is_broken, is_circular, listing};
 ghost use Rattle.clos_class_core.specs.Kept.{Changes, Knows};
-ghost use Rattle.clos_class_core.specs.PrecedenceView.{numbers, listing_at};
+ghost use Rattle.clos_precedence.specs.PrecedenceView.{numbers};
+ghost use Rattle.clos_class_core.specs.KeptView.{listing_at};
 ghost use Rattle.clos_class_core.specs.Table.{misplaced, out_of_order, broken_from, changed};
 ghost use Rattle.clos_class_core.specs.Finding.{is_other_if, changed_if};
 ghost use Rattle.std.specs.Str.{bytes_eq};

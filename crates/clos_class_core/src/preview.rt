@@ -2,7 +2,7 @@
 ghost use Rattle.std.specs.Prelude.{◌≡◌};
 ghost use Rattle.clos_class_core.specs.Classes.{list_in};
 ghost use Rattle.clos_class_core.specs.Outlook.{listing_then};
-ghost use Rattle.clos_class_core.specs.PrecedenceView.{numbers};
+ghost use Rattle.clos_precedence.specs.PrecedenceView.{numbers};
 
 use crate::find::list_of;
 use crate::kept::Kept;
@@ -18,7 +18,8 @@ pub struct Preview {
 }
 
 impl Model for Preview {
-    ghost use Rattle.clos_class_core.specs.PrecedenceView.{numbers, listing_of};
+    ghost use Rattle.clos_precedence.specs.PrecedenceView.{numbers};
+    ghost use Rattle.clos_class_core.specs.KeptView.{listing_of};
     ghost use Rattle.std.specs.Prelude.{map};
     ghost use Rattle.clos_class_core.specs.Outlook.{Outlook};
 

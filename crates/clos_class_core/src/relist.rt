@@ -1,15 +1,15 @@
 //! What is kept of the classes after one was defined.
 ghost use Rattle.std.specs.Prelude.{◌≡◌, ◌≤◌, ℕ, List, IfOk, length};
-ghost use Rattle.clos_class_core.specs.Precedence.{has};
+ghost use Rattle.clos_precedence.specs.Precedence.{has};
 ghost use Rattle.clos_class_core.specs.Classes.{Classes, listed, list_in};
 ghost use Rattle.clos_class_core.specs.Kept.{Changes, More, Restarts, Knows, without, without_broken};
-ghost use Rattle.clos_class_core.specs.PrecedenceView.{listing_of, listing_at, kept_above, kept_at};
+ghost use Rattle.clos_class_core.specs.KeptView.{listing_of, listing_at, kept_above, kept_at};
 
 use crate::definitions::Definitions;
 use crate::fill::fill;
 use crate::find::list_of;
 use crate::kept::Kept;
-use crate::precedence::contains;
+use clos_precedence::contains;
 use lisp_data::ClassId;
 use std::alloc::{AllocError, Global};
 

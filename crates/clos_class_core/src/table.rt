@@ -1,10 +1,10 @@
 //! A session's table of classes (HyperSpec 4.3).
 ghost use Rattle.std.specs.Prelude.{◌≡◌, ◌↔◌, ℕ, None, true, IfOk, IfErr, IfSome, IsNone, IsTrue, OnOk, OnErr, length, option_map, option_copied, slice_get};
 ghost use Rattle.clos_class_core.specs.Classes.{named, number_of, with_class, listing, broken, list_in};
-ghost use Rattle.clos_class_core.specs.Precedence.{has};
+ghost use Rattle.clos_precedence.specs.Precedence.{has};
 ghost use Rattle.clos_class_core.specs.Initial.{initial, is_standard, class_of_class};
 ghost use Rattle.clos_class_core.specs.Outlook.{listing_then};
-ghost use Rattle.clos_class_core.specs.PrecedenceView.{numbers};
+ghost use Rattle.clos_precedence.specs.PrecedenceView.{numbers};
 ghost use Rattle.clos_class_core.specs.Table.{Table, refusal, or_standard, changed, list_if};
 ghost use Rattle.clos_class_core.specs.TableView.{Refuses, IsListOf, HasCircle};
 ghost use Rattle.clos_class_core.specs.Ways.{IsSuperclass, IsSelfOrAbove, IsComplete, IsIncomplete};
@@ -16,9 +16,9 @@ use crate::find::{list_of, listed};
 use crate::kept::Kept;
 use crate::names::{check_names, or_standard};
 use crate::numbers::{BUILT_IN_CLASS, STANDARD_CLASS, STANDARD_OBJECT};
-use crate::precedence::contains;
 use crate::predefined::define_predefined;
 use crate::preview::Preview;
+use clos_precedence::contains;
 use lisp_data::{ClassId, Name};
 use std::alloc::{AllocError, Global};
 use std::marker::Model;

@@ -1,14 +1,14 @@
 //! The applicable methods of a call and their order (HyperSpec 7.6.6.1).
 ghost use Rattle.std.specs.Prelude.{◌≡◌, ◌==◌, [], IfOk, OnOk, map, length, slice_index_or};
 ghost use Rattle.lisp_data.specs.ValueView.{value_of};
-ghost use Rattle.clos_class_core.specs.PrecedenceView.{numbers};
+ghost use Rattle.clos_precedence.specs.PrecedenceView.{numbers};
 ghost use Rattle.clos_world.specs.Generic.{specializers_of, is_applicable, stands_before, is_before, placed, ordered};
 ghost use Rattle.clos_world.specs.World.{seen, lists_of};
 
 use crate::class_ids::ClassIds;
 use crate::generic::{Method, MethodIds, method_numbered};
 use crate::world::World;
-use clos_class_core::contains;
+use clos_precedence::contains;
 use lisp_data::{ClassId, MethodId, Value};
 use std::alloc::{AllocError, Global};
 use std::marker::Model;

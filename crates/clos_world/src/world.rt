@@ -1,7 +1,7 @@
 //! The state of a session: its tables, what was written, and its limits.
 ghost use Rattle.std.specs.Prelude.{◌≡◌, OnOk, OnErr, option_map, length, ◌++◌, ◌∷◌, []};
 ghost use Rattle.lisp_data.specs.ValueView.{value_of};
-ghost use Rattle.clos_class_core.specs.PrecedenceView.{numbers};
+ghost use Rattle.clos_precedence.specs.PrecedenceView.{numbers};
 ghost use Rattle.clos_world.specs.Class.{precedence_or_none};
 ghost use Rattle.clos_world.specs.World.{seen, class_of, class_of_instance, names_of};
 

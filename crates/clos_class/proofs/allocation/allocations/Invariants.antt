@@ -2,7 +2,7 @@ use Rattle.std.proofs.Common.{◌≡◌, length}
 use Rattle.std.specs.Option.{option_or}
 use Rattle.std.specs.HashMap.{get}
 use Rattle.lisp_data.specs.Name.{Nam, same_name}
-use Rattle.clos_class_core.specs.PrecedenceView.{numbers}
+use Rattle.clos_precedence.specs.PrecedenceView.{numbers}
 use Rattle.clos_class.specs.Slots.{allocation}
 use Rattle.clos_class.specs.SlotsView.{direct_slots}
 use Rattle.clos_class.proofs.allocation.allocations.Given as goal

@@ -1,6 +1,6 @@
 use Rattle.std.proofs.Common.{◌≡◌, length}
 use Rattle.std.specs.List.{flat_map}
-use Rattle.clos_class_core.specs.PrecedenceView.{numbers}
+use Rattle.clos_precedence.specs.PrecedenceView.{numbers}
 use Rattle.clos_class.specs.Slots.{default_initargs}
 use Rattle.clos_class.specs.SlotsView.{defaults}
 use Rattle.clos_class.specs.Building.{completed}

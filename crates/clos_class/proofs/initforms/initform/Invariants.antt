@@ -1,5 +1,5 @@
 use Rattle.std.proofs.Common.{◌≡◌, length}
-use Rattle.clos_class_core.specs.PrecedenceView.{numbers}
+use Rattle.clos_precedence.specs.PrecedenceView.{numbers}
 use Rattle.clos_class.specs.Slots.{initform}
 use Rattle.clos_class.specs.SlotsView.{direct_slots}
 use Rattle.clos_class.proofs.initforms.initform.Given as goal

@@ -1,7 +1,7 @@
 use Rattle.std.proofs.Common.{◌≡◌, length}
 use Rattle.std.specs.HashMap.{get}
 use Rattle.lisp_data.specs.Name.{same_name}
-use Rattle.clos_class_core.specs.PrecedenceView.{numbers}
+use Rattle.clos_precedence.specs.PrecedenceView.{numbers}
 use Rattle.clos_class.specs.Slots.{layout_of}
 use Rattle.clos_class.specs.SlotsView.{direct_slots}
 use Rattle.clos_class.specs.Building.{with_slots}

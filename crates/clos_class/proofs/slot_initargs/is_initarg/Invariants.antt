@@ -1,7 +1,7 @@
 use Rattle.std.proofs.Common.{◌≡◌, length}
 use Rattle.std.specs.List.{flat_map, list_any}
 use Rattle.lisp_data.specs.Name.{same_name}
-use Rattle.clos_class_core.specs.PrecedenceView.{numbers}
+use Rattle.clos_precedence.specs.PrecedenceView.{numbers}
 use Rattle.clos_class.specs.Slots.{initargs}
 use Rattle.clos_class.specs.SlotsView.{direct_slots}
 use Rattle.clos_class.specs.Building.{any_has}

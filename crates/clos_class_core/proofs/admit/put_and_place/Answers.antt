@@ -1,6 +1,6 @@
 use Rattle.std.specs.Prelude.{not, ◌||◌}
 use Rattle.clos_class_core.specs.Classes.{number_of, is_lacking, listing}
-use Rattle.clos_class_core.specs.PrecedenceView.{numbers}
+use Rattle.clos_precedence.specs.PrecedenceView.{numbers}
 use Rattle.clos_class_core.proofs.Admitted.{placed_own, not_placed_own}
 use Rattle.clos_class_core.proofs.Consistent.{placed_consistent}
 use Rattle.clos_class_core.proofs.admit.put_and_place.Goals as goal

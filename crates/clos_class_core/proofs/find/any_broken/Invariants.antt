@@ -1,6 +1,7 @@
 use Rattle.std.proofs.Common.{◌≡◌, length}
 use Rattle.clos_class_core.specs.Finding.{any_broken}
-use Rattle.clos_class_core.specs.PrecedenceView.{numbers, listing_at}
+use Rattle.clos_precedence.specs.PrecedenceView.{numbers}
+use Rattle.clos_class_core.specs.KeptView.{listing_at}
 use Rattle.clos_class_core.proofs.find.any_broken.Given as goal
 
 abbrev pub invariant-loop-class : goal.invariant-loop-class

@@ -1,6 +1,7 @@
 use Rattle.std.proofs.Common.{◌∷◌}
 use Rattle.clos_class_core.specs.Finding.{together}
-use Rattle.clos_class_core.specs.PrecedenceView.{numbers, listing_at}
+use Rattle.clos_precedence.specs.PrecedenceView.{numbers}
+use Rattle.clos_class_core.specs.KeptView.{listing_at}
 use Rattle.clos_class_core.proofs.SameFamily.{family_end}
 use Rattle.clos_class_core.proofs.find.family.Goals as goal
 

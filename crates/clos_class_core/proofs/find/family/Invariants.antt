@@ -1,7 +1,8 @@
 use Rattle.std.proofs.Common.{◌≡◌, ◌||◌, ◌∷◌, ℕ, length}
-use Rattle.clos_class_core.specs.Precedence.{has}
+use Rattle.clos_precedence.specs.Precedence.{has}
 use Rattle.clos_class_core.specs.Finding.{together}
-use Rattle.clos_class_core.specs.PrecedenceView.{numbers, listing_at}
+use Rattle.clos_precedence.specs.PrecedenceView.{numbers}
+use Rattle.clos_class_core.specs.KeptView.{listing_at}
 use Rattle.clos_class_core.proofs.find.family.Given as goal
 
 abbrev pub invariant-loop-superclass : goal.invariant-loop-superclass

@@ -1,6 +1,7 @@
 use Rattle.std.proofs.Common.{subst}
 use Rattle.clos_class_core.specs.Kept.{IsSingle}
-use Rattle.clos_class_core.specs.PrecedenceView.{numbers, listing_of, listing_at}
+use Rattle.clos_precedence.specs.PrecedenceView.{numbers}
+use Rattle.clos_class_core.specs.KeptView.{listing_of, listing_at}
 use Rattle.clos_class_core.proofs.Single.{one_based}
 use Rattle.clos_class_core.proofs.find.find_based.Goals as goal
 

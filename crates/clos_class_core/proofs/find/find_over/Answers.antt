@@ -1,10 +1,11 @@
 use Rattle.std.proofs.Common.{◌≡◌, ◌∷◌, false, sym, subst, ◌∙◌}
 use Rattle.std.proofs.lemmas.Result.{IfOk-weaker}
 use Rattle.clos_class_core.specs.Finding.{any_lacking, any_broken, together}
-use Rattle.clos_class_core.specs.Precedence.{precedence_list}
+use Rattle.clos_precedence.specs.Precedence.{precedence_list}
 use Rattle.clos_class_core.specs.Classes.{listed_if}
-use Rattle.clos_class_core.specs.PrecedenceView.{numbers, listing_of, listing_at, above_by}
-use Rattle.clos_class_core.proofs.Circular.{Same}
+use Rattle.clos_precedence.specs.PrecedenceView.{numbers}
+use Rattle.clos_class_core.specs.KeptView.{listing_of, listing_at, above_by}
+use Rattle.clos_precedence.proofs.SameMembers.{Same}
 use Rattle.clos_class_core.proofs.SameFamily.{family_based}
 use Rattle.clos_class_core.proofs.find.find_over.Goals as goal
 

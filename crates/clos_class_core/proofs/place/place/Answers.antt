@@ -1,5 +1,6 @@
 use Rattle.std.proofs.Common.{◌≡◌, length, subst, ◌∙◌}
-use Rattle.clos_class_core.specs.PrecedenceView.{numbers, listing_at}
+use Rattle.clos_precedence.specs.PrecedenceView.{numbers}
+use Rattle.clos_class_core.specs.KeptView.{listing_at}
 use Rattle.clos_class_core.specs.Finding.{changed_if}
 use Rattle.clos_class_core.proofs.Placing.{changed_is}
 use Rattle.clos_class_core.proofs.place.place.Goals as goal

@@ -5,7 +5,7 @@ use Rattle.lisp_prims.specs.Fault.{AnswersUnlessMemory}
 use Rattle.lisp_prims.specs.Primitive.{answer}
 use Rattle.lisp_prims.specs.declared.lists.ListFunction.TheVariants.{List}
 use Rattle.lisp_prims.specs.declared.primitive.Primitive.TheVariants.{Listed}
-use Rattle.clos_class_core.specs.PrecedenceView.{numbers}
+use Rattle.clos_precedence.specs.PrecedenceView.{numbers}
 use Rattle.clos_eval.proofs.Classes.{not_listed}
 use Rattle.clos_eval.proofs.class_functions.classes_listed.Goals as goal
 

@@ -1,5 +1,5 @@
 use Rattle.std.proofs.Common.{◌≡◌, ◌≤◌, ◌-◌, drop, length}
-use Rattle.clos_class_core.specs.PrecedenceView.{numbers}
+use Rattle.clos_precedence.specs.PrecedenceView.{numbers}
 use Rattle.clos_world.specs.Generic.{stands_before}
 use Rattle.clos_world.proofs.dispatch.earlier.Given as goal
 

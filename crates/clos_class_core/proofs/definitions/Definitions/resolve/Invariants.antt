@@ -1,6 +1,6 @@
 use Rattle.std.proofs.Common.{◌≡◌, ◌++◌, Some, None, length, option_map, if◌then◌else◌}
 use Rattle.clos_class_core.specs.Classes.{defined, are_defined}
-use Rattle.clos_class_core.specs.PrecedenceView.{numbers}
+use Rattle.clos_precedence.specs.PrecedenceView.{numbers}
 use Rattle.clos_class_core.proofs.definitions.Definitions.resolve.Given as goal
 
 abbrev pub invariant-loop-name : goal.invariant-loop-name

@@ -1,7 +1,7 @@
 use Rattle.std.proofs.Common.{◌≡◌, ◌↔◌, IsTrue, ap, subst, ◌∙◌}
 use Rattle.clos_class_core.specs.Classes.{list_in}
-use Rattle.clos_class_core.specs.Precedence.{has}
-use Rattle.clos_class_core.specs.PrecedenceView.{listing_at}
+use Rattle.clos_precedence.specs.Precedence.{has}
+use Rattle.clos_class_core.specs.KeptView.{listing_at}
 use Rattle.clos_class_core.specs.Ways.{IsSelfOrAbove, IsComplete}
 use Rattle.clos_class_core.proofs.Consistent.{below_told}
 use Rattle.clos_class_core.proofs.table.Classes.is_sub.Goals as goal

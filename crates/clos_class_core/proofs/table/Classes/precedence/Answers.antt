@@ -1,6 +1,7 @@
 use Rattle.std.proofs.Common.{◌≡◌, ◌↔◌, ℕ, true, option_map, IfSome, IsNone, ap, subst, ◌∙◌}
-use Rattle.clos_class_core.specs.Precedence.{has}
-use Rattle.clos_class_core.specs.PrecedenceView.{numbers, listing_at}
+use Rattle.clos_precedence.specs.Precedence.{has}
+use Rattle.clos_precedence.specs.PrecedenceView.{numbers}
+use Rattle.clos_class_core.specs.KeptView.{listing_at}
 use Rattle.clos_class_core.specs.Table.{list_if}
 use Rattle.clos_class_core.specs.Ways.{IsSuperclass, IsSelfOrAbove, IsIncomplete}
 use Rattle.clos_class_core.proofs.Consistent.{no_list_told, members_told}

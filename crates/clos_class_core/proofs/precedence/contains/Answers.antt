@@ -1,6 +1,0 @@
-use Rattle.std.proofs.Common.{◌∙◌}
-use Rattle.clos_class_core.proofs.Lists.{any_number}
-use Rattle.clos_class_core.proofs.precedence.contains.Goals as goal
-
-pub returns : goal.returns
-returns c = c.any.ensures ∙ any_number c.args.classes.now c.args.class.0

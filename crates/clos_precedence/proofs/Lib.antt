@@ -1,0 +1,16 @@
+pub mod Truth
+pub mod Lists
+pub mod Meeting
+pub mod Unique
+pub mod Before
+pub mod Next
+pub mod InTurn
+pub mod NoList
+pub mod Circle
+pub mod OnPrecedence
+pub mod Marking
+pub mod Members
+pub mod Depth
+pub mod SameOrder
+pub mod SameMembers
+pub mod OneSuperclass

@@ -1,0 +1,4 @@
+pub mod Precedence
+pub mod PrecedenceView
+pub mod OrderView
+pub mod Examples
