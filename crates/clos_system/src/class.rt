@@ -44,7 +44,7 @@ fn why_not(alloc: Global, world: &mut World, name: &Name, superclasses: Vec<Name
 {
     match world.classes.check(alloc, name, superclasses, false) {
         Err(fault) => stop_for(alloc, name, fault),
-        Ok(()) => Stop::Refused(plain(alloc, ConditionKind::StepLimit)),
+        Ok(_preview) => Stop::Refused(plain(alloc, ConditionKind::StepLimit)),
     }
 }
 
