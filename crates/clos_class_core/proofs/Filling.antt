@@ -179,6 +179,15 @@ nothing_found cs ks m v r h k e = found_lacks (listing_of v) (found cs (listing_
 abbrev pub EndBelow : Classes → List Kept → ℕ → Type 0
 EndBelow cs ks place = (n : ℕ) → n < place → Ends cs ks n
 
+-- after one more place it is still known of the first that nothing more is found of it, where nothing was found
+pub filled_also : (cs : Classes) (old mid new : List Kept) (b c : Bool) (E F : Type 0) → Filled b cs old mid E → Filled c cs mid new F → Filled (b || c) cs old new E
+filled_also cs old mid new true true E F f g =
+    let p : lacking_in mid < lacking_in old = f.0 in
+    let q : lacking_in new < lacking_in mid = g.0 in (omega (arith, p, q), g.1 ∙ f.1, (λ k. g.2 (f.2 k)), adds_through old mid new f.3 g.3)
+filled_also cs old mid new true false E F f g = subst (λ v. Filled true cs old v E) (sym g.0) f
+filled_also cs old mid new false true E F f g = let e : mid ≡ old = f.0 in subst (λ v. Filled true cs v new E) e g
+filled_also cs old mid new false false E F f g = (g.0 ∙ f.0, f.1)
+
 pub fill_none : (cs : Classes) (ks : List Kept) → Filled false cs ks ks (EndBelow cs ks 0)
 fill_none cs ks = (refl, λ k n h. absurd (omega (arith, h)))
 

@@ -43,6 +43,24 @@ fn fill_at(
     Ok(true)
 }
 
+/// Does so for the class at this place and for the one as far from the last: where classes wait for one another in the
+/// order of their numbers, the one way or the other, each is found before those that wait for it.
+#[tactic(auto, using(crate::proofs::Filling::filled_also))]
+fn fill_both(
+    alloc: Global,
+    definitions: &Definitions,
+    kept: &mut Vec<Kept>,
+    place: usize,
+) -> Result<bool, AllocError>
+    requires { place < length kept.old.items }
+    ensures { IfOk result (λ b. Filled b definitions.now kept.old.items kept.new.items (Ends definitions.now kept.old.items place)) }
+{
+    let first = fill_at(alloc, definitions, kept, place)?;
+    let opposite = kept.len() - 1 - place;
+    let second = fill_at(alloc, definitions, kept, opposite)?;
+    Ok(first || second)
+}
+
 /// Finds once more what there is to say of each class of which nothing is said. Tells whether there is something.
 #[tactic(auto, using(crate::proofs::Filling::fill_none, crate::proofs::Filling::fill_next, crate::proofs::Filling::fill_end))]
 fn fill_once(
@@ -55,7 +73,7 @@ fn fill_once(
     let mut filled = false;
     let mut place = 0;
     while place < kept.len() {
-        let more = fill_at(alloc, definitions, kept, place)?;
+        let more = fill_both(alloc, definitions, kept, place)?;
         filled = filled || more;
         place += 1;
     }
