@@ -76,7 +76,10 @@ fn agrees(
     let shared = draw.next() % 4 == 0;
     let wanted = model.define(alloc, class, above.as_slice(), shared)?;
     let own = Name::new(alloc, name(class), false)?;
-    let asked = classes.check(alloc, &own, names(alloc, above.as_slice())?, shared);
+    let asked = match classes.check(alloc, &own, names(alloc, above.as_slice())?, shared) {
+        Ok(_) => Ok(()),
+        Err(fault) => Err(fault),
+    };
     let answer = classes.define(alloc, &own, names(alloc, above.as_slice())?, shared);
     let found = told(alloc, classes, &answer)?;
     Ok(

@@ -127,7 +127,12 @@ fn check(
         superclasses,
         has_shared_slots,
     } = read_form(alloc, text)?;
-    Ok(classes.check(alloc, &name, superclasses, has_shared_slots))
+    Ok(
+        match classes.check(alloc, &name, superclasses, has_shared_slots) {
+            Ok(_) => Ok(()),
+            Err(fault) => Err(fault),
+        },
+    )
 }
 
 /// Whether a definition that was let pass answered the class of this name.
