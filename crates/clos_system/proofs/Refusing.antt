@@ -1,5 +1,5 @@
 -- A definition of a class that is refused.
-use Rattle.std.proofs.Common.{◌≡◌, ℕ, List, Option, Some, None, Err, arith, ap, sym, ◌∙◌, subst}
+use Rattle.std.proofs.Common.{◌≡◌, ℕ, List, Option, Some, None, Err, false, arith, ap, sym, ◌∙◌, subst}
 use Rattle.std.specs.Prelude.{option_map}
 use Rattle.lisp_data.specs.Name.{Nam}
 use Rattle.clos_class_core.specs.Table.{Refusal, refusal, or_standard}
