@@ -5,4 +5,7 @@ pub mod FirstInitform
 pub mod Added
 pub mod Completed
 pub mod Placed
-pub mod Given
+pub mod Rowed
+pub mod Alike
+pub mod Needed
+pub mod Gathered

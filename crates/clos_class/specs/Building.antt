@@ -39,6 +39,6 @@ abbrev pub with_slots : (Nam → Option SlotAllocation) → Layout → List Nam 
 with_slots of l [] = l
 with_slots of l (n ∷ ns) = with_slots of (with_slot l n (of n)) ns
 
--- whether one of the slots of a name has this initarg
-abbrev pub any_has : Nam → Nam → List DirectSlot → Bool
-any_has initarg name ss = list_any (same_name initarg) (flat_map (λ s. s.initargs) (called name ss))
+abbrev pub or_no_names : Option (List Nam) → List Nam
+or_no_names None = []
+or_no_names (Some ns) = ns

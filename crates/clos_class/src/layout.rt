@@ -5,12 +5,13 @@ ghost use Rattle.std.specs.HashMap.{get};
 ghost use Rattle.lisp_data.specs.Name.{same_name};
 ghost use Rattle.clos_class_core.specs.PrecedenceView.{numbers};
 ghost use Rattle.clos_class.specs.Slots.{layout_of, names};
-ghost use Rattle.clos_class.specs.SlotsView.{direct_slots};
+ghost use Rattle.clos_class.specs.SlotsView.{slots_in};
 ghost use Rattle.clos_class.specs.Building.{with_slot, with_slots};
 
 use crate::allocation::allocations;
-use crate::direct::{ClassSlots, DirectSlot, SlotAllocation, direct_slots};
+use crate::direct::{DirectSlot, SlotAllocation};
 use crate::names::NameSet;
+use crate::rows::Rows;
 use indexmap::IndexMap;
 use lisp_data::{CellId, ClassId, Name};
 use std::alloc::{AllocError, Global};
@@ -116,16 +117,16 @@ fn add_all(
 #[tactic(auto, using(crate::proofs::Built::built, crate::proofs::Built::next_class))]
 pub fn layout_of(
     alloc: Global,
-    classes: &[ClassSlots],
+    classes: &Rows<'_>,
     list: &[ClassId],
 ) -> Result<Layout, AllocError>
-    ensures { IfOk result (λ r. r ≡ layout_of (direct_slots classes.now) (numbers list.now)) }
+    ensures { IfOk result (λ r. r ≡ layout_of (slots_in classes.now) (numbers list.now)) }
 {
     let allocations = allocations(alloc, classes, list)?;
     let mut layout = Layout::new(alloc);
     let mut left = list;
     while let Some((class, others)) = left.split_last() {
-        add_all(&mut layout, &allocations, direct_slots(classes, *class))?;
+        add_all(&mut layout, &allocations, classes.slots(*class))?;
         left = others;
     }
     Ok(layout)

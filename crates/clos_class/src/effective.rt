@@ -1,0 +1,46 @@
+//! What a class has by its class precedence list (AMOP 5.4).
+ghost use Rattle.std.specs.Prelude.{◌≡◌, IfOk};
+ghost use Rattle.clos_class_core.specs.PrecedenceView.{numbers};
+ghost use Rattle.clos_class.specs.Keeping.{Tells};
+ghost use Rattle.clos_class.specs.SlotsView.{defaults_in, slots_in};
+
+use crate::defaults::default_initargs;
+use crate::layout::{Layout, layout_of};
+use crate::names::NameSet;
+use crate::rows::Rows;
+use crate::slot_initargs::all_initargs;
+use clos_syntax::{DefaultInitarg, Sequence};
+use lisp_data::{ClassId, Name};
+use std::alloc::{AllocError, Global};
+use std::collections::HashMap;
+use std::rc::Rc;
+
+/// The layout, the initargs of the slots that have some, and the default initargs of a class.
+#[derive(Drop)]
+pub struct Effective {
+    pub layout: Rc<Layout>,
+    pub initargs: HashMap<Name, NameSet>,
+    pub defaults: Sequence<DefaultInitarg>,
+}
+
+/// What a class with this class precedence list has, if it has one.
+pub fn find_effective(
+    alloc: Global,
+    classes: &Rows<'_>,
+    list: &[ClassId],
+) -> Result<Option<Rc<Effective>>, AllocError>
+    ensures { IfOk result (λ r. Tells (slots_in classes.now) (defaults_in classes.now) (numbers list.now) r) }
+{
+    if list.len() == 0 {
+        return Ok(None);
+    }
+    let layout = Rc::new(alloc, layout_of(alloc, classes, list)?)?;
+    let initargs = all_initargs(alloc, classes, list)?;
+    let defaults = default_initargs(alloc, classes, list)?;
+    let effective = Effective {
+        layout,
+        initargs,
+        defaults,
+    };
+    Ok(Some(Rc::new(alloc, effective)?))
+}
