@@ -1,5 +1,5 @@
 -- What is told of a class where what its superclasses say stays the same.
-use Rattle.std.proofs.Common.{◌≡◌, ℕ, ◌==◌, Bool, true, false, ◌||◌, true≢false, List, [], ◌∷◌, ◌++◌, Option, Some, None, length, ◌≤◌, refl, ap, sym, subst, ◌∙◌}
+use Rattle.std.proofs.Common.{◌≡◌, ℕ, ◌==◌, Bool, true, false, ◌||◌, true≢false, List, [], ◌∷◌, ◌++◌, Option, Some, None, length, ◌<◌, ◌≤◌, arith, refl, ap, sym, subst, ◌∙◌}
 use Rattle.std.specs.Prelude.{reverse, slice_get}
 use Rattle.std.specs.Option.{option_map_or}
 use Rattle.std.specs.List.{filter, filter_map, flat_map, list_any}
@@ -8,7 +8,9 @@ use Rattle.std.proofs.lemmas.List.{reverse-append}
 use Rattle.std.proofs.lemmas.List.Folds.{list_any-append}
 use Rattle.lisp_data.specs.Name.{Nam}
 use Rattle.clos_syntax.specs.declared.class.DefaultInitarg.{DefaultInitarg}
+use Rattle.lisp_data.specs.declared.ids.ClassId.{ClassId}
 use Rattle.clos_class_core.specs.Precedence.{has}
+use Rattle.clos_class_core.specs.PrecedenceView.{numbers}
 use Rattle.clos_class.specs.declared.direct.ClassSlots.{ClassSlots}
 use Rattle.clos_class.specs.declared.direct.DirectSlot.{DirectSlot}
 use Rattle.clos_class.specs.declared.rows.Rows.{Rows}
@@ -16,7 +18,7 @@ use Rattle.clos_class.specs.Keeping.{Kept, Tells, layout_if}
 use Rattle.clos_class.specs.Slots.{Defaults, DirectSlots, Layout, called, distinct, first_allocation, first_of_each, is_local, layout_of, names, shared_in}
 use Rattle.clos_class.specs.SlotsView.{defaults, defaults_in, direct_slots, or_said, row_of, slots_in}
 use Rattle.clos_class.specs.Table.{with_row}
-use Rattle.clos_class.proofs.Rowed.{at_row, same_defaults, same_slots, sees}
+use Rattle.clos_class.proofs.Rowed.{Sees, at_row, same_defaults, same_slots, sees}
 
 or_true : (a : Bool) → (a || true) ≡ true
 or_true true = refl
@@ -77,10 +79,20 @@ untouched rows n row l then k b h e t =
     (λ m g. ap (λ o. option_map_or (λ c. c.defaults) o []) (stays rows n row l b h m g))
     t)
 
--- what is found anew
+-- what is found by what these say
+pub seen : (r : Rows) (rows : List ClassSlots) (l then : List ℕ) (k : Kept) → Sees r rows → l ≡ then → Tells (slots_in r) (defaults_in r) l k → Tells (direct_slots rows) (defaults rows) then k
+seen r rows l then k v e t =
+    subst (λ u. Tells (direct_slots rows) (defaults rows) u k) e
+    (subst (λ u. Tells u (defaults rows) l k) (same_slots r rows v) (subst (λ u. Tells (slots_in r) u l k) (same_defaults r rows v) t))
+
 pub touched : (r : Rows) (rows : List ClassSlots) (n : ℕ) (row : ClassSlots) (l then : List ℕ) (k : Kept) → n ≤ length rows → ((m : ℕ) → row_of r m ≡ or_said (Some row) (m == n) (slice_get rows m)) → l ≡ then
     → Tells (slots_in r) (defaults_in r) l k → Tells (direct_slots (with_row rows n row)) (defaults (with_row rows n row)) then k
-touched r rows n row l then k b v e t =
-    subst (λ u. Tells (direct_slots (with_row rows n row)) (defaults (with_row rows n row)) u k) e
-    (subst (λ u. Tells u (defaults (with_row rows n row)) l k) (same_slots r (with_row rows n row) (sees r rows n row b v))
-    (subst (λ u. Tells (slots_in r) u l k) (same_defaults r (with_row rows n row) (sees r rows n row b v)) t))
+touched r rows n row l then k b v e t = seen r (with_row rows n row) l then k (sees r rows n row b v) e t
+
+pub some_layout : (of : DirectSlots) (cs : List ClassId) → 0 < length cs → Some (layout_of of (numbers cs)) ≡ layout_if of (numbers cs)
+some_layout of [] h = absurd (omega (arith, h))
+some_layout of (c ∷ cs) h = refl
+
+pub neither : (a b : Bool) → (a || b) ≡ false → (a ≡ false) × (b ≡ false)
+neither true b h = absurd (true≢false h)
+neither false b h = (refl, h)

@@ -4,9 +4,9 @@ use Rattle.std.specs.Prelude.{cond, unwrap_or}
 use Rattle.std.specs.List.{flat_map}
 use Rattle.lisp_data.specs.Name.{Nam, same_name}
 use Rattle.clos_class.specs.declared.direct.DirectSlot.{DirectSlot}
-use Rattle.clos_class.specs.Slots.{called}
+use Rattle.clos_class.specs.Slots.{called, distinct}
 use Rattle.clos_class.specs.Building.{or_no_names, with_names}
-use Rattle.clos_class.proofs.Added.{more_initargs, same_names}
+use Rattle.clos_class.proofs.Added.{all_names, same_names}
 use Rattle.clos_class.proofs.Each.{is_same, none_after, turned}
 
 or_none : (o : Option (List Nam)) (d : List Nam) → d ≡ [] → unwrap_or o d ≡ or_no_names o
@@ -27,3 +27,7 @@ pub one_slot : (g0 g1 g2 : Nam → Option (List Nam)) (s : DirectSlot) (k : Nam)
 one_slot g0 g1 g2 s k o was none new r e i w z u a n =
     ap or_no_names (i n ∙ ap (λ b. cond b (Some new) (g1 n)) (ap (λ m. same_name m n) e ∙ turned s.name n))
     ∙ at_name n s (g1 n) g0 new (same_name n s.name) refl (r n ∙ ap (λ b. cond b None (g0 n)) (turned s.name n)) (a ∙ ap (λ l. with_names l s.initargs) (u ∙ or_none o none z ∙ ap or_no_names w))
+
+-- from none on
+pub from_none : (o : Option (List Nam)) (ns : List Nam) → o ≡ None → with_names (or_no_names o) ns ≡ distinct ns
+from_none o ns e = ap (λ p. with_names (or_no_names p) ns) e ∙ all_names ns

@@ -7,5 +7,6 @@ pub mod Completed
 pub mod Placed
 pub mod Rowed
 pub mod Alike
+pub mod Lasting
 pub mod Needed
 pub mod Gathered

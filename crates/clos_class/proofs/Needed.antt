@@ -14,15 +14,16 @@ use Rattle.clos_syntax.specs.declared.slot.SlotSpecifier.{SlotSpecifier}
 use Rattle.clos_class_core.specs.PrecedenceView.{latest_first}
 use Rattle.clos_class_core.proofs.Lists.{latest}
 use Rattle.clos_class.specs.declared.direct.ClassSlots.{ClassSlots}
+use Rattle.clos_class.specs.declared.direct.SlotAllocation.{SlotAllocation}
 use Rattle.clos_class.specs.declared.rows.Rows.{Rows}
-use Rattle.clos_class.specs.Slots.{DirectSlots, accessible, distinct, names}
+use Rattle.clos_class.specs.Slots.{DirectSlots, accessible, allocation, cell_in, distinct, names}
 use Rattle.clos_class.specs.SlotsView.{direct_slots, or_said, row_of, slots_in}
 use Rattle.clos_class.specs.Building.{with_name, with_names}
 use Rattle.clos_class.specs.Table.{cell_at, cell_for, is_shared, no_cell, needs_cell, new_cells, own_cell, rows_with, said, with_row}
 use Rattle.clos_class.proofs.Added.{all_names as all_added, one_name, some_names}
 use Rattle.clos_class.proofs.Built.{all_names}
 use Rattle.clos_class.proofs.Each.{each, is_same}
-use Rattle.clos_class.proofs.Rowed.{same_slots, sees}
+use Rattle.clos_class.proofs.Rowed.{Sees, same_slots, sees}
 
 -- ---- some of the names, each once
 
@@ -139,3 +140,10 @@ one_lacking f n ks new s ss e h =
     ∙ ap (λ b. b || needs_cell f ss n) (among_by n s.name ks (list_any (same_name s.name) ks) refl)
     ∙ or_after (list_any (same_name n) ks) (same_name n s.name) (needs_cell f ss n)
     ∙ ap (λ b. list_any (same_name n) ks || (b || needs_cell f ss n)) (and_true (same_name n s.name) (lacks f s) h)
+
+pub own_found : (r : Rows) (rows : List ClassSlots) (n : ℕ) (o : Nam → Option SlotAllocation) → Sees r rows → ((m : Nam) → o m ≡ allocation (slots_in r) (n ∷ []) m) → (m : Nam) → cell_in (o m) ≡ own_cell rows n m
+own_found r rows n o v e m = ap cell_in (e m ∙ ap (λ of. allocation of (n ∷ []) m) (same_slots r rows v))
+
+pub is_none : (ns : List Nam) → length ns ≡ 0 → ns ≡ []
+is_none [] e = refl
+is_none (n ∷ ns) e = cc

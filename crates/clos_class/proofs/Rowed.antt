@@ -22,11 +22,11 @@ module _ {X : Type 0} where
   set_other (y ∷ ys) (suc n) zero x h = refl
   set_other (y ∷ ys) (suc n) (suc m) x h = set_other ys n m x (sym (eqb-suc-suc m n) ∙ h)
 
-  end_here : (xs : List X) (x : X) → slice_get (xs ++ x ∷ []) (length xs) ≡ Some x
+  pub end_here : (xs : List X) (x : X) → slice_get (xs ++ x ∷ []) (length xs) ≡ Some x
   end_here [] x = refl
   end_here (y ∷ ys) x = end_here ys x
 
-  end_other : (xs : List X) (m : ℕ) (x : X) → (m == length xs) ≡ false → slice_get (xs ++ x ∷ []) m ≡ slice_get xs m
+  pub end_other : (xs : List X) (m : ℕ) (x : X) → (m == length xs) ≡ false → slice_get (xs ++ x ∷ []) m ≡ slice_get xs m
   end_other [] zero x h = absurd (eqb-false 0 0 h refl)
   end_other [] (suc m) x h = refl
   end_other (y ∷ ys) zero x h = refl

@@ -1,5 +1,5 @@
 -- What is kept of classes: what each has by its class precedence list.
-use Rattle.std.specs.Prelude.{◌≡◌, ℕ, ◌<◌, List, [], ◌∷◌, Option, Some, None, false, length, option_map, slice_get, unwrap_or}
+use Rattle.std.specs.Prelude.{◌≡◌, ℕ, suc, nat_lt, List, [], ◌∷◌, Option, Some, None, false, length, option_map, slice_get, unwrap_or, if◌then◌else◌}
 use Rattle.std.specs.HashMap.{get}
 use Rattle.std.specs.declared.alloc.Global.{Global}
 use Rattle.std.specs.declared.rc.Rc.{Rc}
@@ -53,6 +53,10 @@ lists_of cs n = list_in (listing cs n)
 abbrev pub lists_then : Outlook → ℕ → List ℕ
 lists_then o n = list_in (listing_then o n)
 
--- of these first classes each that is not told to change has its list then
-abbrev pub Stay : Classes → Outlook → ℕ → Type 0
-Stay cs o len = (n : ℕ) → n < len → has o.changed n ≡ false → lists_then o n ≡ lists_of cs n
+-- where a class is not told to change it has its list then
+abbrev pub Stays : Classes → Outlook → ℕ → Type 0
+Stays cs o n = has o.changed n ≡ false → lists_then o n ≡ lists_of cs n
+
+-- how many classes there are with this one
+abbrev pub len_with : ℕ → ℕ → ℕ
+len_with len n = if nat_lt n len then len else suc len

@@ -36,20 +36,20 @@ has_shared_slots ss = list_any (λ s. is_shared s.allocation) ss
 abbrev pub is_unambiguous : ClassDefinition → Bool
 is_unambiguous d = are_distinct (slot_names d.slots) && are_distinct (default_names d.defaults)
 
--- A class with shared slots has to be complete.
-abbrev pub refusal : Table → ClassDefinition → Option Refusal
-refusal t d = or_else (when (not (is_unambiguous d)) program_error) (refusal_by_names t.table d.name (or_standard d.superclasses) (has_shared_slots d.slots))
+-- why a class can't be defined; one with shared slots has to be complete
+abbrev pub refusal : NameTable → ClassDefinition → Option Refusal
+refusal t d = or_else (when (not (is_unambiguous d)) program_error) (refusal_by_names t d.name (or_standard d.superclasses) (has_shared_slots d.slots))
 
 -- ---- the class
 
-abbrev pub number : Table → ClassDefinition → ℕ
-number t d = number_of t.table.classes d.name
+abbrev pub number : NameTable → ClassDefinition → ℕ
+number t d = number_of t.classes d.name
 
-abbrev pub classes_with : Table → ClassDefinition → Classes
-classes_with t d = with_class t.table.classes d.name (or_standard d.superclasses)
+abbrev pub classes_with : NameTable → ClassDefinition → Classes
+classes_with t d = with_class t.classes d.name (or_standard d.superclasses)
 
 -- the class precedence list that it has then
-abbrev pub list_with : Table → ClassDefinition → List ℕ
+abbrev pub list_with : NameTable → ClassDefinition → List ℕ
 list_with t d = list_in (listing (classes_with t d) (number t d))
 
 -- ---- its slots
@@ -91,17 +91,15 @@ new_cells rows n l d = filter (needs_cell (own_cell rows n) d.slots) (accessible
 -- A shared slot keeps its cell. The new cells are handed out in layout order.
 abbrev pub with_definition : Table → ClassDefinition → List CellId → Table
 with_definition t d cells = record {
-  table = record t.table { classes = classes_with t d };
-  slots = rows_with t.slots (number t d) d (new_cells t.slots (number t d) (list_with t d) d) cells;
+  table = record t.table { classes = classes_with t.table d };
+  slots = rows_with t.slots (number t.table d) d (new_cells t.slots (number t.table d) (list_with t.table d) d) cells;
 }
 
 -- ---- what is told before it is defined
 
 -- each slot that needs a new cell, with its initform
-abbrev pub cells_to_make : Table → ClassDefinition → List NewCell
-cells_to_make t d =
-    map (λ n. record { slot = n; initform = initform (direct_slots (rows_with t.slots (number t d) d [] [])) (list_with t d) n })
-    (new_cells t.slots (number t d) (list_with t d) d)
+abbrev pub cells_to_make : List ClassSlots → ℕ → List ℕ → ClassDefinition → List NewCell
+cells_to_make rows n l d = map (λ name. record { slot = name; initform = initform (direct_slots (rows_with rows n d [] [])) l name }) (new_cells rows n l d)
 
 -- ---- from the start
 

@@ -114,11 +114,15 @@ impl Cells {
     {
         let own = allocations(alloc, &Rows::kept(rows), &[class])?;
         let lacking = lacking(alloc, &own, definition.slots.as_slice())?;
-        let mut cells = Cells { own, new: lacking };
-        if cells.new.len() > 0 {
-            cells.new = cells.order(alloc, rows, class, list, definition)?;
+        let cells = Cells { own, new: lacking };
+        if cells.new.len() == 0 {
+            return Ok(cells);
         }
-        Ok(cells)
+        let new = cells.order(alloc, rows, class, list, definition)?;
+        Ok(Cells {
+            own: cells.own,
+            new,
+        })
     }
 
     /// These new ones, in layout order.
@@ -134,7 +138,8 @@ impl Cells {
         ensures { IfOk result (λ r. r ≡ filter (λ m. list_any (same_name m) self.now.new) (accessible (direct_slots (with_row rows.now class.0 (said (cell_for (λ m. cell_in (get same_name self.now.own m)) self.now.new []) definition.now))) (numbers list.now))) }
     {
         let said = self.said(alloc, definition, &[])?;
-        in_layout_order(alloc, &Rows::with(rows, class, &said), list, &self.new)
+        let found = in_layout_order(alloc, &Rows::with(rows, class, &said), list, &self.new)?;
+        Ok(found)
     }
 
     /// The cell of a shared slot, where the new ones are these.

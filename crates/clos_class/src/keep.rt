@@ -1,7 +1,7 @@
 //! What is kept of all classes: what each has by its class precedence list.
 ghost use Rattle.std.specs.Prelude.{◌≡◌, ◌<◌, ◌≤◌, ◌||◌, ℕ, suc, IfOk, length, option_copied};
 ghost use Rattle.clos_class_core.specs.Precedence.{has};
-ghost use Rattle.clos_class.specs.Keeping.{Stay, Tells, TellsAll, kept_at, lists_of, lists_then};
+ghost use Rattle.clos_class.specs.Keeping.{Stays, Tells, len_with, TellsAll, kept_at, lists_of, lists_then};
 ghost use Rattle.clos_class.specs.SlotsView.{defaults, direct_slots};
 ghost use Rattle.clos_class.specs.Table.{with_row};
 
@@ -51,17 +51,73 @@ fn keep_at(
     place: usize,
 ) -> Result<Option<Rc<Effective>>, AllocError>
     requires kept { TellsAll rows.now (lists_of table.now.classes) kept.now }
-    requires stay { Stay table.now.classes preview.now (suc place) }
+    requires stays { Stays table.now.classes preview.now place }
     requires known { preview.now.class ≤ length rows.now }
     ensures { IfOk result (λ r. Tells (direct_slots (with_row rows.now preview.now.class said.now)) (defaults (with_row rows.now preview.now.class said.now)) (lists_then preview.now place) r) }
 {
     let class = ClassId(place as u64);
     if is_touched(table, preview, class) {
         let classes = Rows::with(rows, preview.class(), said);
-        return find_effective(alloc, &classes, preview.precedence_or_none(class));
+        let found = find_effective(alloc, &classes, preview.precedence_or_none(class))?;
+        return Ok(found);
     }
     match kept_at(kept, place) {
         None => Ok(None),
         Some(effective) => Ok(Some(effective.clone()?)),
     }
+}
+
+/// How many classes there are with this one.
+fn len_with(rows: &[ClassSlots], class: ClassId) -> usize
+    ensures { result ≡ len_with (length rows.now) class.0 }
+{
+    if class.0 < rows.len() as u64 {
+        return rows.len();
+    }
+    rows.len() + 1
+}
+
+/// What is to be kept of all classes after one was defined, which says this of slots.
+pub fn keep_then(
+    alloc: Global,
+    table: &Classes,
+    rows: &[ClassSlots],
+    kept: &[Option<Rc<Effective>>],
+    preview: &Preview,
+    said: &ClassSlots,
+) -> Result<Vec<Option<Rc<Effective>>>, AllocError>
+    requires kept { TellsAll rows.now (lists_of table.now.classes) kept.now }
+    requires stay { (n : ℕ) → n < len_with (length rows.now) preview.now.class → Stays table.now.classes preview.now n }
+    requires known { preview.now.class ≤ length rows.now }
+    ensures each { IfOk result (λ r. (n : ℕ) → n < len_with (length rows.now) preview.now.class → Tells (direct_slots (with_row rows.now preview.now.class said.now)) (defaults (with_row rows.now preview.now.class said.now)) (lists_then preview.now n) (kept_at r.items n)) }
+    ensures len { IfOk result (λ r. length r.items ≡ len_with (length rows.now) preview.now.class) }
+{
+    let len = len_with(rows, preview.class());
+    let mut then = Vec::new(alloc);
+    let mut place = 0;
+    while place < len {
+        then.push(keep_at(alloc, table, rows, kept, preview, said, place)?)?;
+        place += 1;
+    }
+    Ok(then)
+}
+
+/// What is kept of all classes from the start.
+pub fn keep_first(
+    alloc: Global,
+    table: &Classes,
+    rows: &[ClassSlots],
+) -> Result<Vec<Option<Rc<Effective>>>, AllocError>
+    ensures each { IfOk result (λ r. (n : ℕ) → n < length rows.now → Tells (direct_slots rows.now) (defaults rows.now) (lists_of table.now.classes n) (kept_at r.items n)) }
+    ensures len { IfOk result (λ r. length r.items ≡ length rows.now) }
+{
+    let classes = Rows::kept(rows);
+    let mut first = Vec::new(alloc);
+    let mut place = 0;
+    while place < rows.len() {
+        let list = table.precedence_or_none(ClassId(place as u64));
+        first.push(find_effective(alloc, &classes, list)?)?;
+        place += 1;
+    }
+    Ok(first)
 }

@@ -1,4 +1,4 @@
-use Rattle.std.proofs.Common.{ap, sym, refl, ◌∙◌}
+use Rattle.std.proofs.Common.{rules, ap, sym, ◌∙◌}
 use Rattle.std.specs.HashMap.{get}
 use Rattle.std.specs.List.{flat_map}
 use Rattle.lisp_data.specs.Name.{same_name}
@@ -6,11 +6,12 @@ use Rattle.clos_class_core.specs.PrecedenceView.{numbers}
 use Rattle.clos_class.specs.Slots.{called, specifiers}
 use Rattle.clos_class.specs.SlotsView.{slots_in}
 use Rattle.clos_class.specs.Building.{or_no_names, with_names}
-use Rattle.clos_class.proofs.Added.{all_names, more_initargs}
+use Rattle.clos_class.proofs.Added.{more_initargs}
+use Rattle.clos_class.proofs.Gathered.{from_none}
 use Rattle.clos_class.proofs.slot_initargs.all_initargs.Goals as goal
 
 pub loop-class-init : goal.loop-class-init
-loop-class-init c = λ n. all_names (flat_map (λ s. s.initargs) (specifiers (slots_in c.args.classes.now) (numbers c.args.list.now) n))
+loop-class-init c = λ n. from_none (get same_name c.new-found.result n) (flat_map (λ s. s.initargs) (specifiers (slots_in c.args.classes.now) (numbers c.args.list.now) n)) (search rules)
 
 pub loop-class-preserved : goal.loop-class-preserved
 loop-class-preserved c = λ n.
