@@ -10,3 +10,4 @@ pub mod Alike
 pub mod Lasting
 pub mod Needed
 pub mod Gathered
+pub mod Preparing

@@ -1,6 +1,6 @@
 -- Slots that need new cells.
 use Rattle.std.proofs.Common.{◌≡◌, ℕ, zero, suc, ◌==◌, Bool, true, false, ◌||◌, ◌&&◌, List, [], ◌∷◌, ◌++◌, Option, Some, None, length, ◌≤◌, refl, ap, sym, ◌∙◌}
-use Rattle.std.specs.Prelude.{cond, is_some, not, position, slice_get, unwrap_or, if◌then◌else◌}
+use Rattle.std.specs.Prelude.{cond, is_some, map, not, position, slice_get, unwrap_or, if◌then◌else◌}
 use Rattle.std.specs.List.{cons_option, filter, filter_map, flat_map, list_any}
 use Rattle.std.specs.Option.{option_or}
 use Rattle.std.proofs.lemmas.List.{map-append}
@@ -15,11 +15,12 @@ use Rattle.clos_class_core.specs.PrecedenceView.{latest_first}
 use Rattle.clos_class_core.proofs.Lists.{latest}
 use Rattle.clos_class.specs.declared.direct.ClassSlots.{ClassSlots}
 use Rattle.clos_class.specs.declared.direct.SlotAllocation.{SlotAllocation}
+use Rattle.clos_class.specs.declared.reserve.NewCell.{NewCell}
 use Rattle.clos_class.specs.declared.rows.Rows.{Rows}
-use Rattle.clos_class.specs.Slots.{DirectSlots, accessible, allocation, cell_in, distinct, names}
+use Rattle.clos_class.specs.Slots.{DirectSlots, accessible, allocation, cell_in, distinct, initform, names}
 use Rattle.clos_class.specs.SlotsView.{direct_slots, or_said, row_of, slots_in}
 use Rattle.clos_class.specs.Building.{with_name, with_names}
-use Rattle.clos_class.specs.Table.{cell_at, cell_for, is_shared, no_cell, needs_cell, new_cells, own_cell, rows_with, said, with_row}
+use Rattle.clos_class.specs.Table.{cell_at, cell_for, cells_to_make, is_shared, no_cell, needs_cell, new_cells, own_cell, rows_with, said, with_row}
 use Rattle.clos_class.proofs.Added.{all_names as all_added, one_name, some_names}
 use Rattle.clos_class.proofs.Built.{all_names}
 use Rattle.clos_class.proofs.Each.{each, is_same}
@@ -147,3 +148,15 @@ own_found r rows n o v e m = ap cell_in (e m ∙ ap (λ of. allocation of (n ∷
 pub is_none : (ns : List Nam) → length ns ≡ 0 → ns ≡ []
 is_none [] e = refl
 is_none (n ∷ ns) e = cc
+
+-- ---- what is told of them
+
+pub to_make : (rows : List ClassSlots) (r : Rows) (n : ℕ) (l : List ℕ) (d : ClassDefinition) (f : Nam → Option CellId) (ns slots : List Nam) (row : ClassSlots) (found : List NewCell) → n ≤ length rows
+    → ((m : Nam) → f m ≡ own_cell rows n m) → ns ≡ new_cells rows n l d → slots ≡ ns → row ≡ said (cell_for f ns []) d → ((m : ℕ) → row_of r m ≡ or_said (Some row) (m == n) (slice_get rows m))
+    → found ≡ map (λ name. record { slot = name; initform = initform (slots_in r) l name }) slots → found ≡ cells_to_make rows n l d
+to_make rows r n l d f ns slots row found b e h z s v g =
+    g
+    ∙ ap (λ ms. map (λ name. record { slot = name; initform = initform (slots_in r) l name }) ms) (z ∙ h)
+    ∙ ap (λ of. map (λ name. record { slot = name; initform = initform of l name }) (new_cells rows n l d))
+    (same_slots r (with_row rows n row) (sees r rows n row b v)
+    ∙ ap (λ w. direct_slots (with_row rows n w)) (s ∙ ap (λ k. said k d) (no_new f ns) ∙ ap (λ k. said (cell_for k [] []) d) (λ i m. e m i)))

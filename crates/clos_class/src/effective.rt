@@ -1,6 +1,10 @@
 //! What a class has by its class precedence list (AMOP 5.4).
 ghost use Rattle.std.specs.Prelude.{◌≡◌, IfOk};
+ghost use Rattle.std.specs.HashMap.{get};
+ghost use Rattle.std.specs.List.{list_any};
+ghost use Rattle.lisp_data.specs.Name.{same_name};
 ghost use Rattle.clos_class_core.specs.PrecedenceView.{numbers};
+ghost use Rattle.clos_class.specs.Building.{or_no_names};
 ghost use Rattle.clos_class.specs.Keeping.{Tells};
 ghost use Rattle.clos_class.specs.SlotsView.{defaults_in, slots_in};
 
@@ -21,6 +25,28 @@ pub struct Effective {
     pub layout: Rc<Layout>,
     pub initargs: HashMap<Name, NameSet>,
     pub defaults: Sequence<DefaultInitarg>,
+}
+
+impl Effective {
+    /// The initargs of a slot.
+    pub fn initargs_of(&self, slot: &Name) -> &[Name]
+        ensures { result.now ≡ or_no_names (get same_name self.now.initargs slot.now) }
+    {
+        match self.initargs.get(slot) {
+            None => &[],
+            Some(names) => names.as_slice(),
+        }
+    }
+
+    /// Whether a slot has this initarg.
+    pub fn is_initarg(&self, slot: &Name, initarg: &Name) -> bool
+        ensures { result ≡ list_any (same_name initarg.now) (or_no_names (get same_name self.now.initargs slot.now)) }
+    {
+        match self.initargs.get(slot) {
+            None => false,
+            Some(names) => names.has(initarg),
+        }
+    }
 }
 
 /// What a class with this class precedence list has, if it has one.

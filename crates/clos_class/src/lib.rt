@@ -15,6 +15,7 @@ mod names;
 mod reserve;
 mod rows;
 mod slot_initargs;
+mod table;
 
 pub use clos_class_core::{Changed, ClassFault, contains};
 pub use defaults::default_initargs;
@@ -23,4 +24,6 @@ pub use initforms::initform;
 pub use layout::{Layout, layout_of};
 pub use names::NameSet;
 pub use reserve::{NewCell, Reserved};
+pub use rows::Rows;
 pub use slot_initargs::all_initargs;
+pub use table::Classes;
