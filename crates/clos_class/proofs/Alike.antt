@@ -1,13 +1,11 @@
 -- What is told of a class where what its superclasses say stays the same.
-use Rattle.std.proofs.Common.{◌≡◌, ℕ, ◌==◌, Bool, true, false, ◌||◌, true≢false, List, [], ◌∷◌, ◌++◌, Option, Some, None, length, ◌<◌, ◌≤◌, arith, refl, ap, sym, subst, ◌∙◌}
+use Rattle.std.proofs.Common.{◌≡◌, ℕ, ◌==◌, Bool, true, false, ◌||◌, true≢false, List, [], ◌∷◌, ◌++◌, Some, length, ◌<◌, ◌≤◌, arith, refl, ap, sym, subst, ◌∙◌}
 use Rattle.std.specs.Prelude.{reverse, slice_get}
 use Rattle.std.specs.Option.{option_map_or}
-use Rattle.std.specs.List.{filter, filter_map, flat_map, list_any}
+use Rattle.std.specs.List.{filter, filter_map, flat_map}
 use Rattle.std.proofs.lemmas.Bool.{eq-eqb, eqb-true}
 use Rattle.std.proofs.lemmas.List.{reverse-append}
 use Rattle.std.proofs.lemmas.List.Folds.{list_any-append}
-use Rattle.lisp_data.specs.Name.{Nam}
-use Rattle.clos_syntax.specs.declared.class.DefaultInitarg.{DefaultInitarg}
 use Rattle.lisp_data.specs.declared.ids.ClassId.{ClassId}
 use Rattle.clos_class_core.specs.Precedence.{has}
 use Rattle.clos_class_core.specs.PrecedenceView.{numbers}

@@ -1,13 +1,13 @@
 -- What is kept of all classes.
-use Rattle.std.proofs.Common.{◌≡◌, ℕ, zero, suc, ◌==◌, ◌+◌, Bool, true, false, List, [], ◌∷◌, ◌++◌, Option, Some, None, length, length-append, ◌<◌, ◌≤◌, arith, refl, ap, sym, subst, ◌∙◌}
-use Rattle.std.specs.Prelude.{nat_lt, slice_get, unwrap_or, option_map}
+use Rattle.std.proofs.Common.{◌≡◌, ℕ, zero, suc, ◌==◌, ◌+◌, Bool, true, false, List, [], ◌∷◌, ◌++◌, Some, None, length, length-append, ◌<◌, ◌≤◌, arith, refl, ap, sym, subst, ◌∙◌}
+use Rattle.std.specs.Prelude.{nat_lt, unwrap_or}
 use Rattle.std.specs.HashMap.{get}
 use Rattle.std.specs.declared.alloc.Global.{Global}
 use Rattle.std.specs.declared.rc.Rc.{Rc}
 use Rattle.std.proofs.lemmas.Bool.{eqb-true, eqb-false, le-ltb, ltb-false, ltb-true}
 use Rattle.std.proofs.lemmas.Option.{slice_get_past}
 use Rattle.lisp_data.specs.Name.{same_name}
-use Rattle.clos_class_core.specs.Classes.{Classes, Listing, lacking, broken, listed, found, is_based, list_in, listing, listing_within}
+use Rattle.clos_class_core.specs.Classes.{Classes, lacking, list_in, listing_within}
 use Rattle.clos_class.specs.declared.direct.ClassSlots.{ClassSlots}
 use Rattle.clos_class.specs.declared.effective.Effective.{Effective}
 use Rattle.clos_class.specs.Building.{or_no_names}

@@ -11,3 +11,4 @@ pub mod Lasting
 pub mod Needed
 pub mod Gathered
 pub mod Preparing
+pub mod Standing

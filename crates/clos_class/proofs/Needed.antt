@@ -1,6 +1,6 @@
 -- Slots that need new cells.
 use Rattle.std.proofs.Common.{◌≡◌, ℕ, zero, suc, ◌==◌, Bool, true, false, ◌||◌, ◌&&◌, List, [], ◌∷◌, ◌++◌, Option, Some, None, length, ◌≤◌, refl, ap, sym, ◌∙◌}
-use Rattle.std.specs.Prelude.{cond, is_some, map, not, position, slice_get, unwrap_or, if◌then◌else◌}
+use Rattle.std.specs.Prelude.{cond, is_some, map, not, position, slice_get, unwrap_or}
 use Rattle.std.specs.List.{cons_option, filter, filter_map, flat_map, list_any}
 use Rattle.std.specs.Option.{option_or}
 use Rattle.std.proofs.lemmas.List.{map-append}

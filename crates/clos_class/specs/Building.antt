@@ -1,14 +1,13 @@
 -- How layouts and lists of initargs are built, one after another.
-use Rattle.std.specs.Prelude.{Bool, not, List, [], ◌∷◌, ◌++◌, Option, Some, None, if◌then◌else◌}
-use Rattle.std.specs.List.{filter, flat_map, list_any}
+use Rattle.std.specs.Prelude.{not, List, [], ◌∷◌, ◌++◌, Option, Some, None, if◌then◌else◌}
+use Rattle.std.specs.List.{filter, list_any}
 use Rattle.std.specs.Map.{keys_of}
 use Rattle.lisp_data.specs.Name.{Nam, same_name}
 use Rattle.lisp_data.specs.declared.ids.CellId.{CellId}
-use Rattle.clos_class.specs.declared.direct.DirectSlot.{DirectSlot}
 use Rattle.clos_class.specs.declared.direct.SlotAllocation.{SlotAllocation}
 use Rattle.clos_class.specs.declared.direct.SlotAllocation.TheVariants.{Local, Shared}
 use Rattle.clos_syntax.specs.declared.class.DefaultInitarg.{DefaultInitarg}
-use Rattle.clos_class.specs.Slots.{Layout, called, distinct, first_of_each}
+use Rattle.clos_class.specs.Slots.{Layout, distinct, first_of_each}
 
 -- those whose names are not among these
 abbrev pub new_of : {X : Type 0} → (X → Nam) → List Nam → List X → List X

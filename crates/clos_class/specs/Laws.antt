@@ -1,9 +1,8 @@
 -- Laws of layouts.
-use Rattle.std.specs.Prelude.{◌≡◌, ℕ, true, List, Option, Some, None}
+use Rattle.std.specs.Prelude.{◌≡◌, ℕ, true, List}
 use Rattle.std.specs.List.{list_any}
 use Rattle.std.specs.Map.{keys_of, lookup}
 use Rattle.lisp_data.specs.Name.{Nam, same_name}
-use Rattle.lisp_data.specs.declared.ids.CellId.{CellId}
 use Rattle.clos_forms.specs.Distinct.{are_distinct}
 use Rattle.clos_class.specs.Slots.{DirectSlots, allocation, cell_in, is_local, layout_of}
 

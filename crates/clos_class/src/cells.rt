@@ -64,11 +64,7 @@ fn lacking(
 }
 
 /// Adds those of these names that slots have.
-fn add_among(
-    found: &mut NameSet,
-    lacking: &NameSet,
-    slots: &[DirectSlot],
-) -> Result<(), AllocError>
+fn add_among(found: &mut NameSet, lacking: &NameSet, slots: &[DirectSlot]) -> Result<(), AllocError>
     ensures { OnOk result (found.new ≡ with_names found.old (filter (λ n. list_any (same_name n) lacking.now) (names slots.now))) }
 {
     let mut left = slots;

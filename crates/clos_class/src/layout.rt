@@ -115,11 +115,7 @@ fn add_all(
 
 /// The layout of a class with this class precedence list.
 #[tactic(auto, using(crate::proofs::Built::built, crate::proofs::Built::next_class))]
-pub fn layout_of(
-    alloc: Global,
-    classes: &Rows<'_>,
-    list: &[ClassId],
-) -> Result<Layout, AllocError>
+pub fn layout_of(alloc: Global, classes: &Rows<'_>, list: &[ClassId]) -> Result<Layout, AllocError>
     ensures { IfOk result (λ r. r ≡ layout_of (slots_in classes.now) (numbers list.now)) }
 {
     let allocations = allocations(alloc, classes, list)?;

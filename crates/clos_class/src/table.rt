@@ -42,9 +42,13 @@ pub struct Classes {
 impl Model for Classes {
     ghost use Rattle.std.specs.Prelude.{◌≡◌, length};
     ghost use Rattle.clos_class.specs.Keeping.{TellsAll, lists_of};
+    ghost use Rattle.std.specs.Coded.{codes};
     ghost use Rattle.clos_class.specs.Table.{Table};
+    ghost use Rattle.clos_class.specs.contracts.direct.ClassSlots as class_slots;
 
     ghost Value = { Table };
+
+    ghost coded = { Prim.hlevel (codes, class_slots.the_row.coded) };
 
     ghost view = { λ a. record { table = a.table; slots = a.rows.items } };
 
@@ -52,10 +56,7 @@ impl Model for Classes {
 }
 
 /// Nothing, of each class.
-fn no_rows(
-    alloc: Global,
-    table: &clos_class_core::Classes,
-) -> Result<Vec<ClassSlots>, AllocError>
+fn no_rows(alloc: Global, table: &clos_class_core::Classes) -> Result<Vec<ClassSlots>, AllocError>
     ensures { IfOk result (λ r. r.items ≡ replicate (length table.now.classes.names) says_nothing) }
 {
     let mut rows = Vec::new(alloc);
@@ -144,7 +145,14 @@ impl Classes {
         ensures err { OnErr result (self.new ≡ self.old) }
         ensures fault { IfErr result (λ e. Refuses e (refusal self.old.table definition.now)) }
     {
-        let prepared = prepare(alloc, &mut self.table, &self.rows, &self.kept, definition, cells)?;
+        let prepared = prepare(
+            alloc,
+            &mut self.table,
+            &self.rows,
+            &self.kept,
+            definition,
+            cells,
+        )?;
         self.rows.reserve(1)?;
         let changed = define_name(alloc, &mut self.table, definition)?;
         put(&mut self.rows, changed.class, prepared.said);
@@ -240,7 +248,11 @@ impl Classes {
     pub fn initform(&self, class: ClassId, slot: &Name) -> Option<&Form>
         ensures { option_copied result ≡ initform (direct_slots self.now.slots) (list_in (listing self.now.table.classes class.0)) slot.now }
     {
-        initform(&Rows::kept(&self.rows), self.table.precedence_or_none(class), slot)
+        initform(
+            &Rows::kept(&self.rows),
+            self.table.precedence_or_none(class),
+            slot,
+        )
     }
 
     /// The default initargs of a class.
