@@ -1,4 +1,4 @@
-//! Tests of the table of classes, over what its crate makes public.
+//! Tests of the tables of classes, without and with their slots, over what their crates make public.
 #![tactic(auto)]
 
 #[cfg(test)]
@@ -11,5 +11,7 @@ mod model;
 mod numbers;
 #[cfg(test)]
 mod script;
+#[cfg(test)]
+mod slots;
 #[cfg(test)]
 mod worked;

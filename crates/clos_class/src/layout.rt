@@ -1,5 +1,5 @@
 //! Layouts: where the slots of an instance are kept (HyperSpec 7.5.3).
-ghost use Rattle.std.specs.Prelude.{◌≡◌, [], IfOk, OnOk, length, option_copied, position, slice_get};
+ghost use Rattle.std.specs.Prelude.{◌≡◌, [], IfOk, OnOk, length, option_copied, option_map, position, slice_get};
 ghost use Rattle.std.specs.Map.{lookup};
 ghost use Rattle.std.specs.HashMap.{get};
 ghost use Rattle.lisp_data.specs.Name.{same_name};
@@ -70,6 +70,13 @@ impl Layout {
         ensures { result ≡ position (same_name name.now) self.now.locals }
     {
         self.locals.place_of(name)
+    }
+
+    /// The shared slot at this place, with its cell.
+    pub fn shared(&self, place: usize) -> Option<(&Name, &CellId)>
+        ensures { option_map (λ s. (s.0.now, s.1.now)) result ≡ slice_get self.now.shared place }
+    {
+        self.shared.get_index(place)
     }
 
     /// The cell of the shared slot of this name.

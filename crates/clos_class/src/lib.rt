@@ -18,12 +18,8 @@ mod slot_initargs;
 mod table;
 
 pub use clos_class_core::{Changed, ClassFault, contains};
-pub use defaults::default_initargs;
 pub use direct::{ClassSlots, DirectSlot, SlotAllocation};
-pub use initforms::initform;
-pub use layout::{Layout, layout_of};
+pub use layout::Layout;
 pub use names::NameSet;
 pub use reserve::{NewCell, Reserved};
-pub use rows::Rows;
-pub use slot_initargs::all_initargs;
 pub use table::Classes;
