@@ -1,4 +1,4 @@
-//! Tests of the tables of classes, without and with their slots, over what their crates make public.
+//! Tests of the table of classes, over what its crate makes public.
 #![tactic(auto)]
 
 #[cfg(test)]
@@ -11,7 +11,5 @@ mod model;
 mod numbers;
 #[cfg(test)]
 mod script;
-#[cfg(test)]
-mod slots;
 #[cfg(test)]
 mod worked;

@@ -1,4 +1,4 @@
-//! Classes with slots: worked examples, each line a `defclass` or a question, and what it comes to.
+//! Worked examples, each line a `defclass` or a question, and what it comes to.
 use clos_class::{ClassFault, Classes, Layout, Reserved};
 use clos_forms::{Form, Operator};
 use clos_syntax::{ClassDefinition, Top, parse_top};
