@@ -5,4 +5,10 @@ pub mod FirstInitform
 pub mod Added
 pub mod Completed
 pub mod Placed
-pub mod Given
+pub mod Rowed
+pub mod Alike
+pub mod Lasting
+pub mod Needed
+pub mod Gathered
+pub mod Preparing
+pub mod Standing

@@ -12,8 +12,8 @@ use Rattle.clos_forms.specs.Distinct.{are_distinct}
 use Rattle.clos_class.specs.declared.direct.DirectSlot.{DirectSlot}
 use Rattle.clos_class.specs.declared.direct.SlotAllocation.{SlotAllocation}
 use Rattle.clos_class.specs.declared.direct.SlotAllocation.TheVariants.{Local, Shared}
-use Rattle.clos_class.specs.Slots.{DirectSlots, accessible, allocation, called, distinct, first_allocation, is_local, names, shared_in}
-use Rattle.clos_class.specs.Laws.{HasNoneTwice, PlacesSlots, cell_in}
+use Rattle.clos_class.specs.Slots.{DirectSlots, accessible, allocation, called, cell_in, distinct, first_allocation, is_local, names, shared_in}
+use Rattle.clos_class.specs.Laws.{HasNoneTwice, PlacesSlots}
 use Rattle.clos_class.proofs.Each.{is_same, turned}
 
 -- ---- the accessible slots are those that have an allocation

@@ -1,14 +1,13 @@
 -- How layouts and lists of initargs are built, one after another.
-use Rattle.std.specs.Prelude.{Bool, not, List, [], ◌∷◌, ◌++◌, Option, Some, None, if◌then◌else◌}
-use Rattle.std.specs.List.{filter, flat_map, list_any}
+use Rattle.std.specs.Prelude.{not, List, [], ◌∷◌, ◌++◌, Option, Some, None, if◌then◌else◌}
+use Rattle.std.specs.List.{filter, list_any}
 use Rattle.std.specs.Map.{keys_of}
 use Rattle.lisp_data.specs.Name.{Nam, same_name}
 use Rattle.lisp_data.specs.declared.ids.CellId.{CellId}
-use Rattle.clos_class.specs.declared.direct.DirectSlot.{DirectSlot}
 use Rattle.clos_class.specs.declared.direct.SlotAllocation.{SlotAllocation}
 use Rattle.clos_class.specs.declared.direct.SlotAllocation.TheVariants.{Local, Shared}
 use Rattle.clos_syntax.specs.declared.class.DefaultInitarg.{DefaultInitarg}
-use Rattle.clos_class.specs.Slots.{Layout, called, distinct, first_of_each}
+use Rattle.clos_class.specs.Slots.{Layout, distinct, first_of_each}
 
 -- those whose names are not among these
 abbrev pub new_of : {X : Type 0} → (X → Nam) → List Nam → List X → List X
@@ -39,6 +38,6 @@ abbrev pub with_slots : (Nam → Option SlotAllocation) → Layout → List Nam 
 with_slots of l [] = l
 with_slots of l (n ∷ ns) = with_slots of (with_slot l n (of n)) ns
 
--- whether one of the slots of a name has this initarg
-abbrev pub any_has : Nam → Nam → List DirectSlot → Bool
-any_has initarg name ss = list_any (same_name initarg) (flat_map (λ s. s.initargs) (called name ss))
+abbrev pub or_no_names : Option (List Nam) → List Nam
+or_no_names None = []
+or_no_names (Some ns) = ns

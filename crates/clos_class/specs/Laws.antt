@@ -1,18 +1,10 @@
 -- Laws of layouts.
-use Rattle.std.specs.Prelude.{◌≡◌, ℕ, true, List, Option, Some, None}
+use Rattle.std.specs.Prelude.{◌≡◌, ℕ, true, List}
 use Rattle.std.specs.List.{list_any}
 use Rattle.std.specs.Map.{keys_of, lookup}
 use Rattle.lisp_data.specs.Name.{Nam, same_name}
-use Rattle.lisp_data.specs.declared.ids.CellId.{CellId}
 use Rattle.clos_forms.specs.Distinct.{are_distinct}
-use Rattle.clos_class.specs.declared.direct.SlotAllocation.{SlotAllocation}
-use Rattle.clos_class.specs.declared.direct.SlotAllocation.TheVariants.{Local, Shared}
-use Rattle.clos_class.specs.Slots.{DirectSlots, allocation, is_local, layout_of}
-
-abbrev pub cell_in : Option SlotAllocation → Option CellId
-cell_in None = None
-cell_in (Some Local) = None
-cell_in (Some (Shared c)) = Some c
+use Rattle.clos_class.specs.Slots.{DirectSlots, allocation, cell_in, is_local, layout_of}
 
 -- A slot is local in the layout exactly where its most specific specifier makes it so, and shared, in the cell of that specifier,
 -- exactly where that one does. So a name without a specifier is in neither.

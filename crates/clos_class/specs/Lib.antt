@@ -2,4 +2,6 @@ pub mod Slots
 pub mod SlotsView
 pub mod Building
 pub mod Laws
+pub mod Table
+pub mod Keeping
 pub mod Examples

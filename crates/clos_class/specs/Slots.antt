@@ -48,6 +48,11 @@ first_allocation ss = option_map (λ s. s.allocation) (first ss)
 abbrev pub allocation : DirectSlots → List ℕ → Nam → Option SlotAllocation
 allocation of l name = first_allocation (specifiers of l name)
 
+abbrev pub cell_in : Option SlotAllocation → Option CellId
+cell_in None = None
+cell_in (Some Local) = None
+cell_in (Some (Shared c)) = Some c
+
 -- the initform is that of the most specific specifier that has one
 abbrev pub first_initform : List DirectSlot → Option Frm
 first_initform ss = first (filter_map (λ s. s.initform) ss)

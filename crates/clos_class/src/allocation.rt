@@ -5,9 +5,10 @@ ghost use Rattle.std.specs.HashMap.{get};
 ghost use Rattle.lisp_data.specs.Name.{Nam, same_name};
 ghost use Rattle.clos_precedence.specs.PrecedenceView.{numbers};
 ghost use Rattle.clos_class.specs.Slots.{allocation, called, first_allocation};
-ghost use Rattle.clos_class.specs.SlotsView.{direct_slots};
+ghost use Rattle.clos_class.specs.SlotsView.{slots_in};
 
-use crate::direct::{ClassSlots, DirectSlot, SlotAllocation, direct_slots};
+use crate::direct::{DirectSlot, SlotAllocation};
+use crate::rows::Rows;
 use lisp_data::{ClassId, Name};
 use std::alloc::{AllocError, Global};
 use std::collections::HashMap;
@@ -42,15 +43,15 @@ fn note_all(
 #[tactic(auto, using(crate::proofs::Noted::more_noted, crate::proofs::Noted::all_noted))]
 pub fn allocations(
     alloc: Global,
-    classes: &[ClassSlots],
+    classes: &Rows<'_>,
     list: &[ClassId],
 ) -> Result<HashMap<Name, SlotAllocation>, AllocError>
-    ensures { IfOk result (λ r. (n : Nam) → get same_name r n ≡ allocation (direct_slots classes.now) (numbers list.now) n) }
+    ensures { IfOk result (λ r. (n : Nam) → get same_name r n ≡ allocation (slots_in classes.now) (numbers list.now) n) }
 {
     let mut noted = HashMap::new(alloc);
     let mut left = list;
     while let Some((class, others)) = left.split_first() {
-        note_all(&mut noted, direct_slots(classes, *class))?;
+        note_all(&mut noted, classes.slots(*class))?;
         left = others;
     }
     Ok(noted)

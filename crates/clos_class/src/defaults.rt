@@ -3,11 +3,11 @@ ghost use Rattle.std.specs.Prelude.{◌≡◌, ◌++◌, ◌∷◌, List, IfOk, 
 ghost use Rattle.clos_syntax.specs.declared.class.DefaultInitarg.{DefaultInitarg};
 ghost use Rattle.clos_precedence.specs.PrecedenceView.{numbers};
 ghost use Rattle.clos_class.specs.Slots.{default_initargs};
-ghost use Rattle.clos_class.specs.SlotsView.{defaults};
+ghost use Rattle.clos_class.specs.SlotsView.{defaults_in};
 ghost use Rattle.clos_class.specs.Building.{completed};
 
-use crate::direct::{ClassSlots, defaults};
 use crate::names::NameSet;
+use crate::rows::Rows;
 use clos_syntax::{DefaultInitarg, Sequence};
 use lisp_data::ClassId;
 use std::alloc::{AllocError, Global};
@@ -19,6 +19,22 @@ fn copy(default: &DefaultInitarg) -> Result<DefaultInitarg, AllocError>
         name: default.name.copy()?,
         form: default.form.copy()?,
     })
+}
+
+/// The same default initargs.
+pub fn copy_defaults(
+    alloc: Global,
+    defaults: &[DefaultInitarg],
+) -> Result<Sequence<DefaultInitarg>, AllocError>
+    ensures { IfOk result (λ r. r ≡ defaults.now) }
+{
+    let mut copies = Sequence::new(alloc);
+    let mut left = defaults;
+    while let Some((default, others)) = left.split_first() {
+        copies.push(copy(default)?)?;
+        left = others;
+    }
+    Ok(copies)
 }
 
 /// Adds a default initarg, unless its name is known.
@@ -58,16 +74,16 @@ fn add_all(
 #[tactic(auto, using(crate::proofs::Completed::none_known, crate::proofs::Completed::none_left))]
 pub fn default_initargs(
     alloc: Global,
-    classes: &[ClassSlots],
+    classes: &Rows<'_>,
     list: &[ClassId],
 ) -> Result<Sequence<DefaultInitarg>, AllocError>
-    ensures { IfOk result (λ r. r ≡ default_initargs (defaults classes.now) (numbers list.now)) }
+    ensures { IfOk result (λ r. r ≡ default_initargs (defaults_in classes.now) (numbers list.now)) }
 {
     let mut known = NameSet::new(alloc);
     let mut found = Sequence::new(alloc);
     let mut left = list;
     while let Some((class, others)) = left.split_first() {
-        add_all(&mut known, &mut found, defaults(classes, *class))?;
+        add_all(&mut known, &mut found, classes.defaults(*class))?;
         left = others;
     }
     Ok(found)

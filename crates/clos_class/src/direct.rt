@@ -1,10 +1,12 @@
 //! What classes say of slots.
-ghost use Rattle.std.specs.Prelude.{◌≡◌};
-ghost use Rattle.clos_class.specs.SlotsView.{allocated, defaults, direct_slot, direct_slots};
+ghost use Rattle.std.specs.Prelude.{◌≡◌, IfOk};
+ghost use Rattle.clos_class.specs.SlotsView.{allocated, direct_slot, says_nothing};
 
+use crate::names::copy_names;
 use clos_forms::Form;
 use clos_syntax::{Allocation, DefaultInitarg, Sequence, SlotSpecifier};
-use lisp_data::{CellId, ClassId, Name};
+use lisp_data::{CellId, Name};
+use std::alloc::{AllocError, Global};
 
 /// Where the values of a slot are kept: in each instance, or in one cell for all (HyperSpec 7.5.1).
 #[derive(Clone, Copy, Drop)]
@@ -29,18 +31,43 @@ pub struct ClassSlots {
     pub defaults: Sequence<DefaultInitarg>,
 }
 
+impl ClassSlots {
+    /// Nothing.
+    pub fn new(alloc: Global) -> ClassSlots
+        ensures { result ≡ says_nothing }
+    {
+        ClassSlots {
+            slots: Sequence::new(alloc),
+            defaults: Sequence::new(alloc),
+        }
+    }
+}
+
 impl DirectSlot {
     /// The slot that a specifier defines. One with allocation `:class` is in this cell.
-    pub fn new(specifier: SlotSpecifier, cell: CellId) -> DirectSlot
-        ensures { result ≡ direct_slot specifier cell }
+    pub fn new(
+        alloc: Global,
+        specifier: &SlotSpecifier,
+        cell: CellId,
+    ) -> Result<DirectSlot, AllocError>
+        ensures { IfOk result (λ r. r ≡ direct_slot specifier.now cell) }
     {
-        let allocation = allocated(specifier.allocation, cell);
-        DirectSlot {
-            name: specifier.name,
-            initargs: specifier.initargs,
-            initform: specifier.initform,
-            allocation,
-        }
+        Ok(DirectSlot {
+            name: specifier.name.copy()?,
+            initargs: copy_names(alloc, specifier.initargs.as_slice())?,
+            initform: copy_form(&specifier.initform)?,
+            allocation: allocated(specifier.allocation, cell),
+        })
+    }
+}
+
+/// The same form, where there is one.
+fn copy_form(form: &Option<Form>) -> Result<Option<Form>, AllocError>
+    ensures { IfOk result (λ r. r ≡ form.now) }
+{
+    match form {
+        None => Ok(None),
+        Some(form) => Ok(Some(form.copy()?)),
     }
 }
 
@@ -50,25 +77,5 @@ fn allocated(allocation: Allocation, cell: CellId) -> SlotAllocation
     match allocation {
         Allocation::Instance => SlotAllocation::Local,
         Allocation::Class => SlotAllocation::Shared(cell),
-    }
-}
-
-/// The direct slots of a class.
-pub(crate) fn direct_slots(classes: &[ClassSlots], class: ClassId) -> &[DirectSlot]
-    ensures { result.now ≡ direct_slots classes.now class.0 }
-{
-    match classes.get(class.0 as usize) {
-        Some(said) => said.slots.as_slice(),
-        None => &[],
-    }
-}
-
-/// The default initargs of a class.
-pub(crate) fn defaults(classes: &[ClassSlots], class: ClassId) -> &[DefaultInitarg]
-    ensures { result.now ≡ defaults classes.now class.0 }
-{
-    match classes.get(class.0 as usize) {
-        Some(said) => said.defaults.as_slice(),
-        None => &[],
     }
 }

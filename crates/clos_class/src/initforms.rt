@@ -2,9 +2,10 @@
 ghost use Rattle.std.specs.Prelude.{◌≡◌, ◌∷◌, [], option_copied};
 ghost use Rattle.clos_precedence.specs.PrecedenceView.{numbers};
 ghost use Rattle.clos_class.specs.Slots.{called, first_initform, initform};
-ghost use Rattle.clos_class.specs.SlotsView.{direct_slots};
+ghost use Rattle.clos_class.specs.SlotsView.{slots_in};
 
-use crate::direct::{ClassSlots, DirectSlot, direct_slots};
+use crate::direct::DirectSlot;
+use crate::rows::Rows;
 use clos_forms::Form;
 use lisp_data::{ClassId, Name};
 
@@ -35,12 +36,12 @@ fn first_initform<'a>(slots: &'a [DirectSlot], name: &Name) -> Option<&'a Form>
 
 /// The initform of a slot, for a class with this class precedence list: that of the most specific specifier that has one.
 #[tactic(auto, using(crate::proofs::FirstInitform::this_one, crate::proofs::FirstInitform::a_later_one))]
-pub fn initform<'a>(classes: &'a [ClassSlots], list: &[ClassId], slot: &Name) -> Option<&'a Form>
-    ensures { option_copied result ≡ initform (direct_slots classes.now) (numbers list.now) slot.now }
+pub fn initform<'a>(classes: &Rows<'a>, list: &[ClassId], slot: &Name) -> Option<&'a Form>
+    ensures { option_copied result ≡ initform (slots_in classes.now) (numbers list.now) slot.now }
 {
     let mut left = list;
     while let Some((class, others)) = left.split_first() {
-        if let Some(form) = first_initform(direct_slots(classes, *class), slot) {
+        if let Some(form) = first_initform(classes.slots(*class), slot) {
             return Some(form);
         }
         left = others;

@@ -1,16 +1,17 @@
 //! Layouts: where the slots of an instance are kept (HyperSpec 7.5.3).
-ghost use Rattle.std.specs.Prelude.{◌≡◌, [], IfOk, OnOk, length, option_copied, position, slice_get};
+ghost use Rattle.std.specs.Prelude.{◌≡◌, [], IfOk, OnOk, length, option_copied, option_map, position, slice_get};
 ghost use Rattle.std.specs.Map.{lookup};
 ghost use Rattle.std.specs.HashMap.{get};
 ghost use Rattle.lisp_data.specs.Name.{same_name};
 ghost use Rattle.clos_precedence.specs.PrecedenceView.{numbers};
 ghost use Rattle.clos_class.specs.Slots.{layout_of, names};
-ghost use Rattle.clos_class.specs.SlotsView.{direct_slots};
+ghost use Rattle.clos_class.specs.SlotsView.{slots_in};
 ghost use Rattle.clos_class.specs.Building.{with_slot, with_slots};
 
 use crate::allocation::allocations;
-use crate::direct::{ClassSlots, DirectSlot, SlotAllocation, direct_slots};
+use crate::direct::{DirectSlot, SlotAllocation};
 use crate::names::NameSet;
+use crate::rows::Rows;
 use indexmap::IndexMap;
 use lisp_data::{CellId, ClassId, Name};
 use std::alloc::{AllocError, Global};
@@ -71,6 +72,13 @@ impl Layout {
         self.locals.place_of(name)
     }
 
+    /// The shared slot at this place, with its cell.
+    pub fn shared(&self, place: usize) -> Option<(&Name, &CellId)>
+        ensures { option_map (λ s. (s.0.now, s.1.now)) result ≡ slice_get self.now.shared place }
+    {
+        self.shared.get_index(place)
+    }
+
     /// The cell of the shared slot of this name.
     pub fn cell(&self, name: &Name) -> Option<CellId>
         ensures { result ≡ lookup (same_name name.now) self.now.shared }
@@ -114,18 +122,14 @@ fn add_all(
 
 /// The layout of a class with this class precedence list.
 #[tactic(auto, using(crate::proofs::Built::built, crate::proofs::Built::next_class))]
-pub fn layout_of(
-    alloc: Global,
-    classes: &[ClassSlots],
-    list: &[ClassId],
-) -> Result<Layout, AllocError>
-    ensures { IfOk result (λ r. r ≡ layout_of (direct_slots classes.now) (numbers list.now)) }
+pub fn layout_of(alloc: Global, classes: &Rows<'_>, list: &[ClassId]) -> Result<Layout, AllocError>
+    ensures { IfOk result (λ r. r ≡ layout_of (slots_in classes.now) (numbers list.now)) }
 {
     let allocations = allocations(alloc, classes, list)?;
     let mut layout = Layout::new(alloc);
     let mut left = list;
     while let Some((class, others)) = left.split_last() {
-        add_all(&mut layout, &allocations, direct_slots(classes, *class))?;
+        add_all(&mut layout, &allocations, classes.slots(*class))?;
         left = others;
     }
     Ok(layout)

@@ -1,18 +1,25 @@
-//! The slots that classes have by their class precedence lists (HyperSpec 4.3.4, 7.5.3).
+//! The classes of a session with the slots that they have by their class precedence lists (HyperSpec 4.3.4, 7.5.3).
 #![tactic(auto)]
 
 mod allocation;
+mod cells;
 mod defaults;
+mod definition;
 mod direct;
+mod effective;
 mod initforms;
+mod keep;
 pub mod laws;
 mod layout;
 mod names;
+mod reserve;
+mod rows;
 mod slot_initargs;
+mod table;
 
-pub use defaults::default_initargs;
+pub use clos_class_core::{Changed, ClassFault};
 pub use direct::{ClassSlots, DirectSlot, SlotAllocation};
-pub use initforms::initform;
-pub use layout::{Layout, layout_of};
+pub use layout::Layout;
 pub use names::NameSet;
-pub use slot_initargs::{initargs, is_initarg};
+pub use reserve::{NewCell, Reserved};
+pub use table::Classes;

@@ -1,13 +1,27 @@
-//! Names, each once.
-ghost use Rattle.std.specs.Prelude.{◌≡◌, [], OnOk, length, option_copied, position, slice_get};
+//! Names.
+ghost use Rattle.std.specs.Prelude.{◌≡◌, [], IfOk, OnOk, length, option_copied, position, slice_get};
 ghost use Rattle.std.specs.List.{list_any};
 ghost use Rattle.lisp_data.specs.Name.{same_name};
 ghost use Rattle.clos_class.specs.Building.{with_name, with_names};
 
+use clos_syntax::Sequence;
 use indexmap::IndexSet;
 use lisp_data::Name;
 use std::alloc::{AllocError, Global};
 use std::marker::Model;
+
+/// The same names.
+pub fn copy_names(alloc: Global, names: &[Name]) -> Result<Sequence<Name>, AllocError>
+    ensures { IfOk result (λ r. r ≡ names.now) }
+{
+    let mut copies = Sequence::new(alloc);
+    let mut left = names;
+    while let Some((name, others)) = left.split_first() {
+        copies.push(name.copy()?)?;
+        left = others;
+    }
+    Ok(copies)
+}
 
 /// Names, each once, in the order in which they came. Contracts see the list.
 #[derive(Drop)]

@@ -1,0 +1,168 @@
+//! What a definition of a class needs, and what it makes of the classes, before it takes effect.
+ghost use Rattle.std.specs.Prelude.{◌≡◌, ◌≤◌, ℕ, List, None, IfOk, IfErr, OnOk, length, map};
+ghost use Rattle.lisp_data.specs.declared.ids.CellId.{CellId};
+ghost use Rattle.clos_class_core.specs.Classes.{listing};
+ghost use Rattle.clos_class_core.specs.Outlook.{listing_then};
+ghost use Rattle.clos_precedence.specs.PrecedenceView.{numbers};
+ghost use Rattle.clos_class_core.specs.Table.{changed};
+ghost use Rattle.clos_class_core.specs.TableView.{Refuses};
+ghost use Rattle.clos_class.specs.Keeping.{TellsAll, lists_of};
+ghost use Rattle.clos_class.specs.Slots.{initform};
+ghost use Rattle.clos_class.specs.SlotsView.{slots_in};
+ghost use Rattle.clos_class.specs.Table.{cell_for, cells_to_make, classes_with, list_with, new_cells, number, own_cell, refusal, rows_with, said, with_row};
+
+use crate::cells::Cells;
+use crate::definition::{has_shared_slots, is_unambiguous};
+use crate::direct::ClassSlots;
+use crate::effective::Effective;
+use crate::initforms::initform;
+use crate::keep::keep_then;
+use crate::names::{NameSet, copy_names};
+use crate::rows::Rows;
+use clos_class_core::{ClassFault, Classes, Preview};
+use clos_forms::Form;
+use clos_syntax::{ClassDefinition, Sequence};
+use lisp_data::{CellId, ClassId, Name};
+use std::alloc::{AllocError, Global};
+use std::rc::Rc;
+
+/// A shared slot that needs a cell, and the form of its first value.
+#[derive(Drop)]
+pub struct NewCell {
+    pub slot: Name,
+    pub initform: Option<Form>,
+}
+
+/// The class that would be defined, and the slots that need new cells, in layout order.
+#[derive(Drop)]
+pub struct Reserved {
+    pub class: ClassId,
+    pub cells: Sequence<NewCell>,
+}
+
+/// The fault that a definition meets, or what there would be to say of all classes after it.
+pub fn check(
+    alloc: Global,
+    table: &mut Classes,
+    definition: &ClassDefinition,
+) -> Result<Preview, ClassFault>
+    ensures ok { OnOk result (refusal table.old definition.now ≡ None) }
+    ensures class { IfOk result (λ r. r.class ≡ number table.old definition.now) }
+    ensures lists { IfOk result (λ r. (n : ℕ) → listing_then r n ≡ listing (classes_with table.old definition.now) n) }
+    ensures changed { IfOk result (λ r. r.changed ≡ changed table.old.classes (classes_with table.old definition.now)) }
+    ensures fault { IfErr result (λ e. Refuses e (refusal table.old definition.now)) }
+    ensures same { table.new ≡ table.old }
+{
+    if !is_unambiguous(alloc, definition)? {
+        return Err(ClassFault::ProgramError);
+    }
+    let superclasses = copy_names(alloc, definition.superclasses.as_slice())?;
+    table.check(
+        alloc,
+        &definition.name,
+        superclasses.into_items(),
+        has_shared_slots(definition.slots.as_slice()),
+    )
+}
+
+/// The form of a slot's first value, for a class with this class precedence list.
+fn copy_initform(
+    classes: &Rows<'_>,
+    list: &[ClassId],
+    slot: &Name,
+) -> Result<Option<Form>, AllocError>
+    ensures { IfOk result (λ r. r ≡ initform (slots_in classes.now) (numbers list.now) slot.now) }
+{
+    match initform(classes, list, slot) {
+        None => Ok(None),
+        Some(form) => Ok(Some(form.copy()?)),
+    }
+}
+
+/// Slots with their initforms, for a class with this class precedence list.
+fn with_initforms(
+    alloc: Global,
+    classes: &Rows<'_>,
+    list: &[ClassId],
+    slots: &[Name],
+) -> Result<Sequence<NewCell>, AllocError>
+    ensures { IfOk result (λ r. r ≡ map (λ n. record { slot = n; initform = initform (slots_in classes.now) (numbers list.now) n }) slots.now) }
+{
+    let mut cells = Sequence::new(alloc);
+    let mut left = slots;
+    while let Some((name, others)) = left.split_first() {
+        cells.push(NewCell {
+            slot: name.copy()?,
+            initform: copy_initform(classes, list, name)?,
+        })?;
+        left = others;
+    }
+    Ok(cells)
+}
+
+/// The slots that need new cells where a class is defined, which has this class precedence list then.
+pub fn cells_to_make(
+    alloc: Global,
+    rows: &[ClassSlots],
+    class: ClassId,
+    list: &[ClassId],
+    definition: &ClassDefinition,
+) -> Result<Sequence<NewCell>, AllocError>
+    requires { class.0 ≤ length rows.now }
+    ensures { IfOk result (λ r. r ≡ cells_to_make rows.now class.0 (numbers list.now) definition.now) }
+{
+    let cells = Cells::find(alloc, rows, class, list, definition)?;
+    let said = cells.said(alloc, definition, &[])?;
+    let classes = Rows::with(rows, class, &said);
+    let found = with_initforms(alloc, &classes, list, cells.new.as_slice())?;
+    Ok(found)
+}
+
+/// What a definition says of slots, where the new cells are these.
+fn find_said(
+    alloc: Global,
+    rows: &[ClassSlots],
+    class: ClassId,
+    list: &[ClassId],
+    definition: &ClassDefinition,
+    cells: &[CellId],
+) -> Result<ClassSlots, AllocError>
+    requires { class.0 ≤ length rows.now }
+    ensures { IfOk result (λ r. r ≡ said (cell_for (own_cell rows.now class.0) (new_cells rows.now class.0 (numbers list.now) definition.now) cells.now) definition.now) }
+{
+    let found = Cells::find(alloc, rows, class, list, definition)?;
+    let said = found.said(alloc, definition, cells)?;
+    Ok(said)
+}
+
+/// What stands in the table of classes once one is defined: what it says of slots, and what is kept of all.
+#[derive(Drop)]
+pub struct Prepared {
+    pub said: ClassSlots,
+    pub kept: Vec<Option<Rc<Effective>>>,
+}
+
+/// What stands in the table once a class is defined, or the fault that its definition meets.
+pub fn prepare(
+    alloc: Global,
+    table: &mut Classes,
+    rows: &[ClassSlots],
+    kept: &[Option<Rc<Effective>>],
+    definition: &ClassDefinition,
+    cells: &[CellId],
+) -> Result<Prepared, ClassFault>
+    requires rows { length rows.now ≡ length table.old.classes.names }
+    requires kept { TellsAll rows.now (lists_of table.old.classes) kept.now }
+    ensures ok { OnOk result (refusal table.old definition.now ≡ None) }
+    ensures said { IfOk result (λ r. r.said ≡ said (cell_for (own_cell rows.now (number table.old definition.now)) (new_cells rows.now (number table.old definition.now) (list_with table.old definition.now) definition.now) cells.now) definition.now) }
+    ensures kept { IfOk result (λ r. TellsAll (with_row rows.now (number table.old definition.now) r.said) (lists_of (classes_with table.old definition.now)) r.kept.items) }
+    ensures fault { IfErr result (λ e. Refuses e (refusal table.old definition.now)) }
+    ensures same { table.new ≡ table.old }
+{
+    let preview = check(alloc, table, definition)?;
+    let class = preview.class();
+    let list = preview.precedence_or_none(class);
+    let said = find_said(alloc, rows, class, list, definition, cells)?;
+    let kept = keep_then(alloc, table, rows, kept, &preview, &said)?;
+    Ok(Prepared { said, kept })
+}

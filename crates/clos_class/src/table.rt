@@ -1,0 +1,267 @@
+//! A session's table of classes, with the slots that each has (HyperSpec 4.3, 7.5.3).
+ghost use Rattle.std.specs.Prelude.{◌≡◌, ◌↔◌, ◌<◌, ℕ, true, None, IfOk, IfErr, IfSome, IsNone, IsTrue, OnOk, OnErr, length, option_map, option_copied, slice_get, replicate, vec_len, vec_capacity};
+ghost use Rattle.std.specs.List.{list_any};
+ghost use Rattle.lisp_data.specs.Name.{same_name};
+ghost use Rattle.clos_class_core.specs.Classes.{named, listing, list_in};
+ghost use Rattle.clos_class_core.specs.Initial.{is_standard, class_of_class};
+ghost use Rattle.clos_precedence.specs.Precedence.{has};
+ghost use Rattle.clos_precedence.specs.PrecedenceView.{numbers};
+ghost use Rattle.clos_class_core.specs.Table.{changed, list_if, or_standard};
+ghost use Rattle.clos_class_core.specs.TableView.{Refuses, IsListOf};
+ghost use Rattle.clos_class_core.specs.Ways.{IsSuperclass, IsSelfOrAbove, IsComplete, IsIncomplete};
+ghost use Rattle.clos_class.specs.Slots.{default_initargs, initargs, initform, layout_of};
+ghost use Rattle.clos_class.specs.SlotsView.{defaults, direct_slots, says_nothing};
+ghost use Rattle.clos_class.specs.Table.{cells_to_make, classes_with, initial, is_unambiguous, list_with, number, refusal, with_definition, with_row};
+
+use crate::definition::has_shared_slots;
+use crate::direct::ClassSlots;
+use crate::effective::Effective;
+use crate::initforms::initform;
+use crate::keep::{keep_first, kept_at};
+use crate::layout::Layout;
+use crate::names::copy_names;
+use crate::reserve::{Reserved, cells_to_make, check, prepare};
+use crate::rows::Rows;
+use clos_class_core::{Changed, ClassFault};
+use clos_forms::Form;
+use clos_syntax::{ClassDefinition, DefaultInitarg};
+use lisp_data::{CellId, ClassId, Name};
+use std::alloc::{AllocError, Global};
+use std::marker::Model;
+use std::rc::Rc;
+
+/// Classes by their numbers, in the order of first definition, the predefined ones first. What each has by its class
+/// precedence list is kept.
+#[derive(Drop)]
+pub struct Classes {
+    table: clos_class_core::Classes,
+    rows: Vec<ClassSlots>,
+    kept: Vec<Option<Rc<Effective>>>,
+}
+
+impl Model for Classes {
+    ghost use Rattle.std.specs.Prelude.{◌≡◌, length};
+    ghost use Rattle.clos_class.specs.Keeping.{TellsAll, lists_of};
+    ghost use Rattle.std.specs.Coded.{codes};
+    ghost use Rattle.clos_class.specs.Table.{Table};
+    ghost use Rattle.clos_class.specs.contracts.direct.ClassSlots as class_slots;
+
+    ghost Value = { Table };
+
+    ghost coded = { Prim.hlevel (codes, class_slots.the_row.coded) };
+
+    ghost view = { λ a. record { table = a.table; slots = a.rows.items } };
+
+    ghost invariant = { λ a. (length a.rows.items ≡ length a.table.classes.names) × TellsAll a.rows.items (lists_of a.table.classes) a.kept.items };
+}
+
+/// Nothing, of each class.
+fn no_rows(alloc: Global, table: &clos_class_core::Classes) -> Result<Vec<ClassSlots>, AllocError>
+    ensures { IfOk result (λ r. r.items ≡ replicate (length table.now.classes.names) says_nothing) }
+{
+    let mut rows = Vec::new(alloc);
+    while table.name(ClassId(rows.len() as u64)).is_some() {
+        rows.push(ClassSlots::new(alloc))?;
+    }
+    Ok(rows)
+}
+
+/// Puts what a class says in its place, or at the end.
+fn put(rows: &mut Vec<ClassSlots>, class: ClassId, said: ClassSlots)
+    requires { vec_len rows.old < vec_capacity rows.old }
+    ensures { rows.new.items ≡ with_row rows.old.items class.0 said }
+{
+    if class.0 < rows.len() as u64 {
+        rows[class.0 as usize] = said;
+        return;
+    }
+    let Ok(()) = rows.push(said) else {
+        unreachable!()
+    };
+}
+
+fn define_name(
+    alloc: Global,
+    table: &mut clos_class_core::Classes,
+    definition: &ClassDefinition,
+) -> Result<Changed, ClassFault>
+    ensures ok { OnOk result (table.new ≡ record table.old { classes = classes_with table.old definition.now }) }
+    ensures class { IfOk result (λ r. r.class.0 ≡ number table.old definition.now) }
+    ensures changed { IfOk result (λ r. numbers r.lists.items ≡ changed table.old.classes table.new.classes) }
+    ensures err { OnErr result (table.new ≡ table.old) }
+    ensures fault { IfErr result (λ e. is_unambiguous definition.now ≡ true → Refuses e (refusal table.old definition.now)) }
+{
+    let superclasses = copy_names(alloc, definition.superclasses.as_slice())?;
+    table.define(
+        alloc,
+        &definition.name,
+        superclasses.into_items(),
+        has_shared_slots(definition.slots.as_slice()),
+    )
+}
+
+impl Classes {
+    /// The predefined classes (HyperSpec 4.3.7), none of which has slots, and room for so many more.
+    pub fn new(alloc: Global, limit: u64) -> Result<Classes, AllocError>
+        ensures { IfOk result (λ r. r ≡ initial limit) }
+    {
+        let table = clos_class_core::Classes::new(alloc, limit)?;
+        let rows = no_rows(alloc, &table)?;
+        let kept = keep_first(alloc, &table, &rows)?;
+        Ok(Classes { table, rows, kept })
+    }
+
+    /// The fault that `define` would answer, or else the class that it would define, and the slots that need new cells.
+    /// The table stays as it was.
+    pub fn reserve(
+        &mut self,
+        alloc: Global,
+        definition: &ClassDefinition,
+    ) -> Result<Reserved, ClassFault>
+        ensures ok { OnOk result (refusal self.old.table definition.now ≡ None) }
+        ensures class { IfOk result (λ r. r.class.0 ≡ number self.old.table definition.now) }
+        ensures cells { IfOk result (λ r. r.cells ≡ cells_to_make self.old.slots (number self.old.table definition.now) (list_with self.old.table definition.now) definition.now) }
+        ensures fault { IfErr result (λ e. Refuses e (refusal self.old.table definition.now)) }
+        ensures same { self.new ≡ self.old }
+    {
+        let preview = check(alloc, &mut self.table, definition)?;
+        let class = preview.class();
+        let list = preview.precedence_or_none(class);
+        let cells = cells_to_make(alloc, &self.rows, class, list, definition)?;
+        Ok(Reserved { class, cells })
+    }
+
+    /// Defines a class, or defines it again. These are the cells of the slots that need new ones, in the order that
+    /// `reserve` tells.
+    pub fn define(
+        &mut self,
+        alloc: Global,
+        definition: &ClassDefinition,
+        cells: &[CellId],
+    ) -> Result<Changed, ClassFault>
+        ensures ok { OnOk result ((refusal self.old.table definition.now ≡ None) × (self.new ≡ with_definition self.old definition.now cells.now)) }
+        ensures class { IfOk result (λ r. r.class.0 ≡ number self.old.table definition.now) }
+        ensures changed { IfOk result (λ r. numbers r.lists.items ≡ changed self.old.table.classes self.new.table.classes) }
+        ensures err { OnErr result (self.new ≡ self.old) }
+        ensures fault { IfErr result (λ e. Refuses e (refusal self.old.table definition.now)) }
+    {
+        let prepared = prepare(
+            alloc,
+            &mut self.table,
+            &self.rows,
+            &self.kept,
+            definition,
+            cells,
+        )?;
+        self.rows.reserve(1)?;
+        let changed = define_name(alloc, &mut self.table, definition)?;
+        put(&mut self.rows, changed.class, prepared.said);
+        self.kept = prepared.kept;
+        Ok(changed)
+    }
+
+    /// The class of this name.
+    pub fn named(&self, name: &Name) -> Option<ClassId>
+        ensures { option_map (λ c. c.0) result ≡ named self.now.table.classes name.now }
+    {
+        self.table.named(name)
+    }
+
+    /// The name of a class.
+    pub fn name(&self, class: ClassId) -> Option<&Name>
+        ensures { option_copied result ≡ slice_get self.now.table.classes.names class.0 }
+    {
+        self.table.name(class)
+    }
+
+    /// The class precedence list of a class (HyperSpec 4.3.5), if all its superclasses are defined.
+    pub fn precedence(&self, class: ClassId) -> Option<&[ClassId]>
+        ensures found { option_map (λ l. numbers l.now) result ≡ list_if (listing self.now.table.classes class.0) }
+        ensures law { IfSome result (λ l. IsListOf self.now.table.classes class.0 (numbers l.now)) }
+        ensures members { IfSome result (λ l. (m : ℕ) → (has (numbers l.now) m ≡ true) ↔ IsSelfOrAbove self.now.table.classes class.0 m) }
+        ensures none { IsNone result ↔ IsIncomplete self.now.table.classes class.0 }
+        ensures no_circle { IsSuperclass self.now.table.classes class.0 class.0 → ⊥ }
+    {
+        self.table.precedence(class)
+    }
+
+    /// The class precedence list of a class, or no classes where there is none.
+    pub fn precedence_or_none(&self, class: ClassId) -> &[ClassId]
+        ensures { numbers result.now ≡ list_in (listing self.now.table.classes class.0) }
+    {
+        self.table.precedence_or_none(class)
+    }
+
+    /// Whether a class that has a class precedence list is this other one, or below it.
+    pub fn is_sub(&self, class: ClassId, above: ClassId) -> bool
+        ensures found { result ≡ has (list_in (listing self.now.table.classes class.0)) above.0 }
+        ensures law { IsTrue result ↔ (IsComplete self.now.table.classes class.0 × IsSelfOrAbove self.now.table.classes class.0 above.0) }
+    {
+        self.table.is_sub(class, above)
+    }
+
+    /// Whether `defclass` makes classes like this one, of which programs may make instances, or it is STANDARD-OBJECT.
+    pub fn is_standard(&self, class: ClassId) -> bool
+        ensures { result ≡ is_standard self.now.table class.0 }
+    {
+        self.table.is_standard(class)
+    }
+
+    /// The class of classes that are like this one (HyperSpec 4.3.7).
+    pub fn class_of_class(&self, class: ClassId) -> ClassId
+        ensures { result.0 ≡ class_of_class self.now.table class.0 }
+    {
+        self.table.class_of_class(class)
+    }
+
+    /// The layout of a class's instances, if it has a class precedence list.
+    pub fn layout(&self, class: ClassId) -> Option<&Rc<Layout>>
+        ensures { option_map (λ l. l.now.value) result ≡ option_map (layout_of (direct_slots self.now.slots)) (list_if (listing self.now.table.classes class.0)) }
+    {
+        match kept_at(&self.kept, class.0 as usize) {
+            None => None,
+            Some(kept) => Some(&kept.layout),
+        }
+    }
+
+    /// The initargs of a slot of a class.
+    pub fn initargs(&self, class: ClassId, slot: &Name) -> &[Name]
+        ensures { result.now ≡ initargs (direct_slots self.now.slots) (list_in (listing self.now.table.classes class.0)) slot.now }
+    {
+        match kept_at(&self.kept, class.0 as usize) {
+            None => &[],
+            Some(kept) => kept.initargs_of(slot),
+        }
+    }
+
+    /// Whether a slot of a class has this initarg.
+    pub fn is_initarg(&self, class: ClassId, slot: &Name, initarg: &Name) -> bool
+        ensures { result ≡ list_any (same_name initarg.now) (initargs (direct_slots self.now.slots) (list_in (listing self.now.table.classes class.0)) slot.now) }
+    {
+        match kept_at(&self.kept, class.0 as usize) {
+            None => false,
+            Some(kept) => kept.is_initarg(slot, initarg),
+        }
+    }
+
+    /// The initform of a slot of a class.
+    pub fn initform(&self, class: ClassId, slot: &Name) -> Option<&Form>
+        ensures { option_copied result ≡ initform (direct_slots self.now.slots) (list_in (listing self.now.table.classes class.0)) slot.now }
+    {
+        initform(
+            &Rows::kept(&self.rows),
+            self.table.precedence_or_none(class),
+            slot,
+        )
+    }
+
+    /// The default initargs of a class.
+    pub fn defaults(&self, class: ClassId) -> &[DefaultInitarg]
+        ensures { result.now ≡ default_initargs (defaults self.now.slots) (list_in (listing self.now.table.classes class.0)) }
+    {
+        match kept_at(&self.kept, class.0 as usize) {
+            None => &[],
+            Some(kept) => kept.defaults.as_slice(),
+        }
+    }
+}

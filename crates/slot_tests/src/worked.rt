@@ -1,0 +1,366 @@
+//! Worked examples, each line a `defclass` or a question, and what it comes to.
+use clos_class::{ClassFault, Classes, Layout, Reserved};
+use clos_forms::{Form, Operator};
+use clos_syntax::{ClassDefinition, Top, parse_top};
+use lisp_data::{CellId, ClassId, Name, Value};
+use lisp_reader::read_form;
+use std::alloc::{AllocError, Global};
+use std::process::Abort;
+use std::test::Fail;
+
+/// What is inherited, and by which class.
+const INHERITED: &str = "(defclass a () ((x :initarg :x :initform 1) y)) => A
+(defclass b () ((y :initarg :b :initform 2) (x :initarg :b-x))) => B
+(defclass c (a b) ((z :initform 3))) => C
+? A => X=1[:X] Y
+? B => Y=2[:B] X[:B-X]
+? C => Y=2[:B] X=1[:X :B-X] Z=3
+(defclass d (c) ((x :initarg :d :initarg :x))) => D
+? D => Y=2[:B] X=1[:D :X :B-X] Z=3
+? E => undefined
+(defclass f (g) (y)) =>
+? F => no layout
+(defclass g () ((y :initform 4))) => F G
+? F => Y=4
+? STANDARD-OBJECT =>
+? INTEGER =>
+";
+
+/// Which cells are made, kept and given up.
+const SHARED: &str =
+    "(defclass a () ((n :allocation :class :initform 1) x (m :allocation :class))) => N=1 M: A
+? A => X N@0=1 M@1
+(defclass b (a) (y)) => B
+? B => X Y N@0=1 M@1
+(defclass c (a) ((m :allocation :class) (n :initform 5))) => M: C
+? C => N=5 X M@2
+(defclass a () ((m :allocation :class :initform 6) (n :allocation :class :initform 7) k)) =>
+? A => K M@1=6 N@0=7
+? B => K Y M@1=6 N@0=7
+? C => N=5 K M@2=6
+(defclass a () (n (m :allocation :class))) =>
+? A => N M@1
+? B => N Y M@1
+(defclass a () ((n :allocation :class) (m :allocation :class))) => N:
+? A => N@3 M@1
+(defclass a () (x)) =>
+? A => X
+? C => X N=5 M@2
+(defclass a () ((m :allocation :class))) => M:
+? A => M@4
+? B => Y M@4
+";
+
+/// New cells are in layout order, and take inherited initforms.
+const NEW_CELLS: &str = "(defclass a () (p q (r :initform 1))) => A
+(defclass b () ((q :initform 2))) => B
+(defclass c (a b) ((s :allocation :class) (r :allocation :class) (p :allocation :class) (q :allocation :class :initform 3))) => Q=3 P R=1 S: C
+? C => Q@0=3 P@1 R@2=1 S@3
+(defclass c (a b) ((q :allocation :class) (t1 :allocation :class) (r :allocation :class))) => T1:
+? C => P Q@0=2 R@2=1 T1@4
+(defclass d (e) ((x :allocation :class))) => incomplete
+(defclass e () ()) => E
+(defclass d (e) ((x :allocation :class))) => X: D
+? D => X@5
+";
+
+const DEFAULTS: &str = "(defclass a () () (:default-initargs :x 1 :y 2)) => A
+(defclass b () () (:default-initargs :z 3 :x 4)) => B
+(defclass c (a b) () (:default-initargs :y 5)) => C
+? C => :Y 5 :X 1 :Z 3
+(defclass a () ()) =>
+? C => :Y 5 :Z 3 :X 4
+? A =>
+";
+
+/// A refused definition changes nothing.
+const REFUSED: &str = "(defclass a () ((x :allocation :class))) => X: A
+(defclass b (a) (y)) => B
+(defclass a (b) (z)) => cycle
+(defclass a (c) (z)) => incomplete
+(defclass b (integer) (z)) => invalid: INTEGER
+(defclass c (d) ((w :allocation :class))) => incomplete
+(defclass c (standard-object a) (w)) => inconsistent: C
+? A => X@0
+? B => Y X@0
+? C => undefined
+(defclass c () (w)) => C
+(defclass d () ()) => table limit
+? C => W
+";
+
+/// The definition that a text reads as.
+fn definition(alloc: Global, text: &str) -> Result<Option<ClassDefinition>, AllocError> {
+    let Ok(Some((datum, _))) = read_form(alloc, text.as_bytes(), 0) else {
+        return Ok(None);
+    };
+    match parse_top(alloc, &datum) {
+        Ok(Top::DefClass(definition)) => Ok(Some(definition)),
+        _ => Ok(None),
+    }
+}
+
+fn write_name(line: &mut String, name: &Name) -> Result<(), AllocError> {
+    if name.is_keyword() {
+        line.push(':')?;
+    }
+    line.push_str(name.as_str())
+}
+
+/// A constant form, after this.
+fn write_form(
+    alloc: Global,
+    line: &mut String,
+    before: &str,
+    form: Option<&Form>,
+) -> Result<(), AllocError> {
+    let Some(form) = form else {
+        return Ok(());
+    };
+    line.push_str(before)?;
+    match form.operator() {
+        Operator::Constant(Value::Int(number)) => {
+            line.push_str(format!(in alloc; "{number}")?.as_str())
+        }
+        _ => line.push('?'),
+    }
+}
+
+fn write_names(line: &mut String, classes: &Classes, list: &[ClassId]) -> Result<(), AllocError> {
+    for class in list {
+        line.push(' ')?;
+        if let Some(name) = classes.name(*class) {
+            line.push_str(name.as_str())?;
+        }
+    }
+    Ok(())
+}
+
+/// A slot of a class after its name: its initform and its initargs.
+fn write_slot(
+    alloc: Global,
+    line: &mut String,
+    classes: &Classes,
+    class: ClassId,
+    slot: &Name,
+) -> Result<(), AllocError> {
+    write_form(alloc, line, "=", classes.initform(class, slot))?;
+    let mut before = '[';
+    for initarg in classes.initargs(class, slot) {
+        line.push(before)?;
+        write_name(line, initarg)?;
+        if !classes.is_initarg(class, slot, initarg) || classes.is_initarg(class, initarg, slot) {
+            line.push('!')?;
+        }
+        before = ' ';
+    }
+    if before == ' ' {
+        line.push(']')?;
+    }
+    Ok(())
+}
+
+/// The slots of a layout in order, the shared ones with their cells.
+fn write_layout(
+    alloc: Global,
+    line: &mut String,
+    classes: &Classes,
+    class: ClassId,
+    layout: &Layout,
+) -> Result<(), AllocError> {
+    for slot in layout.locals().as_slice() {
+        line.push(' ')?;
+        write_name(line, slot)?;
+        write_slot(alloc, line, classes, class, slot)?;
+    }
+    let mut place = 0;
+    while let Some((slot, cell)) = layout.shared(place) {
+        line.push(' ')?;
+        write_name(line, slot)?;
+        line.push_str(format!(in alloc; "@{}", cell.0)?.as_str())?;
+        write_slot(alloc, line, classes, class, slot)?;
+        place += 1;
+    }
+    Ok(())
+}
+
+/// What the class of this name has.
+fn write_class(
+    alloc: Global,
+    line: &mut String,
+    classes: &Classes,
+    name: &Name,
+) -> Result<(), AllocError> {
+    let Some(class) = classes.named(name) else {
+        return line.push_str(" undefined");
+    };
+    match classes.layout(class) {
+        None => line.push_str(" no layout")?,
+        Some(layout) => write_layout(alloc, line, classes, class, layout)?,
+    }
+    for default in classes.defaults(class) {
+        line.push(' ')?;
+        write_name(line, &default.name)?;
+        write_form(alloc, line, " ", Some(&default.form))?;
+    }
+    Ok(())
+}
+
+fn write_fault(line: &mut String, fault: &ClassFault) -> Result<(), AllocError> {
+    match fault {
+        ClassFault::InvalidSuperclass(name) => {
+            line.push_str(" invalid: ")?;
+            line.push_str(name.as_str())
+        }
+        ClassFault::InconsistentPrecedence(name) => {
+            line.push_str(" inconsistent: ")?;
+            line.push_str(name.as_str())
+        }
+        ClassFault::ProgramError => line.push_str(" program error"),
+        ClassFault::TableLimit => line.push_str(" table limit"),
+        ClassFault::SuperclassCycle => line.push_str(" cycle"),
+        ClassFault::IncompleteClass => line.push_str(" incomplete"),
+        ClassFault::Memory => line.push_str(" out of memory"),
+    }
+}
+
+/// The slots that need new cells, with their initforms, and a number for each cell.
+fn write_cells(
+    alloc: Global,
+    line: &mut String,
+    reserved: &Reserved,
+    cells: &mut Vec<CellId>,
+    made: &mut u64,
+) -> Result<(), AllocError> {
+    for cell in reserved.cells.as_slice() {
+        line.push(' ')?;
+        write_name(line, &cell.slot)?;
+        write_form(alloc, line, "=", cell.initform.as_ref())?;
+        cells.push(CellId(*made))?;
+        *made = made.saturating_add(1);
+    }
+    if cells.len() > 0 {
+        line.push(':')?;
+    }
+    Ok(())
+}
+
+/// Defines a class, with new cells where it needs some. Tells these, and the classes whose class precedence lists changed.
+fn define(
+    alloc: Global,
+    line: &mut String,
+    classes: &mut Classes,
+    definition: &ClassDefinition,
+    made: &mut u64,
+) -> Result<(), AllocError> {
+    let mut cells = Vec::new(alloc);
+    let reserved = classes.reserve(alloc, definition);
+    if let Ok(reserved) = &reserved {
+        write_cells(alloc, line, reserved, &mut cells, made)?;
+    }
+    match (reserved, classes.define(alloc, definition, &cells)) {
+        (Ok(reserved), Ok(changed)) => {
+            if reserved.class != changed.class {
+                line.push_str(" another class")?;
+            }
+            write_names(line, classes, changed.lists.as_slice())
+        }
+        (Err(told), Err(fault)) => {
+            let mut other = String::new(alloc);
+            write_fault(&mut other, &told)?;
+            write_fault(line, &fault)?;
+            if line.as_str() != other.as_str() {
+                line.push_str(", and reserved otherwise")?;
+            }
+            Ok(())
+        }
+        _ => line.push_str(" reserved otherwise"),
+    }
+}
+
+/// What a line comes to: a definition's answer, or after `?` what a class has.
+fn outcome(
+    alloc: Global,
+    classes: &mut Classes,
+    form: &'static str,
+    made: &mut u64,
+) -> Result<String, AllocError> {
+    let mut line = String::new(alloc);
+    if let Some(name) = form.strip_prefix("? ") {
+        write_class(alloc, &mut line, classes, &Name::fixed(name))?;
+        return Ok(line);
+    }
+    match definition(alloc, form)? {
+        None => line.push_str(" no definition")?,
+        Some(definition) => define(alloc, &mut line, classes, &definition, made)?,
+    }
+    Ok(line)
+}
+
+/// The lines again, each with what stands behind its arrow as it is in a new table with room for so many classes.
+fn transcript(alloc: Global, limit: u64, script: &'static str) -> Result<String, AllocError> {
+    let mut classes = Classes::new(alloc, limit)?;
+    let mut made = 0;
+    let mut lines = String::new(alloc);
+    for line in script.lines() {
+        let (form, _) = line.split_once(" =>").unwrap_or((line, ""));
+        lines.push_str(form)?;
+        lines.push_str(" =>")?;
+        lines.push_str(outcome(alloc, &mut classes, form, &mut made)?.as_str())?;
+        lines.push('\n')?;
+    }
+    Ok(lines)
+}
+
+const SCRIPTS: &[(u64, &str)] = &[
+    (8, INHERITED),
+    (8, SHARED),
+    (8, NEW_CELLS),
+    (8, DEFAULTS),
+    (3, REFUSED),
+];
+
+#[test]
+fn classes_have_slots(rt: HostRuntime) -> Result<(), Fail> {
+    for (limit, script) in SCRIPTS {
+        let lines = transcript(rt.alloc(), *limit, script)?;
+        assert_eq!(rt; lines.as_str(), *script);
+    }
+    Ok(())
+}
+
+/// The answer of a table to this definition, to which the slots and default initargs of another were added.
+fn answer(alloc: Global, text: &str, more: &str) -> Result<String, AllocError> {
+    let mut line = String::new(alloc);
+    let (Some(mut first), Some(second)) = (definition(alloc, text)?, definition(alloc, more)?)
+    else {
+        return Ok(line);
+    };
+    let ClassDefinition {
+        slots,
+        defaults,
+        ..
+    } = second;
+    first.slots.append(slots)?;
+    first.defaults.append(defaults)?;
+    let mut classes = Classes::new(alloc, 8)?;
+    define(alloc, &mut line, &mut classes, &first, &mut 0)?;
+    Ok(line)
+}
+
+#[test]
+fn no_slot_stands_twice(rt: HostRuntime) -> Result<(), Fail> {
+    let one = "(defclass a () (x) (:default-initargs :x 1))";
+    let wrong = " program error";
+    assert_eq!(rt;
+        answer(rt.alloc(), one, "(defclass b () (y))")?.as_str(),
+        " A"
+    );
+    assert_eq!(rt;
+        answer(rt.alloc(), one, "(defclass b () (x))")?.as_str(),
+        wrong
+    );
+    let default = "(defclass b () () (:default-initargs :x 2))";
+    assert_eq!(rt; answer(rt.alloc(), one, default)?.as_str(), wrong);
+    Ok(())
+}
