@@ -26,9 +26,15 @@ pub enum Spelling {
 
 /// The name of a symbol: its characters, in upper case, and whether it is a keyword (HyperSpec 11.1.2.3). It keeps a
 /// hash of its characters, so that different names mostly compare without them.
-#[derive(Drop)]
 pub struct Name {
     spelling: Spelling,
+}
+
+// Dropping a name is a call, so that what drops one does not ask where its characters lie.
+impl Drop for Name {
+    fn drop(self) {
+        let Name { spelling: _ } = self;
+    }
 }
 
 impl Model for Name {
