@@ -11,6 +11,8 @@ use std::test::Fail;
 enum Shape {
     /// The class before it.
     Chain,
+    /// The three classes before it.
+    Ladder,
     /// The first class.
     Fan,
     /// The four of the level above it.
@@ -23,6 +25,7 @@ impl Shape {
     fn above(self, place: u64) -> Range<u64> {
         match self {
             Shape::Chain => place.saturating_sub(1)..place,
+            Shape::Ladder => place.saturating_sub(3)..place,
             Shape::Fan => 0..place.min(1),
             Shape::Lattice => (place & !3).saturating_sub(4)..place & !3,
             Shape::Full => 0..place,
@@ -81,6 +84,12 @@ fn figures(alloc: Global, shape: Shape, count: u64) -> Result<(usize, usize), Cl
 #[test]
 fn a_long_chain(rt: HostRuntime) -> Result<(), Fail> {
     assert_eq!(rt; figures(rt.alloc(), Shape::Chain, 2_000)?, (2_000, 2_003));
+    Ok(())
+}
+
+#[test]
+fn a_long_ladder(rt: HostRuntime) -> Result<(), Fail> {
+    assert_eq!(rt; figures(rt.alloc(), Shape::Ladder, 1_200)?, (1_200, 1_203));
     Ok(())
 }
 

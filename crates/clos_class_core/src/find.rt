@@ -6,6 +6,7 @@ ghost use Rattle.clos_precedence.specs.Precedence.{has, precedence_list};
 ghost use Rattle.clos_class_core.specs.Kept.{Keeps, IsAbove, IsSingle};
 ghost use Rattle.clos_class_core.specs.Table.{list_if};
 ghost use Rattle.clos_precedence.specs.PrecedenceView.{numbers};
+ghost use Rattle.clos_precedence.specs.OrderView.{with_all_seen};
 ghost use Rattle.clos_class_core.specs.KeptView.{listing_of, listing_at, above_by};
 
 use crate::definitions::Definitions;
@@ -79,6 +80,18 @@ pub fn listed(kept: &[Kept], class: ClassId) -> Option<&[ClassId]>
     }
 }
 
+/// Adds those of these classes that are not there yet.
+fn add_all(family: &mut Seen, classes: &[ClassId]) -> Result<(), AllocError>
+    ensures { OnOk result (family.new ≡ with_all_seen family.old (numbers classes.now)) }
+{
+    let mut left = classes;
+    while let Some((class, others)) = left.split_first() {
+        family.add_new(*class)?;
+        left = others;
+    }
+    Ok(())
+}
+
 /// A class and all in the lists of its direct superclasses, each once.
 #[tactic(auto, using(clos_precedence::proofs::Lists::reversed, clos_precedence::proofs::Meeting::seen_all, clos_precedence::proofs::Lists::has_both, clos_precedence::proofs::Lists::both_or))]
 fn family(
@@ -93,7 +106,7 @@ fn family(
     family.add(class)?;
     let mut left = superclasses;
     while let Some((superclass, others)) = left.split_first() {
-        family.add_all(list_of(kept, *superclass))?;
+        add_all(&mut family, list_of(kept, *superclass))?;
         left = others;
     }
     Ok(family.into_list())

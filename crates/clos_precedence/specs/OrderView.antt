@@ -17,7 +17,7 @@ Marks marks classes = (x : ℕ) → is_marked marks x ≡ has classes x
 abbrev pub with_seen : List ℕ → ℕ → List ℕ
 with_seen seen x = if has seen x then seen else x ∷ seen
 
--- .. after all these were met
+-- the same after all these were met, one after another
 abbrev pub with_all_seen : List ℕ → List ℕ → List ℕ
 with_all_seen seen [] = seen
 with_all_seen seen (x ∷ xs) = with_all_seen (with_seen seen x) xs

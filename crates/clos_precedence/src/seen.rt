@@ -2,7 +2,7 @@
 ghost use Rattle.std.specs.Prelude.{◌≡◌, ◌<◌, ◌==◌, ◌∷◌, ◌||◌, ℕ, [], OnErr, OnOk, length, reverse, option_map, slice_index};
 ghost use Rattle.clos_precedence.specs.Precedence.{has, are_done, first_left};
 ghost use Rattle.clos_precedence.specs.PrecedenceView.{numbers, latest_first};
-ghost use Rattle.clos_precedence.specs.OrderView.{is_marked, with_seen, with_all_seen};
+ghost use Rattle.clos_precedence.specs.OrderView.{is_marked, with_seen};
 
 use lisp_data::ClassId;
 use std::alloc::{AllocError, Global};
@@ -64,7 +64,8 @@ impl Seen {
 
     /// Adds a class, which comes last.
     pub fn add(&mut self, class: ClassId) -> Result<(), AllocError>
-        ensures { OnOk result (self.new ≡ class.0 ∷ self.old) }
+        ensures ok { OnOk result (self.new ≡ class.0 ∷ self.old) }
+        ensures err { OnErr result (self.new ≡ self.old) }
     {
         self.classes.reserve(1)?;
         mark(&mut self.marks, class)?;
@@ -74,24 +75,13 @@ impl Seen {
 
     /// Adds a class, unless it is among them.
     pub fn add_new(&mut self, class: ClassId) -> Result<(), AllocError>
-        ensures { OnOk result (self.new ≡ with_seen self.old class.0) }
+        ensures ok { OnOk result (self.new ≡ with_seen self.old class.0) }
+        ensures err { OnErr result (self.new ≡ self.old) }
     {
         if self.has(class) {
             return Ok(());
         }
         self.add(class)
-    }
-
-    /// Adds those of these classes that are not among them yet.
-    pub fn add_all(&mut self, classes: &[ClassId]) -> Result<(), AllocError>
-        ensures { OnOk result (self.new ≡ with_all_seen self.old (numbers classes.now)) }
-    {
-        let mut left = classes;
-        while let Some((class, others)) = left.split_first() {
-            self.add_new(*class)?;
-            left = others;
-        }
-        Ok(())
     }
 
     /// How many they are.
@@ -110,7 +100,7 @@ impl Seen {
     }
 
     /// The classes, the latest last.
-    pub fn as_slice(&self) -> &[ClassId]
+    pub(crate) fn as_slice(&self) -> &[ClassId]
         ensures { latest_first result.now ≡ self.now }
     {
         self.classes.as_slice()
@@ -124,7 +114,7 @@ impl Seen {
     }
 
     /// Whether all of these are among them.
-    pub fn has_all(&self, classes: &[ClassId]) -> bool
+    pub(crate) fn has_all(&self, classes: &[ClassId]) -> bool
         ensures { result ≡ are_done self.now (numbers classes.now) }
     {
         let mut left = classes;
@@ -138,7 +128,7 @@ impl Seen {
     }
 
     /// The first of these that is not among them.
-    pub fn first_left(&self, superclasses: &[ClassId]) -> Option<ClassId>
+    pub(crate) fn first_left(&self, superclasses: &[ClassId]) -> Option<ClassId>
         ensures { option_map (λ c. c.0) result ≡ first_left self.now (numbers superclasses.now) }
     {
         let mut left = superclasses;

@@ -4,3 +4,4 @@ pub mod StepQuiet
 pub mod Runs
 pub mod Evaluations
 pub mod Serving
+pub mod Refusing

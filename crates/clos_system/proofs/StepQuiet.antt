@@ -44,7 +44,7 @@ class_quiet : (name : Nam) (above : List Nam) (o : Option Refusal) (w : State) �
 class_quiet name above None w = (refl, refl)
 class_quiet name above (Some r) w = (refl, refl)
 
-define_class_quiet : (name : Nam) (supers : List Nam) (o : Option ℕ) (w : State) → leaves (define_class name supers o w 0) w 0
+pub define_class_quiet : (name : Nam) (supers : List Nam) (o : Option ℕ) (w : State) → leaves (define_class name supers o w 0) w 0
 define_class_quiet name supers None w = class_quiet name (or_standard supers) (refusal w.classes name (or_standard supers) false) w
 define_class_quiet name supers (Some n) w = (refl, refl)
 

@@ -13,6 +13,7 @@ use clos_world::{Condition, ConditionKind, Stop, World, about_name, about_names,
 use lisp_data::{Name, Value};
 use std::alloc::Global;
 
+#[tactic(auto, using(crate::proofs::Refusing::class_refused))]
 /// Defines a class of a new name, with these direct superclasses, of which some may not be defined yet.
 pub fn defclass(
     alloc: Global,

@@ -6,7 +6,7 @@ use Rattle.clos_precedence.proofs.order.order.Goals as goal
 
 pub loop-turns-preserved : goal.loop-turns-preserved
 loop-turns-preserved g c =
-    ap (λ ds. option_map (λ xs. reverse ds ++ xs) (in_turn (c.loop-turns.turns - 1) (g.S.Superclasses.above c.args.superclasses.now) (numbers c.args.family.now) ds)) c.in_ok-add-in-Some.ensures
+    ap (λ ds. option_map (λ xs. reverse ds ++ xs) (in_turn (c.loop-turns.turns - 1) (g.S.Superclasses.above c.args.superclasses.now) (numbers c.args.family.now) ds)) c.in_ok-add-in-Some.ensures.ok
     ∙ one_turn (g.S.Superclasses.above c.args.superclasses.now) (numbers c.args.family.now) c.loop-turns.done c.in-Some.next.0 c.loop-turns.turns (c.loop-turns.turns - 1)
     (omega (arith, c.loop-turns-test.true))
     (sym (c.in-Some.ensures (numbers c.args.family.now) c.in_ok-before.ensures))
