@@ -362,14 +362,14 @@ pub fn repeat(
         → Leads (inside machine.old run) (seen world.now) result machine.new }
     ensures small { Grows 8 machine.old.levels result machine.new }
 {
-    match value {
+    match &value {
         Value::Int(count) => {
             if world.globals.has(&repetition.name) {
                 return Err(Stop::Refused(plain(alloc, ConditionKind::Unsupported)));
             }
-            Ok(Doing::Turn(repetition, Counter::new(count)))
+            Ok(Doing::Turn(repetition, Counter::new(*count)))
         }
-        other => Err(Stop::Refused(about(alloc, ConditionKind::TypeError, other)?)),
+        _ => Err(Stop::Refused(about(alloc, ConditionKind::TypeError, value)?)),
     }
 }
 

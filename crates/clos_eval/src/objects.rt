@@ -21,24 +21,13 @@ use std::alloc::Global;
 fn designate(alloc: Global, world: &World, value: Value) -> Result<ClassId, Stop>
     ensures { Designates (designated (seen world.now).classes (value_of value)) result }
 {
-    match value {
-        Value::Sym(name) => found(alloc, world, &name),
-        Value::List(items) => designate_list(alloc, world, items),
-        Value::Class(id) => instantiate(alloc, world, id),
-        other => Err(Stop::Refused(about(alloc, ConditionKind::TypeError, other)?)),
-    }
-}
-
-/// Of the lists only NIL, a symbol, may name a class.
-fn designate_list(alloc: Global, world: &World, items: Items) -> Result<ClassId, Stop>
-    ensures { Designates (designated (seen world.now).classes (list items)) result }
-{
-    match items.split_first() {
-        None => found(alloc, world, &Name::fixed(&"NIL")),
-        Some(_) => {
-            let condition = about(alloc, ConditionKind::TypeError, Value::List(items))?;
-            Err(Stop::Refused(condition))
+    match &value {
+        Value::Sym(name) => found(alloc, world, name),
+        Value::List(items) if items.split_first().is_none() => {
+            found(alloc, world, &Name::fixed(&"NIL"))
         }
+        Value::Class(id) => instantiate(alloc, world, *id),
+        _ => Err(Stop::Refused(about(alloc, ConditionKind::TypeError, value)?)),
     }
 }
 

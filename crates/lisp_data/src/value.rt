@@ -14,7 +14,6 @@ use std::rc::Rc;
 
 /// A value of the language (HyperSpec 4.2). NIL is the empty list.
 #[cycle(value)]
-#[derive(Drop)]
 pub enum Value {
     Int(i64),
     Sym(Name),
@@ -176,6 +175,22 @@ impl Items {
     {
         let Items { first } = self;
         first
+    }
+}
+
+impl Drop for Value {
+    #[cycle(value)]
+    fn drop(self) {
+        match self {
+            Value::Sym(name) => drop(name),
+            Value::Str(text) => drop(text),
+            Value::List(items) => drop(items),
+            Value::Int(_) => {}
+            Value::Class(_) => {}
+            Value::Generic(_) => {}
+            Value::Method(_) => {}
+            Value::Instance(_) => {}
+        }
     }
 }
 
