@@ -14,7 +14,7 @@ use crate::class_functions::incomplete_class;
 use clos_control::control::begin;
 use clos_machine::machine::{Doing, Frame, Machine, SystemCall, Task};
 use clos_world::{ConditionKind, Stop, Values, World, about, about_name, plain};
-use lisp_data::{ClassId, InstanceId, Items, Name, Value};
+use lisp_data::{ClassId, InstanceId, Name, Value};
 use std::alloc::Global;
 
 /// The class that a value designates, if there can be instances of it.

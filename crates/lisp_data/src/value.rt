@@ -178,6 +178,7 @@ impl Items {
     }
 }
 
+// Dropping a value is a call, so that what drops one does not ask of what kind it is.
 impl Drop for Value {
     #[cycle(value)]
     fn drop(self) {
