@@ -173,13 +173,14 @@ fn write_layout(
         write_name(line, slot)?;
         write_slot(alloc, line, classes, class, slot)?;
     }
-    let mut place = 0;
-    while let Some((slot, cell)) = layout.shared(place) {
+    for place in 0..16usize {
+        let Some((slot, cell)) = layout.shared(place) else {
+            break;
+        };
         line.push(' ')?;
         write_name(line, slot)?;
         line.push_str(format!(in alloc; "@{}", cell.0)?.as_str())?;
         write_slot(alloc, line, classes, class, slot)?;
-        place += 1;
     }
     Ok(())
 }
