@@ -14,7 +14,7 @@ use crate::class_functions::incomplete_class;
 use clos_control::control::begin;
 use clos_machine::machine::{Doing, Frame, Machine, SystemCall, Task};
 use clos_world::{ConditionKind, Stop, Values, World, about, about_name, plain};
-use lisp_data::{ClassId, InstanceId, Name, Value};
+use lisp_data::{ClassId, InstanceId, Items, Name, Value};
 use std::alloc::Global;
 
 /// The class that a value designates, if there can be instances of it.
@@ -23,11 +23,22 @@ fn designate(alloc: Global, world: &World, value: Value) -> Result<ClassId, Stop
 {
     match &value {
         Value::Sym(name) => found(alloc, world, name),
-        Value::List(items) if items.split_first().is_none() => {
-            found(alloc, world, &Name::fixed(&"NIL"))
-        }
+        Value::List(items) => designate_list(alloc, world, items),
         Value::Class(id) => instantiate(alloc, world, *id),
         _ => Err(Stop::Refused(about(alloc, ConditionKind::TypeError, value)?)),
+    }
+}
+
+/// Of the lists only NIL, a symbol, may name a class.
+fn designate_list(alloc: Global, world: &World, items: &Items) -> Result<ClassId, Stop>
+    ensures { Designates (designated (seen world.now).classes (list items.now)) result }
+{
+    match items.split_first() {
+        None => found(alloc, world, &Name::fixed(&"NIL")),
+        Some(_) => {
+            let list = Value::List(items.copy()?);
+            Err(Stop::Refused(about(alloc, ConditionKind::TypeError, list)?))
+        }
     }
 }
 
