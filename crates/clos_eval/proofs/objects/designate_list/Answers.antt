@@ -4,4 +4,4 @@ use Rattle.clos_eval.proofs.objects.designate_list.Goals as goal
 
 pub returns-in-None : goal.returns-in-None
 returns-in-None c =
-    nil_designates (seen c.args.world.now) c.args.items.now c.fixed.result c.found-in-None.result c.in-None.ensures c.fixed.ensures c.found-in-None.ensures
+    nil_designates (seen c.args.world.now) c.args.items.now c.fixed.result c.found.result c.in-None.ensures c.fixed.ensures c.found.ensures
