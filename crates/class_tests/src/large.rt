@@ -1,6 +1,6 @@
 //! Many classes.
 use clos_class_core::{ClassFault, Classes};
-use lisp_data::{ClassId, Name, Text};
+use lisp_data::{ClassId, Name};
 use std::alloc::{AllocError, Global};
 use std::ops::Range;
 use std::process::Abort;

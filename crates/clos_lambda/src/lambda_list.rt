@@ -13,7 +13,7 @@ use crate::list::parse_list;
 use crate::section::{after, back, is_lambda_list_keyword, is_symbol_called, past};
 use crate::sequence::Sequence;
 use clos_forms::{Form, SyntaxFault, are_distinct, at_most_one, only, variable_name};
-use lisp_data::{Data, Datum, Name, Text};
+use lisp_data::{Data, Datum, Name};
 use std::alloc::{AllocError, Global};
 
 /// A lambda list. No variable stands twice in it (HyperSpec 3.4.1).

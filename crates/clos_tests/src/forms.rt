@@ -5,7 +5,7 @@ use clos_forms::{
     is_definition, is_function, is_special_operator, is_system_function, parse_body, parse_form,
     parse_forms, parse_function_name, quoted_value, variable_name,
 };
-use lisp_data::{Data, Datum, ListFault, MethodId, Name, Text, Value};
+use lisp_data::{Data, Datum, ListFault, MethodId, Name, Value};
 use std::alloc::Global;
 use std::process::Abort;
 use std::test::Fail;
@@ -206,7 +206,7 @@ fn lists_of_no_elements(rt: HostRuntime) -> Result<(), Fail> {
 
 /// The kind of value of a quoted datum.
 fn quoted(alloc: Global, datum: &Datum) -> &'static str {
-    match quoted_value(alloc, datum) {
+    match &quoted_value(alloc, datum) {
         Ok(None) => "none",
         Ok(Some(Value::List(_))) => "list",
         _ => "other",

@@ -11,7 +11,7 @@ ghost use Rattle.lisp_reader.specs.Token.{class_of, is_integer, is_ratio, is_flo
 
 use crate::characters::token_len;
 use crate::fault::ReadFault;
-use lisp_data::{Datum, Name, Text};
+use lisp_data::{Datum, Name};
 use std::alloc::{AllocError, Global};
 
 /// What a token is by its spelling alone.

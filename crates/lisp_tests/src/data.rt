@@ -4,8 +4,8 @@ use crate::given::{
 };
 use crate::told::{Told, chain, no_methods, three_methods};
 use lisp_data::{
-    Data, Datum, Dot, Items, ListFault, MethodId, Name, Text, Unsupported, Value, eql, equal,
-    prin1, princ,
+    Data, Datum, Dot, Items, ListFault, MethodId, Name, Unsupported, Value, eql, equal, prin1,
+    princ,
 };
 use std::alloc::{AllocError, Global};
 use std::collections::HashMap;

@@ -1,7 +1,7 @@
 //! Each function at values worked out by hand from the standard, which no clause compares.
 use crate::given::{DEEP, LONG, Sevens, is_text, large, values};
 use crate::told::no_methods;
-use lisp_data::{Name, Text, Value, prin1};
+use lisp_data::{Name, Value, prin1};
 use lisp_prims::{PrimFault, Primitive, call, serves};
 use std::alloc::Global;
 use std::process::Abort;

@@ -1,7 +1,7 @@
 //! Many classes, each with a slot.
 use clos_class::{ClassFault, Classes};
 use clos_syntax::{Allocation, ClassDefinition, Sequence, SlotSpecifier};
-use lisp_data::{CellId, Name, Text};
+use lisp_data::{CellId, Name};
 use std::alloc::{AllocError, Global};
 use std::ops::Range;
 use std::process::Abort;
@@ -30,7 +30,7 @@ impl Shape {
 
 fn name(alloc: Global, place: u64) -> Result<Name, AllocError> {
     let text = format!(in alloc; "C{place}")?;
-    Ok(Name::new(Text::new(text)?, false))
+    Name::new(alloc, text.as_str(), false)
 }
 
 /// The class of this place, with a slot of its own and one that all have; the first one's is shared.

@@ -288,7 +288,7 @@ fn outcome(
 ) -> Result<String, AllocError> {
     let mut line = String::new(alloc);
     if let Some(name) = form.strip_prefix("? ") {
-        write_class(alloc, &mut line, classes, &Name::fixed(name))?;
+        write_class(alloc, &mut line, classes, &Name::new(alloc, name, false)?)?;
         return Ok(line);
     }
     match definition(alloc, form)? {
