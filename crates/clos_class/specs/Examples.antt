@@ -4,6 +4,13 @@ use Rattle.std.specs.Prelude.{◌≡◌, ℕ, List, [], ◌∷◌, false, Some, 
 use Rattle.lisp_data.specs.Name.{Nam}
 use Rattle.clos_forms.specs.Form.{Frm}
 use Rattle.clos_class.specs.declared.direct.SlotAllocation.TheVariants.{Local, Shared}
+use Rattle.lisp_data.specs.declared.ids.CellId.{CellId}
+use Rattle.clos_syntax.specs.declared.class.ClassDefinition.{ClassDefinition}
+use Rattle.clos_syntax.specs.declared.slot.Allocation.{Allocation}
+use Rattle.clos_syntax.specs.declared.slot.Allocation.TheVariants.{Instance, Class}
+use Rattle.clos_syntax.specs.declared.slot.SlotSpecifier.{SlotSpecifier}
+use Rattle.clos_class.specs.SlotsView.{direct_slots, says_nothing}
+use Rattle.clos_class.specs.Table.{Table, new_cells, with_definition}
 use Rattle.clos_class.specs.Slots.{DirectSlots, accessible, initargs, initform, layout_of}
 
 abbrev called : List ℕ → Nam
@@ -40,3 +47,40 @@ initform_above f = refl
 
 all_initargs : (f : Frm) → initargs (points f) (2 ∷ 1 ∷ 0 ∷ []) (called (codes "COUNT")) ≡ called (codes "M") ∷ called (codes "N") ∷ []
 all_initargs f = refl
+
+-- ---- a table of classes: STANDARD-OBJECT alone, and then COUNTER with a shared slot COUNT and a local one
+
+abbrev standard : Nam
+standard = called (codes "STANDARD-OBJECT")
+
+abbrev slot : List ℕ → Allocation → SlotSpecifier
+slot text a = record { name = called text; initargs = []; accessors = []; initform = None; allocation = a }
+
+abbrev counter : List SlotSpecifier → ClassDefinition
+counter ss = record { name = called (codes "COUNTER"); superclasses = []; slots = ss; defaults = [] }
+
+abbrev cell : ℕ → CellId
+cell n = record { 0 = n }
+
+abbrev start : Table
+start = record { table = record { classes = record { names = standard ∷ []; above = [] ∷ [] }; predefined = 1; limit = 9 }; slots = says_nothing ∷ [] }
+
+abbrev counted : Table
+counted = with_definition start (counter (slot (codes "N") Instance ∷ slot (codes "COUNT") Class ∷ slot (codes "SUM") Class ∷ [])) (cell 7 ∷ cell 8 ∷ [])
+
+first_cells : (layout_of (direct_slots counted.slots) (1 ∷ 0 ∷ [])).shared ≡ (called (codes "COUNT"), cell 7) ∷ (called (codes "SUM"), cell 8) ∷ []
+first_cells = refl
+
+-- SUM keeps its cell, and MAX needs one
+abbrev again : ClassDefinition
+again = counter (slot (codes "MAX") Class ∷ slot (codes "SUM") Class ∷ [])
+
+one_more : new_cells counted.slots 1 (1 ∷ 0 ∷ []) again ≡ called (codes "MAX") ∷ []
+one_more = refl
+
+kept_cell : (layout_of (direct_slots (with_definition counted again (cell 9 ∷ [])).slots) (1 ∷ 0 ∷ [])).shared ≡ (called (codes "MAX"), cell 9) ∷ (called (codes "SUM"), cell 8) ∷ []
+kept_cell = refl
+
+-- a shared slot that comes back
+back : new_cells (with_definition counted again (cell 9 ∷ [])).slots 1 (1 ∷ 0 ∷ []) (counter (slot (codes "COUNT") Class ∷ [])) ≡ called (codes "COUNT") ∷ []
+back = refl

@@ -10,7 +10,7 @@ ghost use Rattle.clos_class.specs.SlotsView.{defaults_in, slots_in};
 
 use crate::defaults::default_initargs;
 use crate::layout::{Layout, layout_of};
-use crate::names::NameSet;
+use crate::names::is_among;
 use crate::rows::Rows;
 use crate::slot_initargs::all_initargs;
 use clos_syntax::{DefaultInitarg, Sequence};
@@ -23,7 +23,7 @@ use std::rc::Rc;
 #[derive(Drop)]
 pub struct Effective {
     pub layout: Rc<Layout>,
-    pub initargs: HashMap<Name, NameSet>,
+    pub initargs: HashMap<Name, Sequence<Name>>,
     pub defaults: Sequence<DefaultInitarg>,
 }
 
@@ -44,7 +44,7 @@ impl Effective {
     {
         match self.initargs.get(slot) {
             None => false,
-            Some(names) => names.has(initarg),
+            Some(names) => is_among(names.as_slice(), initarg),
         }
     }
 }

@@ -1,5 +1,5 @@
 //! What is kept of all classes: what each has by its class precedence list.
-ghost use Rattle.std.specs.Prelude.{◌≡◌, ◌<◌, ◌≤◌, ◌||◌, ℕ, suc, IfOk, length, option_copied};
+ghost use Rattle.std.specs.Prelude.{◌≡◌, ◌<◌, ◌≤◌, ◌||◌, ℕ, IfOk, length, option_copied};
 ghost use Rattle.clos_precedence.specs.Precedence.{has};
 ghost use Rattle.clos_class.specs.Keeping.{Stays, Tells, len_with, TellsAll, kept_at, lists_of, lists_then};
 ghost use Rattle.clos_class.specs.SlotsView.{defaults, direct_slots};

@@ -23,6 +23,36 @@ pub fn copy_names(alloc: Global, names: &[Name]) -> Result<Sequence<Name>, Alloc
     Ok(copies)
 }
 
+/// Whether a name is among these.
+pub fn is_among(names: &[Name], name: &Name) -> bool
+    ensures { result ≡ list_any (same_name name.now) names.now }
+{
+    names.iter().any(|other| name.is(other))
+}
+
+/// Adds a name at the end of a few, unless it is there.
+fn add_name(names: &mut Sequence<Name>, name: &Name) -> Result<(), AllocError>
+    ensures { OnOk result (names.new ≡ with_name names.old name.now) }
+{
+    if is_among(names.as_slice(), name) {
+        return Ok(());
+    }
+    names.push(name.copy()?)
+}
+
+/// Adds those of these names that are not there, at the end of a few.
+#[tactic(auto, using(crate::proofs::Added::one_name, crate::proofs::Added::same_names))]
+pub fn add_names(names: &mut Sequence<Name>, more: &[Name]) -> Result<(), AllocError>
+    ensures { OnOk result (names.new ≡ with_names names.old more.now) }
+{
+    let mut left = more;
+    while let Some((name, others)) = left.split_first() {
+        add_name(names, name)?;
+        left = others;
+    }
+    Ok(())
+}
+
 /// Names, each once, in the order in which they came. Contracts see the list.
 #[derive(Drop)]
 pub struct NameSet {
@@ -57,19 +87,6 @@ impl NameSet {
         ensures { OnOk result (self.new ≡ with_name self.old name) }
     {
         self.names.insert(name)?;
-        Ok(())
-    }
-
-    /// Adds those of these names that are not there, at the end.
-    #[tactic(auto, using(crate::proofs::Added::one_name, crate::proofs::Added::same_names))]
-    pub fn add_all(&mut self, names: &[Name]) -> Result<(), AllocError>
-        ensures { OnOk result (self.new ≡ with_names self.old names.now) }
-    {
-        let mut left = names;
-        while let Some((name, others)) = left.split_first() {
-            self.add(name.copy()?)?;
-            left = others;
-        }
         Ok(())
     }
 

@@ -1,5 +1,5 @@
 //! What a definition of a class needs, and what it makes of the classes, before it takes effect.
-ghost use Rattle.std.specs.Prelude.{◌≡◌, ◌≤◌, ℕ, List, None, IfOk, IfErr, OnOk, length, map};
+ghost use Rattle.std.specs.Prelude.{◌≡◌, ◌≤◌, ℕ, None, IfOk, IfErr, OnOk, length, map};
 ghost use Rattle.lisp_data.specs.declared.ids.CellId.{CellId};
 ghost use Rattle.clos_class_core.specs.Classes.{listing};
 ghost use Rattle.clos_class_core.specs.Outlook.{listing_then};
@@ -9,7 +9,7 @@ ghost use Rattle.clos_class_core.specs.TableView.{Refuses};
 ghost use Rattle.clos_class.specs.Keeping.{TellsAll, lists_of};
 ghost use Rattle.clos_class.specs.Slots.{initform};
 ghost use Rattle.clos_class.specs.SlotsView.{slots_in};
-ghost use Rattle.clos_class.specs.Table.{cell_for, cells_to_make, classes_with, list_with, new_cells, number, own_cell, refusal, rows_with, said, with_row};
+ghost use Rattle.clos_class.specs.Table.{cell_for, cells_to_make, classes_with, list_with, new_cells, number, own_cell, refusal, said, with_row};
 
 use crate::cells::Cells;
 use crate::definition::{has_shared_slots, is_unambiguous};

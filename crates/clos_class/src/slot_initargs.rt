@@ -9,8 +9,9 @@ ghost use Rattle.clos_class.specs.SlotsView.{slots_in};
 ghost use Rattle.clos_class.specs.Building.{or_no_names, with_names};
 
 use crate::direct::DirectSlot;
-use crate::names::NameSet;
+use crate::names::add_names;
 use crate::rows::Rows;
+use clos_syntax::Sequence;
 use lisp_data::{ClassId, Name};
 use std::alloc::{AllocError, Global};
 use std::collections::HashMap;
@@ -18,7 +19,7 @@ use std::collections::HashMap;
 /// Adds the initargs of a slot to those of its name.
 fn add(
     alloc: Global,
-    found: &mut HashMap<Name, NameSet>,
+    found: &mut HashMap<Name, Sequence<Name>>,
     slot: &DirectSlot,
 ) -> Result<(), AllocError>
     ensures { OnOk result ((n : Nam) → or_no_names (get same_name found.new n) ≡ with_names (or_no_names (get same_name found.old n)) (flat_map (λ s. s.initargs) (called n (slot.now ∷ [])))) }
@@ -26,8 +27,8 @@ fn add(
     if slot.initargs.len() == 0 {
         return Ok(());
     }
-    let mut initargs = found.remove(&slot.name).unwrap_or(NameSet::new(alloc));
-    initargs.add_all(slot.initargs.as_slice())?;
+    let mut initargs = found.remove(&slot.name).unwrap_or(Sequence::new(alloc));
+    add_names(&mut initargs, slot.initargs.as_slice())?;
     found.insert(slot.name.copy()?, initargs)?;
     Ok(())
 }
@@ -35,7 +36,7 @@ fn add(
 /// Adds the initargs of slots to those of their names.
 fn add_all(
     alloc: Global,
-    found: &mut HashMap<Name, NameSet>,
+    found: &mut HashMap<Name, Sequence<Name>>,
     slots: &[DirectSlot],
 ) -> Result<(), AllocError>
     ensures { OnOk result ((n : Nam) → or_no_names (get same_name found.new n) ≡ with_names (or_no_names (get same_name found.old n)) (flat_map (λ s. s.initargs) (called n slots.now))) }
@@ -54,7 +55,7 @@ pub fn all_initargs(
     alloc: Global,
     classes: &Rows<'_>,
     list: &[ClassId],
-) -> Result<HashMap<Name, NameSet>, AllocError>
+) -> Result<HashMap<Name, Sequence<Name>>, AllocError>
     ensures { IfOk result (λ r. (n : Nam) → or_no_names (get same_name r n) ≡ initargs (slots_in classes.now) (numbers list.now) n) }
 {
     let mut found = HashMap::new(alloc);

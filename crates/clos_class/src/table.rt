@@ -6,7 +6,7 @@ ghost use Rattle.clos_class_core.specs.Classes.{named, listing, list_in};
 ghost use Rattle.clos_class_core.specs.Initial.{is_standard, class_of_class};
 ghost use Rattle.clos_precedence.specs.Precedence.{has};
 ghost use Rattle.clos_precedence.specs.PrecedenceView.{numbers};
-ghost use Rattle.clos_class_core.specs.Table.{changed, list_if, or_standard};
+ghost use Rattle.clos_class_core.specs.Table.{changed, list_if};
 ghost use Rattle.clos_class_core.specs.TableView.{Refuses, IsListOf};
 ghost use Rattle.clos_class_core.specs.Ways.{IsSuperclass, IsSelfOrAbove, IsComplete, IsIncomplete};
 ghost use Rattle.clos_class.specs.Slots.{default_initargs, initargs, initform, layout_of};
