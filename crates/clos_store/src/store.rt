@@ -59,7 +59,7 @@ impl Store {
     pub fn has_room(&self) -> bool
         ensures { result ≡ has_room self.now }
     {
-        (self.instances.len() as u64) < self.most_instances
+        self.instance_count() < self.most_instances
     }
 
     /// How many instances were made.
@@ -82,13 +82,12 @@ impl Store {
         ensures fault { IfErr result (λ e. Refuses e (has_room self.old)) }
         ensures err { OnErr result (self.new ≡ self.old) }
     {
-        let count = self.instances.len() as u64;
-        if count >= self.most_instances {
+        if !self.has_room() {
             return Err(StoreFault::TableLimit);
         }
         let instance = Instance::new(alloc, class, layout)?;
         self.instances.push(instance)?;
-        Ok(InstanceId(count + 1))
+        Ok(InstanceId(self.instance_count()))
     }
 
     fn instance(&self, id: InstanceId) -> Option<&Instance>
@@ -190,7 +189,7 @@ impl Store {
         ensures fault { IfErr result (λ e. Refuses e (has_room_for cells self.old)) }
         ensures err { OnErr result (self.new ≡ self.old) }
     {
-        if cells > self.most_cells - self.cells.len() as u64 {
+        if cells > self.most_cells - self.cell_count() {
             return Err(StoreFault::TableLimit);
         }
         self.cells.reserve(cells as usize)?;
@@ -206,7 +205,7 @@ impl Store {
         ensures err { OnErr result (self.new ≡ self.old) }
         ensures reserved { 0 < self.old.reserved → IsOk result }
     {
-        let count = self.cells.len() as u64;
+        let count = self.cell_count();
         if count >= self.most_cells {
             return Err(StoreFault::TableLimit);
         }
