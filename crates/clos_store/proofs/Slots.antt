@@ -1,6 +1,6 @@
 -- Names and values side by side.
 use Rattle.std.proofs.Common.{◌≡◌, ℕ, zero, suc, ◌+◌, ◌<◌, List, [], ◌∷◌, Option, Some, None, Bool, true, false, length, map, replicate, arith, refl, ap, sym, ◌∙◌, true≢false, subst}
-use Rattle.std.specs.Prelude.{slice_get, slice_set, slice_index_or, option_map, position, if◌then◌else◌, unwrap_or, is_some, nat_lt, not, ◌==◌, ◌-◌}
+use Rattle.std.specs.Prelude.{slice_get, slice_set, slice_index_or, position, if◌then◌else◌, unwrap_or, is_some, nat_lt, not, ◌==◌, ◌-◌}
 use Rattle.std.specs.Option.{option_map_or}
 use Rattle.std.specs.Map.{lookup}
 use Rattle.std.specs.List.{zip, position_or_len}

@@ -85,7 +85,7 @@ shared_of w i = option_map_or (λ o. o.shared) (instance w i) []
 abbrev pub place_named : Contents → ℕ → Nam → Option ℕ
 place_named w i name = position (same_name name) (slot_names (slots_of w i))
 
--- the instances after the first, the second, .. of them was made so
+-- the instances after the one at this place was changed so
 abbrev pub with_changed : (Object → Object) → ℕ → List Object → List Object
 with_changed change n [] = []
 with_changed change zero (o ∷ os) = change o ∷ os

@@ -182,8 +182,8 @@ impl Store {
         self.cells.len() as u64
     }
 
-    /// Sees to it that so many more cells can be made: the next so many calls of `new_cell` succeed. It stands for what was
-    /// reserved before.
+    /// Takes the memory for so many more cells: the next so many calls of `new_cell` succeed. What was reserved before no
+    /// longer counts.
     pub fn reserve(&mut self, cells: u64) -> Result<(), StoreFault>
         ensures ok { OnOk result ((has_room_for cells self.old ≡ true) × (self.new ≡ record self.old { reserved = cells })) }
         ensures fault { IfErr result (λ e. Refuses e (has_room_for cells self.old)) }

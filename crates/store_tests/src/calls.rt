@@ -1,37 +1,54 @@
 //! Each call succeeds where there is memory and room.
-use clos_class::{Classes, Layout};
+use clos_class::{ClassFault, Classes, Layout};
 use clos_store::{Store, StoreFault};
-use clos_syntax::{Top, parse_top};
+use clos_syntax::{Allocation, ClassDefinition, Sequence, SlotSpecifier};
 use lisp_data::{CellId, ClassId, Name, Value};
-use lisp_reader::read_form;
-use std::alloc::Global;
+use std::alloc::{AllocError, Global};
 use std::process::Abort;
 use std::rc::Rc;
 use std::test::Fail;
 
-const DEFINITION: &str = "(defclass a () (x (n :allocation :class) y))";
-
-/// The layout of the class of the definition, with this cell.
-fn layout(alloc: Global, cell: CellId) -> Option<Rc<Layout>> {
-    let Ok(Some((datum, _))) = read_form(alloc, DEFINITION.as_bytes(), 0) else {
-        return None;
-    };
-    let Ok(Top::DefClass(definition)) = parse_top(alloc, &datum) else {
-        return None;
-    };
-    let Ok(mut classes) = Classes::new(alloc, 1) else {
-        return None;
-    };
-    let Ok(changed) = classes.define(alloc, &definition, &[cell]) else {
-        return None;
-    };
-    match classes.layout(changed.class)?.clone() {
-        Ok(layout) => Some(layout),
-        Err(_) => None,
+fn slot(alloc: Global, name: Name, allocation: Allocation) -> SlotSpecifier {
+    SlotSpecifier {
+        name,
+        initargs: Sequence::new(alloc),
+        accessors: Sequence::new(alloc),
+        initform: None,
+        allocation,
     }
 }
 
-/// What is read of the slot of this name, after it was given a value.
+/// Of a class with a shared slot N and a local slot Y.
+fn definition(alloc: Global) -> Result<ClassDefinition, AllocError> {
+    let mut slots = Sequence::new(alloc);
+    slots.push(slot(alloc, Name::fixed(&"N"), Allocation::Class))?;
+    slots.push(slot(alloc, Name::fixed(&"Y"), Allocation::Instance))?;
+    Ok(ClassDefinition {
+        name: Name::fixed(&"A"),
+        superclasses: Sequence::new(alloc),
+        slots,
+        defaults: Sequence::new(alloc),
+    })
+}
+
+/// The layout of that class, with this cell.
+fn layout(alloc: Global, cell: CellId) -> Result<Option<Rc<Layout>>, ClassFault> {
+    let definition = definition(alloc)?;
+    let mut classes = Classes::new(alloc, 1)?;
+    let class = classes.define(alloc, &definition, &[cell])?.class;
+    match classes.layout(class) {
+        None => Ok(None),
+        Some(layout) => Ok(Some(layout.clone()?)),
+    }
+}
+
+/// A new cell, in a store in which there is room for it.
+fn cell(store: &mut Store) -> Result<CellId, StoreFault> {
+    store.reserve(1)?;
+    store.new_cell(Some(Value::Int(7)))
+}
+
+/// What is read of the slot Y of a new instance, after it was given a value.
 fn written(store: &mut Store, alloc: Global, layout: &Rc<Layout>) -> Result<i64, StoreFault> {
     let name = Name::fixed(&"Y");
     let instance = store.allocate(alloc, ClassId(70), layout)?;
@@ -46,12 +63,6 @@ fn written(store: &mut Store, alloc: Global, layout: &Rc<Layout>) -> Result<i64,
     Ok(0)
 }
 
-/// The number of a new cell, in a store in which there is room for it and an instance.
-fn cell(store: &mut Store) -> Result<CellId, StoreFault> {
-    store.reserve(1)?;
-    store.new_cell(Some(Value::Int(7)))
-}
-
 #[test]
 fn calls_succeed(rt: HostRuntime) -> Result<(), Fail> {
     let mut store = Store::new(rt.alloc(), 1, 1);
@@ -59,13 +70,13 @@ fn calls_succeed(rt: HostRuntime) -> Result<(), Fail> {
         assert!(rt; false);
         return Ok(());
     };
-    let Some(layout) = layout(rt.alloc(), cell) else {
+    let Ok(Some(layout)) = layout(rt.alloc(), cell) else {
         assert!(rt; false);
         return Ok(());
     };
-    let number = match written(&mut store, rt.alloc(), &layout) {
-        Ok(number) => number,
-        Err(_) => 0,
+    let Ok(number) = written(&mut store, rt.alloc(), &layout) else {
+        assert!(rt; false);
+        return Ok(());
     };
     assert_eq!(rt; cell.0, 0);
     assert_eq!(rt; number, 5);
