@@ -1,0 +1,111 @@
+-- The instances of a session and the cells of their shared slots (HyperSpec 7.5.1, 7.5.2).
+use Rattle.std.specs.Prelude.{ℕ, zero, suc, ◌+◌, ◌-◌, ◌==◌, nat_le, nat_lt, List, [], ◌∷◌, ◌++◌, Bool, Option, Some, None, if◌then◌else◌, map, option_map, length, position, slice_get, slice_set}
+use Rattle.std.specs.Map.{lookup}
+use Rattle.std.specs.Option.{option_map_or}
+use Rattle.lisp_data.specs.Name.{Nam, same_name}
+use Rattle.lisp_data.specs.Value.{Val}
+use Rattle.lisp_data.specs.declared.ids.CellId.{CellId}
+use Rattle.clos_class.specs.Slots.{Layout}
+
+-- slots by their names, each with its value; one that has none is unbound
+abbrev pub Slots : Type 0
+Slots = List (Nam × Option Val)
+
+-- an instance: its class, its local slots in layout order, and the cells of its shared slots
+pub record Object : Type 0 where
+  pub class : ℕ
+  pub slots : Slots
+  pub shared : List (Nam × CellId)
+
+pub record Contents : Type 0 where
+  pub instances : List Object  -- in the order in which they were made; the first has the number 1
+  pub cells : List (Option Val)  -- the same; the first has the number 0
+  pub most_instances : ℕ
+  pub most_cells : ℕ
+  pub reserved : ℕ  -- so many more cells are sure to be made
+
+abbrev pub empty : ℕ → ℕ → Contents
+empty instances cells = record { instances = []; cells = []; most_instances = instances; most_cells = cells; reserved = 0 }
+
+-- ---- slots
+
+abbrev pub slot_names : Slots → List Nam
+slot_names ss = map (λ s. s.0) ss
+
+abbrev pub if_bound : Option (Option Val) → Option Val
+if_bound None = None
+if_bound (Some value) = value
+
+-- the value of the slot of this name, where there is one and it is bound
+abbrev pub value_named : Slots → Nam → Option Val
+value_named ss name = if_bound (lookup (same_name name) ss)
+
+-- the slots after the one of this name has this value, or none
+abbrev pub with_value : Nam → Option Val → Slots → Slots
+with_value name value [] = []
+with_value name value (s ∷ ss) = if same_name name s.0 then (s.0, value) ∷ ss else s ∷ with_value name value ss
+
+-- the same of the slot at this place
+abbrev pub value_at : Slots → ℕ → Option Val
+value_at ss place = if_bound (option_map (λ s. s.1) (slice_get ss place))
+
+abbrev pub with_value_at : ℕ → Option Val → Slots → Slots
+with_value_at place value [] = []
+with_value_at zero value (s ∷ ss) = (s.0, value) ∷ ss
+with_value_at (suc place) value (s ∷ ss) = s ∷ with_value_at place value ss
+
+-- ---- instances
+
+-- a new instance of this class: all its slots are unbound (7.1, allocate-instance)
+abbrev pub allocated : ℕ → Layout → Object
+allocated class layout = record { class = class; slots = map (λ name. (name, None)) layout.locals; shared = layout.shared }
+
+-- the layout that an instance was made with
+abbrev pub kept_layout : Object → Layout
+kept_layout o = record { locals = slot_names o.slots; shared = o.shared }
+
+abbrev pub has_room : Contents → Bool
+has_room w = nat_lt (length w.instances) w.most_instances
+
+abbrev pub with_instance : Object → Contents → Contents
+with_instance o w = record w { instances = w.instances ++ o ∷ [] }
+
+-- the instance of this number
+abbrev pub instance : Contents → ℕ → Option Object
+instance w i = if i == 0 then None else slice_get w.instances (i - 1)
+
+-- its slots, none where there is no such instance
+abbrev pub slots_of : Contents → ℕ → Slots
+slots_of w i = option_map_or (λ o. o.slots) (instance w i) []
+
+abbrev pub shared_of : Contents → ℕ → List (Nam × CellId)
+shared_of w i = option_map_or (λ o. o.shared) (instance w i) []
+
+-- the place of the slot of this name
+abbrev pub place_named : Contents → ℕ → Nam → Option ℕ
+place_named w i name = position (same_name name) (slot_names (slots_of w i))
+
+-- the instances after the one at this place was changed so
+abbrev pub with_changed : (Object → Object) → ℕ → List Object → List Object
+with_changed change n [] = []
+with_changed change zero (o ∷ os) = change o ∷ os
+with_changed change (suc n) (o ∷ os) = o ∷ with_changed change n os
+
+-- the instance of this number has these slots, made of those it had
+abbrev pub with_slots : (Slots → Slots) → ℕ → Contents → Contents
+with_slots change i w = record w { instances = with_changed (λ o. record o { slots = change o.slots }) (i - 1) w.instances }
+
+-- ---- cells
+
+abbrev pub cell_value : Contents → ℕ → Option Val
+cell_value w c = if_bound (slice_get w.cells c)
+
+abbrev pub with_cell : Option Val → Contents → Contents
+with_cell value w = record w { cells = w.cells ++ value ∷ []; reserved = w.reserved - 1 }
+
+abbrev pub with_cell_value : ℕ → Option Val → Contents → Contents
+with_cell_value c value w = record w { cells = slice_set w.cells c value }
+
+-- whether so many more cells may be made
+abbrev pub has_room_for : ℕ → Contents → Bool
+has_room_for n w = nat_le (length w.cells + n) w.most_cells

@@ -1,0 +1,111 @@
+//! One instance.
+ghost use Rattle.std.specs.Prelude.{◌≡◌, ◌<◌, IfOk, length, option_map, position, replicate, None};
+ghost use Rattle.std.specs.Map.{lookup};
+ghost use Rattle.lisp_data.specs.Name.{same_name};
+ghost use Rattle.lisp_data.specs.ValueView.{value_of};
+ghost use Rattle.clos_store.specs.Store.{allocated, kept_layout, slot_names, value_at, with_value_at};
+
+use crate::slot::Slot;
+use clos_class::Layout;
+use lisp_data::{CellId, ClassId, Name, Value};
+use std::alloc::{AllocError, Global};
+use std::marker::Model;
+use std::rc::Rc;
+
+/// An instance: it keeps the layout that it was made with, which it shares with others, and has the values of its local
+/// slots in that order. Contracts see the slots by their names.
+#[derive(Drop)]
+pub struct Instance {
+    class: ClassId,
+    layout: Rc<Layout>,
+    slots: Vec<Slot>,
+}
+
+impl Model for Instance {
+    ghost use Rattle.std.specs.Prelude.{◌≡◌, length};
+    ghost use Rattle.std.specs.List.{zip};
+    ghost use Rattle.clos_store.specs.Store.{Object};
+    ghost use Rattle.clos_store.specs.StoreView.{object_code};
+
+    ghost Value = { Object };
+
+    ghost coded = { object_code };
+
+    ghost view = { λ a. record { class = a.class.0; slots = zip a.layout.value.locals a.slots.items; shared = a.layout.value.shared } };
+
+    ghost invariant = { λ a. length a.slots.items ≡ length a.layout.value.locals };
+}
+
+/// So many unbound slots, in one piece of memory.
+fn unbound_slots(alloc: Global, count: usize) -> Result<Vec<Slot>, AllocError>
+    ensures { IfOk result (λ r. r.items ≡ replicate count None) }
+{
+    let mut slots = Vec::with_capacity(alloc, count)?;
+    while slots.len() < count {
+        slots.push(Slot::new(None))?;
+    }
+    Ok(slots)
+}
+
+impl Instance {
+    /// A new instance, all of whose slots are unbound.
+    #[tactic(auto, using(crate::proofs::Slots::length_of_unbound, crate::proofs::Slots::all_unbound))]
+    pub fn new(alloc: Global, class: ClassId, layout: &Rc<Layout>) -> Result<Instance, AllocError>
+        ensures { IfOk result (λ r. r ≡ allocated class.0 layout.now.value) }
+    {
+        let slots = unbound_slots(alloc, layout.len())?;
+        let layout = layout.clone()?;
+        Ok(Instance {
+            class,
+            layout,
+            slots,
+        })
+    }
+
+    pub fn class(&self) -> ClassId
+        ensures { result.0 ≡ self.now.class }
+    {
+        self.class
+    }
+
+    /// The layout that it was made with.
+    #[tactic(auto, using(crate::proofs::Slots::names_of_zip))]
+    pub fn layout(&self) -> &Rc<Layout>
+        ensures { result.now.value ≡ kept_layout self.now }
+    {
+        &self.layout
+    }
+
+    /// The place of the local slot of this name.
+    #[tactic(auto, using(crate::proofs::Slots::names_of_zip))]
+    pub fn place_of(&self, name: &Name) -> Option<usize>
+        ensures { result ≡ position (same_name name.now) (slot_names self.now.slots) }
+    {
+        self.layout.place_of(name)
+    }
+
+    /// The cell of the shared slot of this name.
+    pub fn cell(&self, name: &Name) -> Option<CellId>
+        ensures { result ≡ lookup (same_name name.now) self.now.shared }
+    {
+        self.layout.cell(name)
+    }
+
+    /// The value of the slot at this place, where it is bound.
+    #[tactic(auto, using(crate::proofs::Slots::length_of_zip, crate::proofs::Slots::read_of_zip))]
+    pub fn read(&self, place: usize) -> Option<&Value>
+        requires { place < length self.now.slots }
+        ensures { option_map (λ v. value_of v.now) result ≡ value_at self.now.slots place }
+    {
+        self.slots[place].value()
+    }
+
+    /// Gives the slot at this place this value, or none.
+    #[tactic(auto, using(crate::proofs::Slots::length_of_zip, crate::proofs::Slots::zip_with_value))]
+    pub fn set(&mut self, place: usize, value: Option<Value>)
+        requires { place < length self.old.slots }
+        ensures { self.new ≡ record self.old { slots = with_value_at place (option_map value_of value) self.old.slots } }
+    {
+        self.slots[place] = Slot::new(value);
+    }
+}

@@ -1,0 +1,10 @@
+//! The instances of a session, and the cells of their shared slots (HyperSpec 7.5).
+#![tactic(auto)]
+
+mod fault;
+mod instance;
+mod slot;
+mod store;
+
+pub use fault::StoreFault;
+pub use store::Store;

@@ -1,0 +1,240 @@
+//! The instances of a session, and its cells.
+ghost use Rattle.std.specs.Prelude.{◌≡◌, ◌≤◌, ◌<◌, ◌+◌, ℕ, true, Some, None, IfOk, IfErr, IfSome, IsOk, OnOk, OnErr, length, option_map, option_copied};
+ghost use Rattle.std.specs.Map.{lookup};
+ghost use Rattle.lisp_data.specs.Name.{same_name};
+ghost use Rattle.lisp_data.specs.ValueView.{value_of};
+ghost use Rattle.clos_store.specs.Store.{allocated, cell_value, empty, has_room, has_room_for, instance, kept_layout, place_named, shared_of, slots_of, value_at, value_named, with_cell, with_cell_value, with_instance, with_slots, with_value, with_value_at};
+ghost use Rattle.clos_store.specs.StoreFault.{Refuses};
+
+use crate::fault::StoreFault;
+use crate::instance::Instance;
+use crate::slot::Slot;
+use clos_class::Layout;
+use lisp_data::{CellId, ClassId, InstanceId, Name, Value};
+use std::alloc::Global;
+use std::marker::Model;
+use std::rc::Rc;
+
+/// The instances that were made, and the cells, in which the values of shared slots are (HyperSpec 7.5.1). Both are kept
+/// for good. Instances are numbered from 1, cells from 0.
+#[derive(Drop)]
+pub struct Store {
+    instances: Vec<Instance>,
+    cells: Vec<Slot>,
+    most_instances: u64,
+    most_cells: u64,
+    /// So many more cells can be made with no more memory.
+    reserved: u64,
+}
+
+impl Model for Store {
+    ghost use Rattle.std.specs.Prelude.{◌≤◌, ◌+◌, vec_len, vec_capacity};
+    ghost use Rattle.clos_store.specs.Store.{Contents};
+    ghost use Rattle.clos_store.specs.StoreView.{contents_code};
+
+    ghost Value = { Contents };
+
+    ghost coded = { contents_code };
+
+    ghost view = { λ a. record { instances = a.instances.items; cells = a.cells.items; most_instances = a.most_instances; most_cells = a.most_cells; reserved = a.reserved } };
+
+    ghost invariant = { λ a. (vec_len a.cells + a.reserved ≤ a.most_cells) × (vec_len a.cells + a.reserved ≤ vec_capacity a.cells) };
+}
+
+impl Store {
+    /// No instances and no cells, and room for so many.
+    pub fn new(alloc: Global, instances: u64, cells: u64) -> Store
+        ensures { result ≡ empty instances cells }
+    {
+        Store {
+            instances: Vec::new(alloc),
+            cells: Vec::new(alloc),
+            most_instances: instances,
+            most_cells: cells,
+            reserved: 0,
+        }
+    }
+
+    /// Whether an instance may be made.
+    pub fn has_room(&self) -> bool
+        ensures { result ≡ has_room self.now }
+    {
+        self.instance_count() < self.most_instances
+    }
+
+    /// How many instances were made.
+    #[tactic(auto, using(std::proofs::lemmas::Grind::common_steps))]
+    pub fn instance_count(&self) -> u64
+        ensures { result ≡ length self.now.instances }
+    {
+        self.instances.len() as u64
+    }
+
+    /// Makes an instance of this class with this layout (HyperSpec 7.1, allocate-instance): its slots are unbound.
+    pub fn allocate(
+        &mut self,
+        alloc: Global,
+        class: ClassId,
+        layout: &Rc<Layout>,
+    ) -> Result<InstanceId, StoreFault>
+        ensures ok { OnOk result ((has_room self.old ≡ true) × (self.new ≡ with_instance (allocated class.0 layout.now.value) self.old)) }
+        ensures id { IfOk result (λ r. r.0 ≡ length self.old.instances + 1) }
+        ensures fault { IfErr result (λ e. Refuses e (has_room self.old)) }
+        ensures err { OnErr result (self.new ≡ self.old) }
+    {
+        if !self.has_room() {
+            return Err(StoreFault::TableLimit);
+        }
+        let instance = Instance::new(alloc, class, layout)?;
+        self.instances.push(instance)?;
+        Ok(InstanceId(self.instance_count()))
+    }
+
+    fn instance(&self, id: InstanceId) -> Option<&Instance>
+        ensures { option_copied result ≡ instance self.now id.0 }
+    {
+        if id.0 == 0 {
+            return None;
+        }
+        self.instances.get((id.0 - 1) as usize)
+    }
+
+    /// The class of an instance.
+    pub fn class_of(&self, id: InstanceId) -> Option<ClassId>
+        ensures { option_map (λ c. c.0) result ≡ option_map (λ o. o.class) (instance self.now id.0) }
+    {
+        match self.instance(id) {
+            None => None,
+            Some(instance) => Some(instance.class()),
+        }
+    }
+
+    /// The layout that an instance was made with.
+    pub fn layout(&self, id: InstanceId) -> Option<&Rc<Layout>>
+        ensures { option_map (λ l. l.now.value) result ≡ option_map kept_layout (instance self.now id.0) }
+    {
+        match self.instance(id) {
+            None => None,
+            Some(instance) => Some(instance.layout()),
+        }
+    }
+
+    /// The place of the local slot of this name.
+    pub fn place_of(&self, id: InstanceId, name: &Name) -> Option<usize>
+        ensures value { result ≡ place_named self.now id.0 name.now }
+        ensures within { IfSome result (λ p. p < length (slots_of self.now id.0)) }
+    {
+        match self.instance(id) {
+            None => None,
+            Some(instance) => instance.place_of(name),
+        }
+    }
+
+    /// The cell of the shared slot of this name.
+    pub fn cell(&self, id: InstanceId, name: &Name) -> Option<CellId>
+        ensures { result ≡ lookup (same_name name.now) (shared_of self.now id.0) }
+    {
+        match self.instance(id) {
+            None => None,
+            Some(instance) => instance.cell(name),
+        }
+    }
+
+    /// The value of the local slot at this place, where it is bound (HyperSpec 7.5.2).
+    pub fn read(&self, id: InstanceId, place: usize) -> Option<&Value>
+        requires { place < length (slots_of self.now id.0) }
+        ensures value { option_map (λ v. value_of v.now) result ≡ value_at (slots_of self.now id.0) place }
+        ensures named { (name : _) → place_named self.now id.0 name ≡ Some place → option_map (λ v. value_of v.now) result ≡ value_named (slots_of self.now id.0) name }
+    {
+        self.instances[(id.0 - 1) as usize].read(place)
+    }
+
+    fn set(&mut self, id: InstanceId, place: usize, value: Option<Value>)
+        requires { place < length (slots_of self.old id.0) }
+        ensures { self.new ≡ with_slots (with_value_at place (option_map value_of value)) id.0 self.old }
+    {
+        self.instances[(id.0 - 1) as usize].set(place, value);
+    }
+
+    /// Gives the local slot at this place this value.
+    pub fn write(&mut self, id: InstanceId, place: usize, value: Value)
+        requires { place < length (slots_of self.old id.0) }
+        ensures value { self.new ≡ with_slots (with_value_at place (Some (value_of value))) id.0 self.old }
+        ensures named { (name : _) → place_named self.old id.0 name ≡ Some place → self.new ≡ with_slots (with_value name (Some (value_of value))) id.0 self.old }
+    {
+        self.set(id, place, Some(value));
+    }
+
+    /// Makes the local slot at this place unbound (HyperSpec 7.7, slot-makunbound).
+    pub fn unbind(&mut self, id: InstanceId, place: usize)
+        requires { place < length (slots_of self.old id.0) }
+        ensures value { self.new ≡ with_slots (with_value_at place None) id.0 self.old }
+        ensures named { (name : _) → place_named self.old id.0 name ≡ Some place → self.new ≡ with_slots (with_value name None) id.0 self.old }
+    {
+        self.set(id, place, None);
+    }
+
+    /// How many cells were made.
+    #[tactic(auto, using(std::proofs::lemmas::Grind::common_steps))]
+    pub fn cell_count(&self) -> u64
+        ensures { result ≡ length self.now.cells }
+    {
+        self.cells.len() as u64
+    }
+
+    /// Takes the memory for so many more cells: the next so many calls of `new_cell` succeed. What was reserved before no
+    /// longer counts.
+    pub fn reserve(&mut self, cells: u64) -> Result<(), StoreFault>
+        ensures ok { OnOk result ((has_room_for cells self.old ≡ true) × (self.new ≡ record self.old { reserved = cells })) }
+        ensures fault { IfErr result (λ e. Refuses e (has_room_for cells self.old)) }
+        ensures err { OnErr result (self.new ≡ self.old) }
+    {
+        if cells > self.most_cells - self.cell_count() {
+            return Err(StoreFault::TableLimit);
+        }
+        self.cells.reserve(cells as usize)?;
+        self.reserved = cells;
+        Ok(())
+    }
+
+    /// Makes a cell with this value, or an unbound one.
+    pub fn new_cell(&mut self, value: Option<Value>) -> Result<CellId, StoreFault>
+        ensures ok { OnOk result ((has_room_for 1 self.old ≡ true) × (self.new ≡ with_cell (option_map value_of value) self.old)) }
+        ensures id { IfOk result (λ r. r.0 ≡ length self.old.cells) }
+        ensures fault { IfErr result (λ e. Refuses e (has_room_for 1 self.old)) }
+        ensures err { OnErr result (self.new ≡ self.old) }
+        ensures reserved { 0 < self.old.reserved → IsOk result }
+    {
+        let count = self.cell_count();
+        if count >= self.most_cells {
+            return Err(StoreFault::TableLimit);
+        }
+        self.cells.push(Slot::new(value))?;
+        self.reserved = self.reserved.saturating_sub(1);
+        Ok(CellId(count))
+    }
+
+    /// The value of a cell, where it is bound.
+    pub fn read_cell(&self, id: CellId) -> Option<&Value>
+        requires { id.0 < length self.now.cells }
+        ensures { option_map (λ v. value_of v.now) result ≡ cell_value self.now id.0 }
+    {
+        self.cells[id.0 as usize].value()
+    }
+
+    /// Gives a cell this value.
+    pub fn write_cell(&mut self, id: CellId, value: Value)
+        requires { id.0 < length self.old.cells }
+        ensures { self.new ≡ with_cell_value id.0 (Some (value_of value)) self.old }
+    {
+        self.cells[id.0 as usize] = Slot::new(Some(value));
+    }
+
+    /// Makes a cell unbound.
+    pub fn unbind_cell(&mut self, id: CellId)
+        requires { id.0 < length self.old.cells }
+        ensures { self.new ≡ with_cell_value id.0 None self.old }
+    {
+        self.cells[id.0 as usize] = Slot::new(None);
+    }
+}
