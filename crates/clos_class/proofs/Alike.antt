@@ -1,21 +1,22 @@
 -- What is told of a class where what its superclasses say stays the same.
 use Rattle.std.proofs.Common.{◌≡◌, ℕ, ◌==◌, Bool, true, false, ◌||◌, true≢false, List, [], ◌∷◌, ◌++◌, Some, length, ◌<◌, ◌≤◌, arith, refl, ap, sym, subst, ◌∙◌}
-use Rattle.std.specs.Prelude.{reverse, slice_get}
+use Rattle.std.specs.Prelude.{map, reverse, slice_get}
 use Rattle.std.specs.Option.{option_map_or}
-use Rattle.std.specs.List.{filter, filter_map, flat_map}
+use Rattle.std.specs.List.{flat_map}
 use Rattle.std.proofs.lemmas.Bool.{eq-eqb, eqb-true}
 use Rattle.std.proofs.lemmas.List.{reverse-append}
 use Rattle.std.proofs.lemmas.List.Folds.{list_any-append}
-use Rattle.lisp_data.specs.declared.ids.ClassId.{ClassId}
 use Rattle.clos_precedence.specs.Precedence.{has}
-use Rattle.clos_precedence.specs.PrecedenceView.{numbers}
 use Rattle.clos_class.specs.declared.direct.ClassSlots.{ClassSlots}
 use Rattle.clos_class.specs.declared.direct.DirectSlot.{DirectSlot}
 use Rattle.clos_class.specs.declared.rows.Rows.{Rows}
-use Rattle.clos_class.specs.Keeping.{Kept, Tells, layout_if}
-use Rattle.clos_class.specs.Slots.{Defaults, DirectSlots, Layout, called, distinct, first_allocation, first_of_each, is_local, layout_of, names, shared_in}
+use Rattle.clos_syntax.specs.declared.class.DefaultInitarg.{DefaultInitarg}
+use Rattle.clos_class.specs.Building.{slot_by}
+use Rattle.clos_class.specs.Keeping.{Kept, Tells, effective_if}
+use Rattle.clos_class.specs.Slots.{Defaults, DirectSlots, Effective, called, distinct, first_allocation, first_initform, first_of_each, names}
 use Rattle.clos_class.specs.SlotsView.{defaults, defaults_in, direct_slots, or_said, row_of, slots_in}
 use Rattle.clos_class.specs.Table.{with_row}
+use Rattle.clos_class.proofs.Built.{layout_by}
 use Rattle.clos_class.proofs.Rowed.{Sees, at_row, same_defaults, same_slots, sees}
 
 or_true : (a : Bool) → (a || true) ≡ true
@@ -43,21 +44,21 @@ flat_alike f g (x ∷ l) e =
     ap (λ k. k ++ flat_map f l) (e x (ap (λ b. b || has l x) (eq-eqb x x refl)))
     ∙ ap (λ k. g x ++ k) (flat_alike f g l (λ m h. e m (ap (λ b. (x == m) || b) h ∙ or_true (x == m))))
 
-abbrev placed : List DirectSlot → List DirectSlot → Layout
-placed xs ys = record {
-  locals = filter (λ n. is_local (first_allocation (called n xs))) (distinct (names ys));
-  shared = filter_map (λ n. shared_in n (first_allocation (called n xs))) (distinct (names ys));
+abbrev made : List DirectSlot → List DirectSlot → List DefaultInitarg → Effective
+made xs ys ds = record {
+  layout = layout_by (λ n. first_allocation (called n xs)) (distinct (names ys));
+  slots = map (slot_by (λ n. first_allocation (called n xs)) (λ n. distinct (flat_map (λ s. s.initargs) (called n xs))) (λ n. first_initform (called n xs))) (distinct (names ys));
+  defaults = first_of_each (λ d. d.name) ds;
 }
 
-layout_alike : (of to : DirectSlots) (l : List ℕ) → flat_map of l ≡ flat_map to l → flat_map of (reverse l) ≡ flat_map to (reverse l) → layout_if of l ≡ layout_if to l
-layout_alike of to [] e f = refl
-layout_alike of to (x ∷ l) e f = ap (λ xs. Some (placed xs (flat_map of (reverse (x ∷ l))))) e ∙ ap (λ ys. Some (placed (flat_map to (x ∷ l)) ys)) f
+effective_alike : (of to : DirectSlots) (ds es : Defaults) (l : List ℕ) → flat_map of l ≡ flat_map to l → flat_map of (reverse l) ≡ flat_map to (reverse l) → flat_map ds l ≡ flat_map es l
+    → effective_if of ds l ≡ effective_if to es l
+effective_alike of to ds es [] e f g = refl
+effective_alike of to ds es (x ∷ l) e f g = λ i. Some (made (e i) (f i) (g i))
 
 told_alike : (of to : DirectSlots) (ds es : Defaults) (l : List ℕ) (k : Kept) → ((m : ℕ) → has l m ≡ true → of m ≡ to m) → ((m : ℕ) → has l m ≡ true → ds m ≡ es m) → Tells of ds l k → Tells to es l k
 told_alike of to ds es l k e f t = record {
-  layout = t.layout ∙ layout_alike of to l (flat_alike of to l e) (flat_alike of to (reverse l) (λ m h. e m (sym (has_turned l m) ∙ h)));
-  defaults = t.defaults ∙ ap (first_of_each (λ d. d.name)) (flat_alike ds es l f);
-  initargs = λ name. t.initargs name ∙ ap (λ ss. distinct (flat_map (λ s. s.initargs) (called name ss))) (flat_alike of to l e);
+  kept = t.kept ∙ effective_alike of to ds es l (flat_alike of to l e) (flat_alike of to (reverse l) (λ m h. e m (sym (has_turned l m) ∙ h))) (flat_alike ds es l f);
 }
 
 other : (l : List ℕ) (n m : ℕ) (b : Bool) → has l n ≡ false → has l m ≡ true → (m == n) ≡ b → b ≡ false
@@ -86,10 +87,6 @@ seen r rows l then k v e t =
 pub touched : (r : Rows) (rows : List ClassSlots) (n : ℕ) (row : ClassSlots) (l then : List ℕ) (k : Kept) → n ≤ length rows → ((m : ℕ) → row_of r m ≡ or_said (Some row) (m == n) (slice_get rows m)) → l ≡ then
     → Tells (slots_in r) (defaults_in r) l k → Tells (direct_slots (with_row rows n row)) (defaults (with_row rows n row)) then k
 touched r rows n row l then k b v e t = seen r (with_row rows n row) l then k (sees r rows n row b v) e t
-
-pub some_layout : (of : DirectSlots) (cs : List ClassId) → 0 < length cs → Some (layout_of of (numbers cs)) ≡ layout_if of (numbers cs)
-some_layout of [] h = absurd (omega (arith, h))
-some_layout of (c ∷ cs) h = refl
 
 pub neither : (a b : Bool) → (a || b) ≡ false → (a ≡ false) × (b ≡ false)
 neither true b h = absurd (true≢false h)

@@ -9,12 +9,11 @@ use Rattle.indexmap.specs.IndexMap.{insert_entry}
 use Rattle.lisp_data.specs.Name.{Nam, same_name}
 use Rattle.lisp_data.specs.declared.ids.CellId.{CellId}
 use Rattle.lisp_data.specs.declared.ids.ClassId.{ClassId}
-use Rattle.clos_precedence.specs.PrecedenceView.{numbers, latest_first}
-use Rattle.clos_precedence.proofs.Lists.{latest}
+use Rattle.clos_precedence.specs.PrecedenceView.{latest_first}
 use Rattle.clos_class.specs.declared.direct.SlotAllocation.{SlotAllocation}
 use Rattle.clos_class.specs.declared.direct.SlotAllocation.TheVariants.{Local, Shared}
-use Rattle.clos_class.specs.Slots.{DirectSlots, Layout, allocation, distinct, first_of_each, is_local, layout_of, names, shared_in}
-use Rattle.clos_class.specs.Building.{new_of, with_cell, with_slot, with_slots}
+use Rattle.clos_class.specs.Slots.{DirectSlots, Layout, distinct, first_of_each, is_local, names, shared_in}
+use Rattle.clos_class.specs.Building.{new_of, no_slots, with_cell, with_slot, with_slots}
 use Rattle.clos_class.proofs.Each.{added, each, filter_all, none_after}
 
 -- ---- one slot
@@ -38,6 +37,10 @@ pub same_cells : (es : List (Nam × CellId)) (n : Nam) (c : CellId) (b : Bool) �
 same_cells es n c b e h = sym (ap (λ a. if a then es else es ++ (n, c) ∷ []) (sym (is_some-lookup (same_name n) es) ∙ sym e ∙ h))
 
 -- ---- all slots
+
+-- of these slots the local ones, and the shared ones with their cells
+abbrev pub layout_by : (Nam → Option SlotAllocation) → List Nam → Layout
+layout_by of ns = record { locals = filter (λ n. is_local (of n)) ns; shared = filter_map (λ n. shared_in n (of n)) ns }
 
 abbrev local_if : Nam → Bool → Option Nam
 local_if n true = Some n
@@ -96,47 +99,24 @@ module _ (of : Nam → Option SlotAllocation) where
   chosen [] = refl
   chosen (m ∷ ms) = chosen_by m (filter_map (λ k. local_in k (of k)) ms) (is_local (of m)) ∙ ap (λ l. cond (is_local (of m)) (m ∷ l) l) (chosen ms)
 
-  locals_are : (ns : List Nam) → (with_slots of (record { locals = []; shared = [] }) ns).locals ≡ filter (λ n. is_local (of n)) (distinct ns)
+  locals_are : (ns : List Nam) → (with_slots of no_slots ns).locals ≡ filter (λ n. is_local (of n)) (distinct ns)
   locals_are ns =
-      locals_built ns (record { locals = []; shared = [] })
+      locals_built ns no_slots
       ∙ filter_all (distinct (filter_map (λ n. local_in n (of n)) ns))
       ∙ each (λ n. n) (λ n. local_in n (of n)) (λ m x e. local_is m x (is_local (of m)) e) ns
       ∙ chosen (distinct ns)
 
-  shared_are : (ns : List Nam) → (with_slots of (record { locals = []; shared = [] }) ns).shared ≡ filter_map (λ n. shared_in n (of n)) (distinct ns)
+  shared_are : (ns : List Nam) → (with_slots of no_slots ns).shared ≡ filter_map (λ n. shared_in n (of n)) (distinct ns)
   shared_are ns =
-      shared_built ns (record { locals = []; shared = [] })
+      shared_built ns no_slots
       ∙ filter_all (first_of_each (λ e. e.0) (filter_map (λ n. shared_in n (of n)) ns))
       ∙ each (λ e. e.0) (λ n. shared_in n (of n)) (λ m x e. shared_is m x (of m) e) ns
 
-  both_are : (l : Layout) (ls : List Nam) (ss : List (Nam × CellId)) → l.locals ≡ ls → l.shared ≡ ss → l ≡ record { locals = ls; shared = ss }
-  both_are l ls ss e f = λ i. record { locals = e i; shared = f i }
-
-  are_built : (ns : List Nam)
-      → with_slots of (record { locals = []; shared = [] }) ns ≡ record { locals = filter (λ n. is_local (of n)) (distinct ns); shared = filter_map (λ n. shared_in n (of n)) (distinct ns) }
-  are_built ns = both_are (with_slots of (record { locals = []; shared = [] }) ns) _ _ (locals_are ns) (shared_are ns)
+  pub are_built : (ns : List Nam) → with_slots of no_slots ns ≡ layout_by of (distinct ns)
+  are_built ns = λ i. record { locals = locals_are ns i; shared = shared_are ns i }
 
 -- ---- slots of classes
 
 -- all slots of these classes, from the last class to the first
 abbrev pub all_names : DirectSlots → List ClassId → List Nam
 all_names of cs = names (flat_map of (latest_first cs))
-
--- the layout is built of all of them
-pub built : (of : DirectSlots) (cs : List ClassId) (f : Nam → Option SlotAllocation) → ((n : Nam) → f n ≡ allocation of (numbers cs) n)
-    → with_slots f (record { locals = []; shared = [] }) (all_names of cs) ≡ layout_of of (numbers cs)
-built of cs f e =
-    ap (λ g. with_slots g (record { locals = []; shared = [] }) (all_names of cs)) (λ i n. e n i)
-    ∙ are_built (λ n. allocation of (numbers cs) n) (all_names of cs)
-
-more_slots : (f : Nam → Option SlotAllocation) (l : Layout) (ns ms : List Nam) → with_slots f l (ns ++ ms) ≡ with_slots f (with_slots f l ns) ms
-more_slots f l [] ms = refl
-more_slots f l (n ∷ ns) ms = more_slots f (with_slot l n (f n)) ns ms
-
--- one class more
-pub next_class : (of : DirectSlots) (f : Nam → Option SlotAllocation) (l m : Layout) (cs : List ClassId) (c : ClassId) → m ≡ with_slots f l (names (of c.0))
-    → with_slots f m (all_names of cs) ≡ with_slots f l (all_names of (cs ++ c ∷ []))
-next_class of f l m cs c e =
-    ap (λ k. with_slots f k (all_names of cs)) e
-    ∙ sym (more_slots f l (names (of c.0)) (all_names of cs))
-    ∙ ap (with_slots f l) (sym (ap (λ xs. names (flat_map of xs)) (latest cs c) ∙ map-append (λ s. s.name) (of c.0) (flat_map of (latest_first cs))))

@@ -1,27 +1,21 @@
 -- What is kept of all classes.
 use Rattle.std.proofs.Common.{◌≡◌, ℕ, zero, suc, ◌==◌, ◌+◌, Bool, true, false, List, [], ◌∷◌, ◌++◌, Some, None, length, length-append, ◌<◌, ◌≤◌, arith, refl, ap, sym, subst, ◌∙◌}
 use Rattle.std.specs.Prelude.{nat_lt, unwrap_or}
-use Rattle.std.specs.HashMap.{get}
 use Rattle.std.specs.declared.alloc.Global.{Global}
 use Rattle.std.specs.declared.rc.Rc.{Rc}
 use Rattle.std.proofs.lemmas.Bool.{eqb-true, eqb-false, le-ltb, ltb-false, ltb-true}
 use Rattle.std.proofs.lemmas.Option.{slice_get_past}
-use Rattle.lisp_data.specs.Name.{same_name}
 use Rattle.clos_class_core.specs.Classes.{Classes, lacking, list_in, listing_within}
 use Rattle.clos_class.specs.declared.direct.ClassSlots.{ClassSlots}
-use Rattle.clos_class.specs.declared.effective.Effective.{Effective}
-use Rattle.clos_class.specs.Building.{or_no_names}
 use Rattle.clos_class.specs.Keeping.{Kept, Tells, TellsAll, kept_at, lists_of}
-use Rattle.clos_class.specs.Slots.{Defaults, DirectSlots}
+use Rattle.clos_class.specs.Slots.{Defaults, DirectSlots, Effective}
 use Rattle.clos_class.specs.SlotsView.{defaults, direct_slots}
 use Rattle.clos_class.proofs.Rowed.{end_here, end_other}
 
 -- what is told by what is shared is told by a copy
 pub copied : (of : DirectSlots) (ds : Defaults) (l : List ℕ) (e f : Rc Effective Global) → f.value ≡ e.value → Tells of ds l (Some e) → Tells of ds l (Some f)
 copied of ds l e f h t = record {
-  layout = ap (λ v. Some v.layout.value) h ∙ t.layout;
-  defaults = ap (λ v. v.defaults) h ∙ t.defaults;
-  initargs = λ name. ap (λ v. or_no_names (get same_name v.initargs name)) h ∙ t.initargs name;
+  kept = ap Some h ∙ t.kept;
 }
 
 at_end : (T : ℕ → Kept → Type 0) (ks : List Kept) (k : Kept) (n : ℕ) (b : Bool) → (n == length ks) ≡ b → n < length ks + 1 → ((m : ℕ) → m < length ks → T m (kept_at ks m)) → T (length ks) k → T n (kept_at (ks ++ k ∷ []) n)
@@ -52,7 +46,7 @@ none_past : (cs : Classes) (n : ℕ) → length cs.names ≤ n → lists_of cs n
 none_past cs n h = ap list_in (past_within (length cs.names + length cs.names) cs n (le-ltb n (length cs.names) h))
 
 none_told : (of : DirectSlots) (ds : Defaults) → Tells of ds [] None
-none_told of ds = record { layout = refl; defaults = refl; initargs = λ name. refl }
+none_told of ds = record { kept = refl }
 
 all_by : (rows : List ClassSlots) (cs : Classes) (ks : List Kept) (n : ℕ) (b : Bool) → nat_lt n (length ks) ≡ b → length ks ≡ length cs.names
     → ((m : ℕ) → m < length ks → Tells (direct_slots rows) (defaults rows) (lists_of cs m) (kept_at ks m)) → Tells (direct_slots rows) (defaults rows) (lists_of cs n) (kept_at ks n)

@@ -8,6 +8,8 @@ pub mod Placed
 pub mod Rowed
 pub mod Alike
 pub mod Lasting
+pub mod Combined
+pub mod Looked
 pub mod Needed
 pub mod Gathered
 pub mod Preparing

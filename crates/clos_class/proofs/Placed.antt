@@ -78,7 +78,7 @@ among_turned of n (c ∷ l) =
     ∙ ap (λ b. list_any (same_name n) (names (of c)) || b) (among_turned of n l)
     ∙ sym (among_two of n c l)
 
-among_accessible : (of : DirectSlots) (l : List ℕ) (n : Nam) → list_any (same_name n) (accessible of l) ≡ is_some (allocation of l n)
+pub among_accessible : (of : DirectSlots) (l : List ℕ) (n : Nam) → list_any (same_name n) (accessible of l) ≡ is_some (allocation of l n)
 among_accessible of l n = among_each n (names (flat_map of (reverse l))) ∙ among_turned of n l ∙ among_called n (flat_map of l)
 
 -- ---- what stands in a layout
@@ -171,6 +171,23 @@ each_distinct (n ∷ ns) =
     both_true (not (list_any (λ m. same_name m n) (filter (λ k. not (same_name n k)) (distinct ns)))) (are_distinct (filter (λ k. not (same_name n k)) (distinct ns)))
     (ap not (any-filter_same (λ m. same_name m n) (λ k. not (same_name n k)) false (λ k h. same_out n k h) (distinct ns)))
     (kept_distinct (λ k. not (same_name n k)) (distinct ns) (each_distinct ns))
+
+none_like : (n : Nam) (ns : List Nam) → not (list_any (λ m. same_name m n) ns) ≡ true → filter (λ m. not (same_name n m)) ns ≡ ns
+none_like n [] h = refl
+none_like n (m ∷ ns) h =
+    ap (λ b. cond b (m ∷ filter (λ k. not (same_name n k)) ns) (filter (λ k. not (same_name n k)) ns))
+    (ap not (turned n m) ∙ (not_or (same_name m n) (list_any (λ k. same_name k n) ns) h).0)
+    ∙ ap (λ l. m ∷ l) (none_like n ns (not_or (same_name m n) (list_any (λ k. same_name k n) ns) h).1)
+
+none_twice : (ns : List Nam) → are_distinct ns ≡ true → distinct ns ≡ ns
+none_twice [] h = refl
+none_twice (n ∷ ns) h =
+    ap (λ l. n ∷ l)
+    (ap (filter (λ m. not (same_name n m))) (none_twice ns (and_second (not (list_any (λ m. same_name m n) ns)) (are_distinct ns) h))
+    ∙ none_like n ns (and_first (not (list_any (λ m. same_name m n) ns)) (are_distinct ns) h))
+
+pub distinct_again : (ns : List Nam) → distinct (distinct ns) ≡ distinct ns
+distinct_again ns = none_twice (distinct ns) (each_distinct ns)
 
 key_kept : (m : Nam) (es : List (Nam × CellId)) (o : Option SlotAllocation) → keys_of (cons_option (shared_in m o) es) ≡ cond (is_some (shared_in m o)) (m ∷ keys_of es) (keys_of es)
 key_kept m es None = refl

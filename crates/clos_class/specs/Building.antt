@@ -1,4 +1,4 @@
--- How layouts and lists of initargs are built, one after another.
+-- How layouts, slots and lists of initargs are built, one after another.
 use Rattle.std.specs.Prelude.{not, List, [], ◌∷◌, ◌++◌, Option, Some, None, if◌then◌else◌}
 use Rattle.std.specs.List.{filter, list_any}
 use Rattle.std.specs.Map.{keys_of}
@@ -6,8 +6,10 @@ use Rattle.lisp_data.specs.Name.{Nam, same_name}
 use Rattle.lisp_data.specs.declared.ids.CellId.{CellId}
 use Rattle.clos_class.specs.declared.direct.SlotAllocation.{SlotAllocation}
 use Rattle.clos_class.specs.declared.direct.SlotAllocation.TheVariants.{Local, Shared}
+use Rattle.clos_forms.specs.Form.{Frm}
+use Rattle.clos_class.specs.declared.effective_slots.EffectiveSlot.{EffectiveSlot}
 use Rattle.clos_syntax.specs.declared.class.DefaultInitarg.{DefaultInitarg}
-use Rattle.clos_class.specs.Slots.{Layout, distinct, first_of_each}
+use Rattle.clos_class.specs.Slots.{Layout, cell_in, distinct, first_of_each}
 
 -- those whose names are not among these
 abbrev pub new_of : {X : Type 0} → (X → Nam) → List Nam → List X → List X
@@ -25,6 +27,9 @@ with_names ns more = ns ++ new_of (λ n. n) ns (distinct more)
 abbrev pub completed : List Nam → List DefaultInitarg → List DefaultInitarg → List DefaultInitarg
 completed known found ds = found ++ new_of (λ d. d.name) known (first_of_each (λ d. d.name) ds)
 
+abbrev pub no_slots : Layout
+no_slots = record { locals = []; shared = [] }
+
 abbrev pub with_cell : List (Nam × CellId) → Nam → CellId → List (Nam × CellId)
 with_cell es n c = if list_any (same_name n) (keys_of es) then es else es ++ (n, c) ∷ []
 
@@ -41,3 +46,7 @@ with_slots of l (n ∷ ns) = with_slots of (with_slot l n (of n)) ns
 abbrev pub or_no_names : Option (List Nam) → List Nam
 or_no_names None = []
 or_no_names (Some ns) = ns
+
+-- the slot of a name, where this is what its specifiers say
+abbrev pub slot_by : (Nam → Option SlotAllocation) → (Nam → List Nam) → (Nam → Option Frm) → Nam → EffectiveSlot
+slot_by allocation initargs initform n = record { name = n; cell = cell_in (allocation n); initargs = initargs n; initform = initform n }

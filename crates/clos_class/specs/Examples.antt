@@ -11,7 +11,7 @@ use Rattle.clos_syntax.specs.declared.slot.Allocation.TheVariants.{Instance, Cla
 use Rattle.clos_syntax.specs.declared.slot.SlotSpecifier.{SlotSpecifier}
 use Rattle.clos_class.specs.SlotsView.{direct_slots, says_nothing}
 use Rattle.clos_class.specs.Table.{Table, new_cells, with_definition}
-use Rattle.clos_class.specs.Slots.{DirectSlots, accessible, initargs, initform, layout_of}
+use Rattle.clos_class.specs.Slots.{DirectSlots, accessible, effective_slots, initargs, initform, layout_of}
 
 abbrev called : List ℕ → Nam
 called text = record { text = text; keyword = false }
@@ -47,6 +47,19 @@ initform_above f = refl
 
 all_initargs : (f : Frm) → initargs (points f) (2 ∷ 1 ∷ 0 ∷ []) (called (codes "COUNT")) ≡ called (codes "M") ∷ called (codes "N") ∷ []
 all_initargs f = refl
+
+slots_above : (f : Frm) → effective_slots (points f) (1 ∷ 0 ∷ [])
+    ≡ record { name = called (codes "X"); cell = None; initargs = called (codes "X") ∷ []; initform = Some f }
+    ∷ record { name = called (codes "COUNT"); cell = Some (record { 0 = 7 }); initargs = called (codes "N") ∷ []; initform = Some f }
+    ∷ []
+slots_above f = refl
+
+slots_below : (f : Frm) → effective_slots (points f) (2 ∷ 1 ∷ 0 ∷ [])
+    ≡ record { name = called (codes "X"); cell = None; initargs = called (codes "X") ∷ []; initform = Some f }
+    ∷ record { name = called (codes "COUNT"); cell = None; initargs = called (codes "M") ∷ called (codes "N") ∷ []; initform = Some f }
+    ∷ record { name = called (codes "Z"); cell = None; initargs = []; initform = None }
+    ∷ []
+slots_below f = refl
 
 -- ---- a table of classes: STANDARD-OBJECT alone, and then COUNTER with a shared slot COUNT and a local one
 

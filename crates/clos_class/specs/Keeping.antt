@@ -1,17 +1,12 @@
 -- What is kept of classes: what each has by its class precedence list.
-use Rattle.std.specs.Prelude.{◌≡◌, ℕ, suc, nat_lt, List, [], ◌∷◌, Option, Some, None, false, slice_get, unwrap_or, if◌then◌else◌}
-use Rattle.std.specs.HashMap.{get}
+use Rattle.std.specs.Prelude.{◌≡◌, ℕ, suc, nat_lt, List, [], ◌∷◌, Option, Some, None, false, option_map, slice_get, unwrap_or, if◌then◌else◌}
 use Rattle.std.specs.declared.alloc.Global.{Global}
 use Rattle.std.specs.declared.rc.Rc.{Rc}
-use Rattle.lisp_data.specs.Name.{Nam, same_name}
-use Rattle.clos_syntax.specs.declared.class.DefaultInitarg.{DefaultInitarg}
 use Rattle.clos_class_core.specs.Classes.{Classes, list_in, listing}
 use Rattle.clos_class_core.specs.Outlook.{Outlook, listing_then}
 use Rattle.clos_precedence.specs.Precedence.{has}
 use Rattle.clos_class.specs.declared.direct.ClassSlots.{ClassSlots}
-use Rattle.clos_class.specs.declared.effective.Effective.{Effective}
-use Rattle.clos_class.specs.Building.{or_no_names}
-use Rattle.clos_class.specs.Slots.{Defaults, DirectSlots, Layout, default_initargs, initargs, layout_of}
+use Rattle.clos_class.specs.Slots.{Defaults, DirectSlots, Effective, effective_of}
 use Rattle.clos_class.specs.SlotsView.{defaults, direct_slots}
 
 abbrev pub Kept : Type 0
@@ -20,28 +15,14 @@ Kept = Option (Rc Effective Global)
 abbrev pub kept_at : List Kept → ℕ → Kept
 kept_at ks n = unwrap_or (slice_get ks n) None
 
-abbrev pub kept_layout : Kept → Option Layout
-kept_layout None = None
-kept_layout (Some e) = Some e.value.layout.value
-
-abbrev pub kept_defaults : Kept → List DefaultInitarg
-kept_defaults None = []
-kept_defaults (Some e) = e.value.defaults
-
-abbrev pub kept_initargs : Kept → Nam → List Nam
-kept_initargs None name = []
-kept_initargs (Some e) name = or_no_names (get same_name e.value.initargs name)
-
--- the layout by a class precedence list; without one there is none
-abbrev pub layout_if : DirectSlots → List ℕ → Option Layout
-layout_if of [] = None
-layout_if of (n ∷ l) = Some (layout_of of (n ∷ l))
+-- what a class with this class precedence list has; without one it has nothing
+abbrev pub effective_if : DirectSlots → Defaults → List ℕ → Option Effective
+effective_if of given [] = None
+effective_if of given (n ∷ l) = Some (effective_of of given (n ∷ l))
 
 -- what is kept of a class with this class precedence list
 pub record Tells (of : DirectSlots) (given : Defaults) (l : List ℕ) (k : Kept) : Type 0 where
-  pub layout : kept_layout k ≡ layout_if of l
-  pub defaults : kept_defaults k ≡ default_initargs given l
-  pub initargs : (name : Nam) → kept_initargs k name ≡ initargs of l name
+  pub kept : option_map (λ e. e.value) k ≡ effective_if of given l
 
 -- what is kept of all classes, which have these lists
 abbrev pub TellsAll : List ClassSlots → (ℕ → List ℕ) → List Kept → Type 0

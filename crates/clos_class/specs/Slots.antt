@@ -9,6 +9,7 @@ use Rattle.clos_syntax.specs.declared.class.DefaultInitarg.{DefaultInitarg}
 use Rattle.clos_class.specs.declared.direct.DirectSlot.{DirectSlot}
 use Rattle.clos_class.specs.declared.direct.SlotAllocation.{SlotAllocation}
 use Rattle.clos_class.specs.declared.direct.SlotAllocation.TheVariants.{Local, Shared}
+use Rattle.clos_class.specs.declared.effective_slots.EffectiveSlot.{EffectiveSlot}
 
 -- of each class its direct slots, in written order
 abbrev pub DirectSlots : Type 0
@@ -98,3 +99,23 @@ layout_of of l = record {
   locals = filter (λ n. is_local (allocation of l n)) (accessible of l);
   shared = filter_map (λ n. shared_in n (allocation of l n)) (accessible of l);
 }
+
+-- ---- effective slots (AMOP 5.4): the accessible slots, as the instances of a class have them
+
+-- a shared slot has a cell
+abbrev pub effective_slot : DirectSlots → List ℕ → Nam → EffectiveSlot
+effective_slot of l name = record { name = name; cell = cell_in (allocation of l name); initargs = initargs of l name; initform = initform of l name }
+
+-- in layout order
+abbrev pub effective_slots : DirectSlots → List ℕ → List EffectiveSlot
+effective_slots of l = map (effective_slot of l) (accessible of l)
+
+-- ---- all that a class has by its class precedence list
+
+pub record Effective : Type 0 where
+  pub layout : Layout
+  pub slots : List EffectiveSlot
+  pub defaults : List DefaultInitarg
+
+abbrev pub effective_of : DirectSlots → Defaults → List ℕ → Effective
+effective_of of given l = record { layout = layout_of of l; slots = effective_slots of l; defaults = default_initargs given l }

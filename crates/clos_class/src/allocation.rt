@@ -4,12 +4,12 @@ ghost use Rattle.std.specs.Option.{option_or};
 ghost use Rattle.std.specs.HashMap.{get};
 ghost use Rattle.lisp_data.specs.Name.{Nam, same_name};
 ghost use Rattle.clos_precedence.specs.PrecedenceView.{numbers};
-ghost use Rattle.clos_class.specs.Slots.{allocation, called, first_allocation};
+ghost use Rattle.clos_class.specs.Slots.{allocation, called, cell_in, first_allocation};
 ghost use Rattle.clos_class.specs.SlotsView.{slots_in};
 
 use crate::direct::{DirectSlot, SlotAllocation};
 use crate::rows::Rows;
-use lisp_data::{ClassId, Name};
+use lisp_data::{CellId, ClassId, Name};
 use std::alloc::{AllocError, Global};
 use std::collections::HashMap;
 
@@ -55,4 +55,14 @@ pub fn allocations(
         left = others;
     }
     Ok(noted)
+}
+
+/// The cell of a slot, if by these allocations it is shared.
+pub fn cell_of(allocations: &HashMap<Name, SlotAllocation>, name: &Name) -> Option<CellId>
+    ensures { result ≡ cell_in (get same_name allocations.now name.now) }
+{
+    match allocations.get(name) {
+        Some(SlotAllocation::Shared(cell)) => Some(*cell),
+        _ => None,
+    }
 }

@@ -9,7 +9,7 @@ ghost use Rattle.clos_class.specs.Slots.{accessible, cell_in, names};
 ghost use Rattle.clos_class.specs.SlotsView.{direct_slot, direct_slots, slots_in};
 ghost use Rattle.clos_class.specs.Table.{cell_for, is_shared, needs_cell, new_cells, own_cell, said, with_row};
 
-use crate::allocation::allocations;
+use crate::allocation::{allocations, cell_of};
 use crate::defaults::copy_defaults;
 use crate::definition::is_shared;
 use crate::direct::{ClassSlots, DirectSlot, SlotAllocation};
@@ -28,20 +28,10 @@ pub struct Cells {
     pub new: NameSet,
 }
 
-/// The cell of a slot that is shared by these allocations.
-fn own_cell(own: &HashMap<Name, SlotAllocation>, name: &Name) -> Option<CellId>
-    ensures { result ≡ cell_in (get same_name own.now name.now) }
-{
-    match own.get(name) {
-        Some(SlotAllocation::Shared(cell)) => Some(*cell),
-        _ => None,
-    }
-}
-
 fn lacks_cell(own: &HashMap<Name, SlotAllocation>, slot: &SlotSpecifier) -> bool
     ensures { result ≡ (is_shared slot.now.allocation && not (is_some (cell_in (get same_name own.now slot.now.name)))) }
 {
-    is_shared(slot.allocation) && own_cell(own, &slot.name).is_none()
+    is_shared(slot.allocation) && cell_of(own, &slot.name).is_none()
 }
 
 /// The shared slots that have no cell.
@@ -142,7 +132,7 @@ impl Cells {
     fn of(&self, name: &Name, cells: &[CellId]) -> CellId
         ensures { result ≡ cell_for (λ m. cell_in (get same_name self.now.own m)) self.now.new cells.now name.now }
     {
-        match own_cell(&self.own, name) {
+        match cell_of(&self.own, name) {
             Some(cell) => cell,
             None => match self.new.place_of(name) {
                 None => CellId(0),

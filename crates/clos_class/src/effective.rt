@@ -1,51 +1,77 @@
 //! What a class has by its class precedence list (AMOP 5.4).
-ghost use Rattle.std.specs.Prelude.{◌≡◌, IfOk};
-ghost use Rattle.std.specs.HashMap.{get};
-ghost use Rattle.std.specs.List.{list_any};
+ghost use Rattle.std.specs.Prelude.{◌≡◌, IfOk, option_copied};
+ghost use Rattle.std.specs.List.{find};
 ghost use Rattle.lisp_data.specs.Name.{same_name};
 ghost use Rattle.clos_precedence.specs.PrecedenceView.{numbers};
-ghost use Rattle.clos_class.specs.Building.{or_no_names};
 ghost use Rattle.clos_class.specs.Keeping.{Tells};
 ghost use Rattle.clos_class.specs.SlotsView.{defaults_in, slots_in};
 
+use crate::accessible::accessible;
 use crate::defaults::default_initargs;
+use crate::effective_slots::{EffectiveSlot, Specified};
 use crate::layout::{Layout, layout_of};
-use crate::names::is_among;
+use crate::names::NameSet;
 use crate::rows::Rows;
-use crate::slot_initargs::all_initargs;
 use clos_syntax::{DefaultInitarg, Sequence};
 use lisp_data::{ClassId, Name};
 use std::alloc::{AllocError, Global};
-use std::collections::HashMap;
+use std::marker::Model;
 use std::rc::Rc;
 
-/// The layout, the initargs of the slots that have some, and the default initargs of a class.
+/// The layout of a class, its slots, whose places are found by their names, and its default initargs.
 #[derive(Drop)]
 pub struct Effective {
-    pub layout: Rc<Layout>,
-    pub initargs: HashMap<Name, Sequence<Name>>,
-    pub defaults: Sequence<DefaultInitarg>,
+    layout: Rc<Layout>,
+    names: NameSet,
+    slots: Sequence<EffectiveSlot>,
+    defaults: Sequence<DefaultInitarg>,
+}
+
+impl Model for Effective {
+    ghost use Rattle.std.specs.Prelude.{◌≡◌, map};
+    ghost use Rattle.std.specs.Coded.{codes};
+    ghost use Rattle.clos_forms.specs.contracts.form.Form as form;
+    ghost use Rattle.clos_class.specs.Slots.{Effective as Whole};
+
+    ghost Value = { Whole };
+
+    ghost coded = { Prim.hlevel (codes, form.the_row.coded) };
+
+    ghost view = { λ a. record { layout = a.layout.value; slots = a.slots; defaults = a.defaults } };
+
+    ghost invariant = { λ a. a.names ≡ map (λ s. s.name) a.slots };
 }
 
 impl Effective {
-    /// The initargs of a slot.
-    pub fn initargs_of(&self, slot: &Name) -> &[Name]
-        ensures { result.now ≡ or_no_names (get same_name self.now.initargs slot.now) }
+    /// The layout of its instances.
+    pub fn layout(&self) -> &Rc<Layout>
+        ensures { result.now.value ≡ self.now.layout }
     {
-        match self.initargs.get(slot) {
-            None => &[],
-            Some(names) => names.as_slice(),
+        &self.layout
+    }
+
+    /// Its accessible slots, local and shared ones, in layout order.
+    pub fn slots(&self) -> &[EffectiveSlot]
+        ensures { result.now ≡ self.now.slots }
+    {
+        self.slots.as_slice()
+    }
+
+    /// Its slot of this name.
+    pub fn slot(&self, name: &Name) -> Option<&EffectiveSlot>
+        ensures { option_copied result ≡ find (λ s. same_name name.now s.name) self.now.slots }
+    {
+        match self.names.place_of(name) {
+            None => None,
+            Some(place) => self.slots.as_slice().get(place),
         }
     }
 
-    /// Whether a slot has this initarg.
-    pub fn is_initarg(&self, slot: &Name, initarg: &Name) -> bool
-        ensures { result ≡ list_any (same_name initarg.now) (or_no_names (get same_name self.now.initargs slot.now)) }
+    /// Its default initargs.
+    pub fn defaults(&self) -> &[DefaultInitarg]
+        ensures { result.now ≡ self.now.defaults }
     {
-        match self.initargs.get(slot) {
-            None => false,
-            Some(names) => is_among(names.as_slice(), initarg),
-        }
+        self.defaults.as_slice()
     }
 }
 
@@ -60,12 +86,16 @@ pub fn find_effective(
     if list.len() == 0 {
         return Ok(None);
     }
-    let layout = Rc::new(alloc, layout_of(alloc, classes, list)?)?;
-    let initargs = all_initargs(alloc, classes, list)?;
+    let specified = Specified::find(alloc, classes, list)?;
+    let names = accessible(alloc, classes, list)?;
+    let layout = layout_of(alloc, &specified.allocations, names.as_slice())?;
+    let layout = Rc::new(alloc, layout)?;
+    let slots = specified.slots(alloc, names.as_slice())?;
     let defaults = default_initargs(alloc, classes, list)?;
     let effective = Effective {
         layout,
-        initargs,
+        names,
+        slots,
         defaults,
     };
     Ok(Some(Rc::new(alloc, effective)?))

@@ -1,19 +1,14 @@
 //! Layouts: where the slots of an instance are kept (HyperSpec 7.5.3).
-ghost use Rattle.std.specs.Prelude.{◌≡◌, [], IfOk, OnOk, length, option_copied, option_map, position, slice_get};
+ghost use Rattle.std.specs.Prelude.{◌≡◌, IfOk, OnOk, length, option_copied, option_map, position, slice_get};
 ghost use Rattle.std.specs.Map.{lookup};
 ghost use Rattle.std.specs.HashMap.{get};
 ghost use Rattle.lisp_data.specs.Name.{same_name};
-ghost use Rattle.clos_precedence.specs.PrecedenceView.{numbers};
-ghost use Rattle.clos_class.specs.Slots.{layout_of, names};
-ghost use Rattle.clos_class.specs.SlotsView.{slots_in};
-ghost use Rattle.clos_class.specs.Building.{with_slot, with_slots};
+ghost use Rattle.clos_class.specs.Building.{no_slots, with_slot, with_slots};
 
-use crate::allocation::allocations;
-use crate::direct::{DirectSlot, SlotAllocation};
+use crate::direct::SlotAllocation;
 use crate::names::NameSet;
-use crate::rows::Rows;
 use indexmap::IndexMap;
-use lisp_data::{CellId, ClassId, Name};
+use lisp_data::{CellId, Name};
 use std::alloc::{AllocError, Global};
 use std::collections::HashMap;
 use std::marker::Model;
@@ -36,7 +31,7 @@ impl Model for Layout {
 impl Layout {
     /// No slots.
     fn new(alloc: Global) -> Layout
-        ensures { result ≡ record { locals = []; shared = [] } }
+        ensures { result ≡ no_slots }
     {
         Layout {
             locals: NameSet::new(alloc),
@@ -104,32 +99,18 @@ impl Layout {
     }
 }
 
-/// Adds the slots of a class, in written order.
-fn add_all(
-    layout: &mut Layout,
+/// The layout of slots that have these names in layout order, and these allocations.
+pub fn layout_of(
+    alloc: Global,
     allocations: &HashMap<Name, SlotAllocation>,
-    slots: &[DirectSlot],
-) -> Result<(), AllocError>
-    ensures { OnOk result (layout.new ≡ with_slots (λ n. get same_name allocations.now n) layout.old (names slots.now)) }
+    names: &[Name],
+) -> Result<Layout, AllocError>
+    ensures { IfOk result (λ r. r ≡ with_slots (λ n. get same_name allocations.now n) no_slots names.now) }
 {
-    let mut left = slots;
-    while let Some((slot, others)) = left.split_first() {
-        layout.add(&slot.name, allocations.get(&slot.name).copied())?;
-        left = others;
-    }
-    Ok(())
-}
-
-/// The layout of a class with this class precedence list.
-#[tactic(auto, using(crate::proofs::Built::built, crate::proofs::Built::next_class))]
-pub fn layout_of(alloc: Global, classes: &Rows<'_>, list: &[ClassId]) -> Result<Layout, AllocError>
-    ensures { IfOk result (λ r. r ≡ layout_of (slots_in classes.now) (numbers list.now)) }
-{
-    let allocations = allocations(alloc, classes, list)?;
     let mut layout = Layout::new(alloc);
-    let mut left = list;
-    while let Some((class, others)) = left.split_last() {
-        add_all(&mut layout, &allocations, classes.slots(*class))?;
+    let mut left = names;
+    while let Some((name, others)) = left.split_first() {
+        layout.add(name, allocations.get(name).copied())?;
         left = others;
     }
     Ok(layout)

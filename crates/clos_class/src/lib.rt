@@ -1,12 +1,14 @@
 //! The classes of a session with the slots that they have by their class precedence lists (HyperSpec 4.3.4, 7.5.3).
 #![tactic(auto)]
 
+mod accessible;
 mod allocation;
 mod cells;
 mod defaults;
 mod definition;
 mod direct;
 mod effective;
+mod effective_slots;
 mod initforms;
 mod keep;
 pub mod laws;
@@ -19,6 +21,8 @@ mod table;
 
 pub use clos_class_core::{Changed, ClassFault};
 pub use direct::{ClassSlots, DirectSlot, SlotAllocation};
+pub use effective::Effective;
+pub use effective_slots::EffectiveSlot;
 pub use layout::Layout;
 pub use names::NameSet;
 pub use reserve::{NewCell, Reserved};

@@ -15,7 +15,7 @@ use crate::cells::Cells;
 use crate::definition::{has_shared_slots, is_unambiguous};
 use crate::direct::ClassSlots;
 use crate::effective::Effective;
-use crate::initforms::initform;
+use crate::initforms::{copy_initform, initforms};
 use crate::keep::keep_then;
 use crate::names::{NameSet, copy_names};
 use crate::rows::Rows;
@@ -65,20 +65,6 @@ pub fn check(
     )
 }
 
-/// The form of a slot's first value, for a class with this class precedence list.
-fn copy_initform(
-    classes: &Rows<'_>,
-    list: &[ClassId],
-    slot: &Name,
-) -> Result<Option<Form>, AllocError>
-    ensures { IfOk result (λ r. r ≡ initform (slots_in classes.now) (numbers list.now) slot.now) }
-{
-    match initform(classes, list, slot) {
-        None => Ok(None),
-        Some(form) => Ok(Some(form.copy()?)),
-    }
-}
-
 /// Slots with their initforms, for a class with this class precedence list.
 fn with_initforms(
     alloc: Global,
@@ -88,12 +74,13 @@ fn with_initforms(
 ) -> Result<Sequence<NewCell>, AllocError>
     ensures { IfOk result (λ r. r ≡ map (λ n. record { slot = n; initform = initform (slots_in classes.now) (numbers list.now) n }) slots.now) }
 {
+    let initforms = initforms(alloc, classes, list)?;
     let mut cells = Sequence::new(alloc);
     let mut left = slots;
     while let Some((name, others)) = left.split_first() {
         cells.push(NewCell {
             slot: name.copy()?,
-            initform: copy_initform(classes, list, name)?,
+            initform: copy_initform(&initforms, name)?,
         })?;
         left = others;
     }

@@ -66,3 +66,13 @@ pub fn all_initargs(
     }
     Ok(found)
 }
+
+/// The initargs of a slot, or none where these have none.
+pub fn initargs_of<'a>(initargs: &'a HashMap<Name, Sequence<Name>>, slot: &Name) -> &'a [Name]
+    ensures { result.now ≡ or_no_names (get same_name initargs.now slot.now) }
+{
+    match initargs.get(slot) {
+        None => &[],
+        Some(names) => names.as_slice(),
+    }
+}

@@ -1,6 +1,6 @@
 //! A session's table of classes, with the slots that each has (HyperSpec 4.3, 7.5.3).
 ghost use Rattle.std.specs.Prelude.{◌≡◌, ◌↔◌, ◌<◌, ℕ, true, None, IfOk, IfErr, IfSome, IsNone, IsTrue, OnOk, OnErr, length, option_map, option_copied, slice_get, replicate, vec_len, vec_capacity};
-ghost use Rattle.std.specs.List.{list_any};
+ghost use Rattle.std.specs.List.{find, list_any};
 ghost use Rattle.lisp_data.specs.Name.{same_name};
 ghost use Rattle.clos_class_core.specs.Classes.{named, listing, list_in};
 ghost use Rattle.clos_class_core.specs.Initial.{is_standard, class_of_class};
@@ -9,19 +9,18 @@ ghost use Rattle.clos_precedence.specs.PrecedenceView.{numbers};
 ghost use Rattle.clos_class_core.specs.Table.{changed, list_if};
 ghost use Rattle.clos_class_core.specs.TableView.{Refuses, IsListOf};
 ghost use Rattle.clos_class_core.specs.Ways.{IsSuperclass, IsSelfOrAbove, IsComplete, IsIncomplete};
-ghost use Rattle.clos_class.specs.Slots.{default_initargs, initargs, initform, layout_of};
+ghost use Rattle.clos_class.specs.Slots.{default_initargs, effective_of, effective_slots, initargs, initform, layout_of};
 ghost use Rattle.clos_class.specs.SlotsView.{defaults, direct_slots, says_nothing};
 ghost use Rattle.clos_class.specs.Table.{cells_to_make, classes_with, initial, is_unambiguous, list_with, number, refusal, with_definition, with_row};
 
 use crate::definition::has_shared_slots;
 use crate::direct::ClassSlots;
 use crate::effective::Effective;
-use crate::initforms::initform;
+use crate::effective_slots::EffectiveSlot;
 use crate::keep::{keep_first, kept_at};
 use crate::layout::Layout;
-use crate::names::copy_names;
+use crate::names::{copy_names, is_among};
 use crate::reserve::{Reserved, cells_to_make, check, prepare};
-use crate::rows::Rows;
 use clos_class_core::{Changed, ClassFault};
 use clos_forms::Form;
 use clos_syntax::{ClassDefinition, DefaultInitarg};
@@ -214,13 +213,31 @@ impl Classes {
         self.table.class_of_class(class)
     }
 
+    /// What a class has by its class precedence list, if it has one (AMOP 5.4). Who goes on with it while classes are
+    /// defined keeps a clone.
+    pub fn effective(&self, class: ClassId) -> Option<&Rc<Effective>>
+        ensures { option_map (λ e. e.now.value) result ≡ option_map (effective_of (direct_slots self.now.slots) (defaults self.now.slots)) (list_if (listing self.now.table.classes class.0)) }
+    {
+        kept_at(&self.kept, class.0 as usize)
+    }
+
+    /// The slot of this name, as the instances of a class have it.
+    pub fn slot(&self, class: ClassId, slot: &Name) -> Option<&EffectiveSlot>
+        ensures { option_copied result ≡ find (λ s. same_name slot.now s.name) (effective_slots (direct_slots self.now.slots) (list_in (listing self.now.table.classes class.0))) }
+    {
+        match self.effective(class) {
+            None => None,
+            Some(effective) => effective.slot(slot),
+        }
+    }
+
     /// The layout of a class's instances, if it has a class precedence list.
     pub fn layout(&self, class: ClassId) -> Option<&Rc<Layout>>
         ensures { option_map (λ l. l.now.value) result ≡ option_map (layout_of (direct_slots self.now.slots)) (list_if (listing self.now.table.classes class.0)) }
     {
-        match kept_at(&self.kept, class.0 as usize) {
+        match self.effective(class) {
             None => None,
-            Some(kept) => Some(&kept.layout),
+            Some(effective) => Some(effective.layout()),
         }
     }
 
@@ -228,9 +245,9 @@ impl Classes {
     pub fn initargs(&self, class: ClassId, slot: &Name) -> &[Name]
         ensures { result.now ≡ initargs (direct_slots self.now.slots) (list_in (listing self.now.table.classes class.0)) slot.now }
     {
-        match kept_at(&self.kept, class.0 as usize) {
+        match self.slot(class, slot) {
             None => &[],
-            Some(kept) => kept.initargs_of(slot),
+            Some(found) => found.initargs.as_slice(),
         }
     }
 
@@ -238,30 +255,26 @@ impl Classes {
     pub fn is_initarg(&self, class: ClassId, slot: &Name, initarg: &Name) -> bool
         ensures { result ≡ list_any (same_name initarg.now) (initargs (direct_slots self.now.slots) (list_in (listing self.now.table.classes class.0)) slot.now) }
     {
-        match kept_at(&self.kept, class.0 as usize) {
-            None => false,
-            Some(kept) => kept.is_initarg(slot, initarg),
-        }
+        is_among(self.initargs(class, slot), initarg)
     }
 
     /// The initform of a slot of a class.
     pub fn initform(&self, class: ClassId, slot: &Name) -> Option<&Form>
         ensures { option_copied result ≡ initform (direct_slots self.now.slots) (list_in (listing self.now.table.classes class.0)) slot.now }
     {
-        initform(
-            &Rows::kept(&self.rows),
-            self.table.precedence_or_none(class),
-            slot,
-        )
+        match self.slot(class, slot) {
+            None => None,
+            Some(found) => found.initform.as_ref(),
+        }
     }
 
     /// The default initargs of a class.
     pub fn defaults(&self, class: ClassId) -> &[DefaultInitarg]
         ensures { result.now ≡ default_initargs (defaults self.now.slots) (list_in (listing self.now.table.classes class.0)) }
     {
-        match kept_at(&self.kept, class.0 as usize) {
+        match self.effective(class) {
             None => &[],
-            Some(kept) => kept.defaults.as_slice(),
+            Some(effective) => effective.defaults(),
         }
     }
 }

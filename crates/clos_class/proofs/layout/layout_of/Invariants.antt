@@ -1,16 +1,11 @@
 use Rattle.std.proofs.Common.{◌≡◌, length}
 use Rattle.std.specs.HashMap.{get}
 use Rattle.lisp_data.specs.Name.{same_name}
-use Rattle.clos_precedence.specs.PrecedenceView.{numbers}
-use Rattle.clos_class.specs.Slots.{layout_of}
-use Rattle.clos_class.specs.SlotsView.{slots_in}
-use Rattle.clos_class.specs.Building.{with_slots}
-use Rattle.clos_class.proofs.Built.{all_names}
+use Rattle.clos_class.specs.Building.{no_slots, with_slots}
 use Rattle.clos_class.proofs.layout.layout_of.Given as goal
 
-abbrev pub invariant-loop-class : goal.invariant-loop-class
-invariant-loop-class l =
-    with_slots (λ n. get same_name l.allocations n) l.layout (all_names (slots_in l.fn.classes) l.left) ≡ layout_of (slots_in l.fn.classes) (numbers l.fn.list)
+abbrev pub invariant-loop-name : goal.invariant-loop-name
+invariant-loop-name l = with_slots (λ n. get same_name l.fn.allocations n) l.layout l.left ≡ with_slots (λ n. get same_name l.fn.allocations n) no_slots l.fn.names
 
-abbrev pub decreases-loop-class : goal.decreases-loop-class
-decreases-loop-class l = length l.left
+abbrev pub decreases-loop-name : goal.decreases-loop-name
+decreases-loop-name l = length l.left
