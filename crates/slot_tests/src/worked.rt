@@ -1,7 +1,7 @@
 //! Worked examples, each line a `defclass` or a question, and what it comes to.
-use clos_class::{ClassFault, Classes, Layout, Reserved};
+use clos_class::{ClassFault, Classes, Effective, Layout, Reserved};
 use clos_forms::{Form, Operator};
-use clos_syntax::{ClassDefinition, Top, parse_top};
+use clos_syntax::{ClassDefinition, DefaultInitarg, Top, parse_top};
 use lisp_data::{CellId, ClassId, Name, Value};
 use lisp_reader::read_form;
 use std::alloc::{AllocError, Global};
@@ -73,6 +73,23 @@ const DEFAULTS: &str = "(defclass a () () (:default-initargs :x 1 :y 2)) => A
 ? A =>
 ";
 
+/// All slots of a class, local and shared ones, in layout order.
+const EFFECTIVE: &str =
+    "(defclass a () ((x :initarg :x :initform 1) (n :allocation :class :initform 2 :initarg :n))) => N=2: A
+(defclass b (a) ((y :initarg :y) (n :initform 3))) => B
+(defclass c (a) ((m :allocation :class :initform 4) (x :initarg :c-x) (n :allocation :class :initarg :c-n)) (:default-initargs :y 6)) => N=2 M=4: C
+(defclass d (b c) ((z :initform 5))) => D
+slots A => X=1[:X] N@0=2[:N]
+slots B => X=1[:X] N=3[:N] Y[:Y]
+slots C => X=1[:C-X :X] N@1=2[:C-N :N] M@2=4 :Y 6
+slots D => X=1[:C-X :X] N=3[:C-N :N] M@2=4 Y[:Y] Z=5 :Y 6
+(defclass a () (x)) =>
+slots D => X[:C-X] M@2=4 N=3[:C-N] Y[:Y] Z=5 :Y 6
+(defclass e (f) (x)) =>
+slots E => none
+slots STANDARD-OBJECT =>
+";
+
 /// A refused definition changes nothing.
 const REFUSED: &str = "(defclass a () ((x :allocation :class))) => X: A
 (defclass b (a) (y)) => B
@@ -136,6 +153,19 @@ fn write_names(line: &mut String, classes: &Classes, list: &[ClassId]) -> Result
     Ok(())
 }
 
+fn write_initargs(line: &mut String, initargs: &[Name]) -> Result<(), AllocError> {
+    let mut before = '[';
+    for initarg in initargs {
+        line.push(before)?;
+        write_name(line, initarg)?;
+        before = ' ';
+    }
+    if before == ' ' {
+        line.push(']')?;
+    }
+    Ok(())
+}
+
 /// A slot of a class after its name: its initform and its initargs.
 fn write_slot(
     alloc: Global,
@@ -145,19 +175,13 @@ fn write_slot(
     slot: &Name,
 ) -> Result<(), AllocError> {
     write_form(alloc, line, "=", classes.initform(class, slot))?;
-    let mut before = '[';
-    for initarg in classes.initargs(class, slot) {
-        line.push(before)?;
-        write_name(line, initarg)?;
+    let initargs = classes.initargs(class, slot);
+    for initarg in initargs {
         if !classes.is_initarg(class, slot, initarg) || classes.is_initarg(class, initarg, slot) {
             line.push('!')?;
         }
-        before = ' ';
     }
-    if before == ' ' {
-        line.push(']')?;
-    }
-    Ok(())
+    write_initargs(line, initargs)
 }
 
 /// The slots of a layout in order, the shared ones with their cells.
@@ -185,6 +209,53 @@ fn write_layout(
     Ok(())
 }
 
+fn write_defaults(
+    alloc: Global,
+    line: &mut String,
+    defaults: &[DefaultInitarg],
+) -> Result<(), AllocError> {
+    for default in defaults {
+        line.push(' ')?;
+        write_name(line, &default.name)?;
+        write_form(alloc, line, " ", Some(&default.form))?;
+    }
+    Ok(())
+}
+
+/// The slots of a class in layout order, the shared ones with their cells, and its default initargs.
+fn write_effective(
+    alloc: Global,
+    line: &mut String,
+    effective: &Effective,
+) -> Result<(), AllocError> {
+    for slot in effective.slots() {
+        line.push(' ')?;
+        write_name(line, &slot.name)?;
+        if let Some(cell) = slot.cell {
+            line.push_str(format!(in alloc; "@{}", cell.0)?.as_str())?;
+        }
+        write_form(alloc, line, "=", slot.initform.as_ref())?;
+        write_initargs(line, slot.initargs.as_slice())?;
+    }
+    write_defaults(alloc, line, effective.defaults())
+}
+
+/// All slots of the class of this name.
+fn write_slots(
+    alloc: Global,
+    line: &mut String,
+    classes: &Classes,
+    name: &Name,
+) -> Result<(), AllocError> {
+    let Some(class) = classes.named(name) else {
+        return line.push_str(" undefined");
+    };
+    match classes.effective(class) {
+        None => line.push_str(" none"),
+        Some(effective) => write_effective(alloc, line, effective),
+    }
+}
+
 /// What the class of this name has.
 fn write_class(
     alloc: Global,
@@ -199,12 +270,7 @@ fn write_class(
         None => line.push_str(" no layout")?,
         Some(layout) => write_layout(alloc, line, classes, class, layout)?,
     }
-    for default in classes.defaults(class) {
-        line.push(' ')?;
-        write_name(line, &default.name)?;
-        write_form(alloc, line, " ", Some(&default.form))?;
-    }
-    Ok(())
+    write_defaults(alloc, line, classes.defaults(class))
 }
 
 fn write_fault(line: &mut String, fault: &ClassFault) -> Result<(), AllocError> {
@@ -279,7 +345,8 @@ fn define(
     }
 }
 
-/// What a line comes to: a definition's answer, or after `?` what a class has.
+/// What a line comes to: a definition's answer, or what a class has, after `?` slot by slot as the layout has them, and
+/// after `slots` as they are kept together.
 fn outcome(
     alloc: Global,
     classes: &mut Classes,
@@ -289,6 +356,10 @@ fn outcome(
     let mut line = String::new(alloc);
     if let Some(name) = form.strip_prefix("? ") {
         write_class(alloc, &mut line, classes, &Name::new(alloc, name, false)?)?;
+        return Ok(line);
+    }
+    if let Some(name) = form.strip_prefix("slots ") {
+        write_slots(alloc, &mut line, classes, &Name::new(alloc, name, false)?)?;
         return Ok(line);
     }
     match definition(alloc, form)? {
@@ -318,6 +389,7 @@ const SCRIPTS: &[(u64, &str)] = &[
     (8, SHARED),
     (8, NEW_CELLS),
     (8, DEFAULTS),
+    (8, EFFECTIVE),
     (3, REFUSED),
 ];
 
@@ -327,6 +399,35 @@ fn classes_have_slots(rt: HostRuntime) -> Result<(), Fail> {
         let lines = transcript(rt.alloc(), *limit, script)?;
         assert_eq!(rt; lines.as_str(), *script);
     }
+    Ok(())
+}
+
+/// What a class has stays with who holds it, when the class is defined again.
+#[test]
+fn held_slots_stay(rt: HostRuntime) -> Result<(), Fail> {
+    let alloc = rt.alloc();
+    let mut classes = Classes::new(alloc, 1)?;
+    let mut line = String::new(alloc);
+    let mut made = 0;
+    let first = "(defclass a () ((x :initform 1) y) (:default-initargs :y 2))";
+    if let Some(first) = definition(alloc, first)? {
+        define(alloc, &mut line, &mut classes, &first, &mut made)?;
+    }
+    let held = match classes.named(&Name::fixed(&"A")) {
+        None => None,
+        Some(class) => match classes.effective(class) {
+            None => None,
+            Some(effective) => Some(effective.clone()?),
+        },
+    };
+    if let Some(second) = definition(alloc, "(defclass a () (z))")? {
+        define(alloc, &mut line, &mut classes, &second, &mut made)?;
+    }
+    if let Some(held) = &held {
+        write_effective(alloc, &mut line, held)?;
+    }
+    write_slots(alloc, &mut line, &classes, &Name::fixed(&"A"))?;
+    assert_eq!(rt; line.as_str(), " A X=1 Y :Y 2 Z");
     Ok(())
 }
 
