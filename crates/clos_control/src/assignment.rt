@@ -10,15 +10,15 @@ ghost use Rattle.clos_world.specs.World.{State, seen};
 ghost use Rattle.clos_machine.specs.Assignment.{stored, stored_globally, stored_only, made_of, changed, changed_only};
 ghost use Rattle.clos_machine.specs.Fault.{answered};
 ghost use Rattle.clos_machine.specs.Machine.{Leads, Turns, Grows, Becomes, at, inside, lift, targets};
-ghost use Rattle.clos_machine.specs.Meaning.{meaning, acted, alone, collect, collected, setq, setf, assigned, with_amount, changed_from, set_call, changing, changed_place, place_in};
+ghost use Rattle.clos_machine.specs.Meaning.{meaning, acted, alone, collect, collected, setq, setf, assigned, with_amount, changed_from, set_place, changing, changed_by, place_in};
 ghost use Rattle.clos_machine.specs.Outcome.{Run, then_do};
-ghost use Rattle.clos_machine.specs.declared.machine.Action.TheVariants.{NewValue, Store};
+ghost use Rattle.clos_machine.specs.declared.machine.Action.TheVariants.{Amount, NewValue, Store};
 
 use crate::binding::value_of_variable;
 use crate::control::{act_under, begin_under, collect_next, done};
 use clos_forms::{Form, Forms, Operator, Place};
 use clos_machine::fault::of_function;
-use clos_machine::machine::{Action, Doing, Frame, Machine, Task};
+use clos_machine::machine::{Action, Doing, Frame, Machine, Target, Task};
 use clos_world::{ConditionKind, Stop, Values, World, about_name, plain};
 use lisp_data::{Name, Value};
 use lisp_prims::Primitive;
@@ -171,8 +171,11 @@ fn set_to(
 {
     match place {
         Place::Variable(name) => set_variable(alloc, machine, name, form, others),
-        Place::SlotValue => Err(Stop::Refused(plain(alloc, ConditionKind::Unsupported))),
-        Place::Call(name) => set_through(alloc, machine, name, parts, form, others),
+        Place::SlotValue => set_through(alloc, machine, Target::SlotValue, parts, form, others),
+        Place::Call(name) => {
+            let target = Target::Call(name.copy()?);
+            set_through(alloc, machine, target, parts, form, others)
+        }
     }
 }
 
@@ -196,82 +199,80 @@ fn set_variable(
     begin_under(machine, Task::Plain(value), inner, Frame::Setf(others))
 }
 
-/// What a call is set by gets the call's arguments and the value of a form; then the next one of these places its own.
+/// A place with arguments gets the value of a form, which comes after them; then the next one of these places its own.
 fn set_through(
     alloc: Global,
     machine: &mut Machine,
-    name: &Name,
+    target: Target,
     parts: &Forms,
     form: &Form,
     others: &Forms,
 ) -> Result<Doing, Stop>
     ensures leads { (run : Run) (w : State)
-        → ((t : ℕ) → then_do (collected (meaning machine.old.room) machine.old.context parts.now (NewValue name.now form.now) (at machine.old w) t) (λ u. setf (meaning machine.old.room) machine.old.context others.now u) ≡ run (at machine.old w) t)
+        → ((t : ℕ) → then_do (collected (meaning machine.old.room) machine.old.context parts.now (NewValue target form.now) (at machine.old w) t) (λ u. setf (meaning machine.old.room) machine.old.context others.now u) ≡ run (at machine.old w) t)
         → Leads (inside machine.old run) w result machine.new }
     ensures small { Grows 6 machine.old.levels result machine.new }
 {
     match parts.split_first() {
-        None => set_alone(alloc, machine, name, form, others),
-        Some((first, rest)) => set_after(alloc, machine, name, first, rest, form, others),
+        None => set_alone(alloc, machine, target, form, others),
+        Some((first, rest)) => set_after(alloc, machine, target, first, rest, form, others),
     }
 }
 
 fn set_alone(
     alloc: Global,
     machine: &mut Machine,
-    name: &Name,
+    target: Target,
     form: &Form,
     others: &Forms,
 ) -> Result<Doing, Stop>
     ensures leads { (run : Run) (w : State)
-        → ((t : ℕ) → then_do (collected (meaning machine.old.room) machine.old.context nil (NewValue name.now form.now) (at machine.old w) t) (λ u. setf (meaning machine.old.room) machine.old.context others.now u) ≡ run (at machine.old w) t)
+        → ((t : ℕ) → then_do (collected (meaning machine.old.room) machine.old.context nil (NewValue target form.now) (at machine.old w) t) (λ u. setf (meaning machine.old.room) machine.old.context others.now u) ≡ run (at machine.old w) t)
         → Leads (inside machine.old run) w result machine.new }
     ensures small { Grows 6 machine.old.levels result machine.new }
 {
     let value = form.copy()?;
-    let name = name.copy()?;
     let others = others.copy()?;
-    let inner = Frame::Collect(Action::CallSetter(name), Forms::new(), Values::new(alloc));
+    let inner = Frame::Collect(Action::Set(target), Forms::new(), Values::new(alloc));
     begin_under(machine, Task::Plain(value), inner, Frame::Setf(others))
 }
 
 fn set_after(
     alloc: Global,
     machine: &mut Machine,
-    name: &Name,
+    target: Target,
     first: &Form,
     rest: &Forms,
     form: &Form,
     others: &Forms,
 ) -> Result<Doing, Stop>
     ensures leads { (run : Run) (w : State)
-        → ((t : ℕ) → then_do (collected (meaning machine.old.room) machine.old.context (cons first.now rest.now) (NewValue name.now form.now) (at machine.old w) t) (λ u. setf (meaning machine.old.room) machine.old.context others.now u) ≡ run (at machine.old w) t)
+        → ((t : ℕ) → then_do (collected (meaning machine.old.room) machine.old.context (cons first.now rest.now) (NewValue target form.now) (at machine.old w) t) (λ u. setf (meaning machine.old.room) machine.old.context others.now u) ≡ run (at machine.old w) t)
         → Leads (inside machine.old run) w result machine.new }
     ensures small { Grows 6 machine.old.levels result machine.new }
 {
-    let name = name.copy()?;
     let form = form.copy()?;
-    set_by(alloc, machine, name, form, first, rest, others)
+    set_by(alloc, machine, target, form, first, rest, others)
 }
 
 fn set_by(
     alloc: Global,
     machine: &mut Machine,
-    name: Name,
+    target: Target,
     form: Form,
     first: &Form,
     rest: &Forms,
     others: &Forms,
 ) -> Result<Doing, Stop>
     ensures leads { (run : Run) (w : State)
-        → ((t : ℕ) → then_do (collected (meaning machine.old.room) machine.old.context (cons first.now rest.now) (NewValue name form) (at machine.old w) t) (λ u. setf (meaning machine.old.room) machine.old.context others.now u) ≡ run (at machine.old w) t)
+        → ((t : ℕ) → then_do (collected (meaning machine.old.room) machine.old.context (cons first.now rest.now) (NewValue target form) (at machine.old w) t) (λ u. setf (meaning machine.old.room) machine.old.context others.now u) ≡ run (at machine.old w) t)
         → Leads (inside machine.old run) w result machine.new }
     ensures small { Grows 6 machine.old.levels result machine.new }
 {
     let next = first.copy()?;
     let others = others.copy()?;
     let rest = rest.copy()?;
-    let inner = Frame::Collect(Action::NewValue(name, form), rest, Values::new(alloc));
+    let inner = Frame::Collect(Action::NewValue(target, form), rest, Values::new(alloc));
     begin_under(machine, Task::Plain(next), inner, Frame::Setf(others))
 }
 
@@ -313,7 +314,7 @@ fn change_place(
     amount: &Forms,
 ) -> Result<Doing, Stop>
     ensures leads { (run : Run) (w : State)
-        → ((t : ℕ) → changed_place (meaning machine.old.room) machine.old.context primitive (place_in (operator_of operator.now)) parts.now amount.now (at machine.old w) t ≡ run (at machine.old w) t)
+        → ((t : ℕ) → changed_by (meaning machine.old.room) machine.old.context primitive (place_in (operator_of operator.now)) parts.now amount.now (at machine.old w) t ≡ run (at machine.old w) t)
         → Leads (inside machine.old run) w result machine.new }
     ensures small { Grows 16 machine.old.levels result machine.new }
 {
@@ -333,7 +334,7 @@ fn change_named(
     amount: &Forms,
 ) -> Result<Doing, Stop>
     ensures leads { (run : Run) (w : State)
-        → ((t : ℕ) → changed_place (meaning machine.old.room) machine.old.context primitive (Some (place_of place.now)) parts.now amount.now (at machine.old w) t ≡ run (at machine.old w) t)
+        → ((t : ℕ) → changed_by (meaning machine.old.room) machine.old.context primitive (Some (place_of place.now)) parts.now amount.now (at machine.old w) t ≡ run (at machine.old w) t)
         → Leads (inside machine.old run) w result machine.new }
     ensures small { Grows 16 machine.old.levels result machine.new }
 {
@@ -342,12 +343,32 @@ fn change_named(
             let action = Action::Change(primitive, name.copy()?);
             with_amount(machine, action, amount, Values::new(alloc))
         }
-        Place::SlotValue => Err(Stop::Refused(plain(alloc, ConditionKind::Unsupported))),
+        Place::SlotValue => {
+            change_through(alloc, machine, primitive, Target::SlotValue, parts, amount)
+        }
         Place::Call(name) => {
-            let action = Action::Amount(primitive, name.copy()?, amount.copy()?);
-            collect_next(machine, action, parts, Values::new(alloc))
+            let target = Target::Call(name.copy()?);
+            change_through(alloc, machine, primitive, target, parts, amount)
         }
     }
+}
+
+/// A place with arguments is changed by an amount, which comes after them.
+fn change_through(
+    alloc: Global,
+    machine: &mut Machine,
+    primitive: Primitive,
+    target: Target,
+    parts: &Forms,
+    amount: &Forms,
+) -> Result<Doing, Stop>
+    ensures leads { (run : Run) (w : State)
+        → ((t : ℕ) → collected (meaning machine.old.room) machine.old.context parts.now (Amount primitive target amount.now) (at machine.old w) t ≡ run (at machine.old w) t)
+        → Leads (inside machine.old run) w result machine.new }
+    ensures small { Grows 16 machine.old.levels result machine.new }
+{
+    let action = Action::Amount(primitive, target, amount.copy()?);
+    collect_next(machine, action, parts, Values::new(alloc))
 }
 
 /// An action is done with these values and the amount, which is 1 where none is written.
@@ -371,41 +392,41 @@ pub fn with_amount(
     }
 }
 
-/// A call's value is there, which is changed by this amount.
+/// A place's value is there, which is changed by this amount.
 pub fn change_from(
     alloc: Global,
     machine: &mut Machine,
     primitive: Primitive,
-    name: Name,
+    target: Target,
     values: Values,
     amount: Value,
     old: Value,
 ) -> Result<Doing, Stop>
-    ensures leads { (w : State) → Leads (inside machine.old (changed_from (meaning machine.old.room) primitive name values (value_of amount) (value_of old))) w result machine.new }
+    ensures leads { (w : State) → Leads (inside machine.old (changed_from (meaning machine.old.room) machine.old.context primitive target values (value_of amount) (value_of old))) w result machine.new }
     ensures small { Grows 10 machine.old.levels result machine.new }
 {
     let made = combine(alloc, primitive, &old, &amount);
     drop(old);
     drop(amount);
     match made {
-        Ok(value) => set_call(machine, name, values, value),
+        Ok(value) => set_changed(machine, target, values, value),
         Err(stop) => Err(stop),
     }
 }
 
-/// The function `(setf name)` is called with these arguments and the new value, which is given in the end.
-fn set_call(
+/// A place with these arguments is set to the new value, which is given in the end.
+fn set_changed(
     machine: &mut Machine,
-    name: Name,
+    target: Target,
     mut values: Values,
     value: Value,
 ) -> Result<Doing, Stop>
-    ensures leads { (w : State) → Leads (inside machine.old (set_call (meaning machine.old.room) name values (value_of value))) w result machine.new }
+    ensures leads { (w : State) → Leads (inside machine.old (set_place (meaning machine.old.room) machine.old.context target values (value_of value))) w result machine.new }
     ensures small { Grows 10 machine.old.levels result machine.new }
 {
     let frame = Frame::Keep(Forms::new(), value.copy()?);
     values.push(value)?;
-    act_under(machine, Action::CallSetter(name), values, frame)
+    act_under(machine, Action::Set(target), values, frame)
 }
 
 /// The value goes to the variable of this name.

@@ -498,7 +498,7 @@ pub fn turn(
     steps: &mut u64,
 ) -> Result<Doing, Stop>
     ensures turns { Turns (inside machine.old (turns (meaning machine.old.room) machine.old.context (loop_of repetition) counter.0 counter.1)) (seen world.now) steps.old result machine.new (seen world.now) steps.new }
-    ensures small { Shrinks steps.old steps.new machine.old.levels result machine.new }
+    ensures small { Shrinks 8 steps.old steps.new machine.old.levels result machine.new }
     ensures fewer { steps.new ≤ steps.old }
 {
     match counter.next() {

@@ -12,6 +12,7 @@ ghost use Rattle.clos_world.specs.World.{State, seen, bound_as, lists_of};
 ghost use Rattle.clos_machine.specs.Calls.{known, restoring, scoped, parameters_run, body_run, applied_to, called_defined, dispatched, called_generic, called_function, method_run, combined, system, called_setter, setter_value};
 ghost use Rattle.clos_machine.specs.Control.{sequence};
 ghost use Rattle.clos_machine.specs.Fault.{answered};
+ghost use Rattle.clos_machine.specs.Functions.{place_set};
 ghost use Rattle.clos_machine.specs.Machine.{Leads, Grows, at, inside, given_to, lift, under};
 ghost use Rattle.clos_machine.specs.Meaning.{meaning, alone, acted, collect, collected, function_value, is_plain_function, other_function};
 ghost use Rattle.clos_machine.specs.Outcome.{Run, then_do};
@@ -26,12 +27,12 @@ use clos_machine::arguments::{Arguments, Context};
 use clos_machine::effective::{EffectiveForm, EffectiveNode, combined};
 use clos_machine::fault::of_function;
 use clos_machine::locals::{Locals, bind, settle};
-use clos_machine::machine::{Action, Doing, Frame, Level, Machine, SystemCall, Task};
+use clos_machine::machine::{Action, Doing, Frame, Level, Machine, SystemCall, Target, Task};
 use clos_machine::parameters::{ParameterPlan, fits, plan_for, requires_only};
 use clos_machine::truth::nil;
 use clos_world::{
     ConditionKind, Function, Generic, Method, PrecedenceLists, Stop, Values, World, about,
-    about_call, about_name, method_numbered, ordered_methods, plain,
+    about_both, about_call, about_name, method_numbered, ordered_methods, plain,
 };
 use lisp_data::{Items, MethodId, Name, Value};
 use lisp_prims::Primitive;
@@ -77,12 +78,12 @@ pub fn next_value(
 /// The new value of a place follows its arguments.
 pub fn new_value(
     machine: &mut Machine,
-    name: Name,
+    target: Target,
     form: &Form,
     values: Values,
 ) -> Result<Doing, Stop>
     ensures leads { (run : Run) (w : State)
-        → ((t : ℕ) → collect (meaning machine.old.room) machine.old.context (alone form.now) values (λ vs u k. called_setter (meaning machine.old.room) name vs u k) (at machine.old w) t ≡ run (at machine.old w) t)
+        → ((t : ℕ) → collect (meaning machine.old.room) machine.old.context (alone form.now) values (λ vs u k. place_set (meaning machine.old.room) machine.old.context target vs u k) (at machine.old w) t ≡ run (at machine.old w) t)
         → Leads (inside machine.old run) w result machine.new }
     ensures small { Grows 4 machine.old.levels result machine.new }
 {
@@ -90,7 +91,7 @@ pub fn new_value(
     begin(
         machine,
         next,
-        Frame::Collect(Action::CallSetter(name), Forms::new(), values),
+        Frame::Collect(Action::Set(target), Forms::new(), values),
     )
 }
 
@@ -526,7 +527,7 @@ pub fn start_system(
     call: SystemCall,
 ) -> Result<Doing, Stop>
     ensures leads { Leads (inside machine.old (system (meaning machine.old.room) machine.old.context call)) (seen world.now) result machine.new }
-    ensures small { Grows 6 machine.old.levels result machine.new }
+    ensures small { Grows 9 machine.old.levels result machine.new }
 {
     let _ = world;
     match call {
@@ -535,11 +536,33 @@ pub fn start_system(
             let condition = about_call(alloc, kind, &name, arguments.as_slice())?;
             Err(Stop::Refused(condition))
         }
-        SystemCall::Initialize(id) => {
-            let next = Task::System(SystemCall::InitializeShared(id));
+        SystemCall::SignalUnbound(name, id) => {
+            let name = value_named(&name)?;
+            let condition = about_both(
+                alloc,
+                ConditionKind::UnboundSlot,
+                name,
+                Value::Instance(id),
+            )?;
+            Err(Stop::Refused(condition))
+        }
+        SystemCall::SignalMissing(name, id) => {
+            let name = value_named(&name)?;
+            let condition = about_both(
+                alloc,
+                ConditionKind::MissingSlot,
+                name,
+                Value::Instance(id),
+            )?;
+            Err(Stop::Refused(condition))
+        }
+        SystemCall::Initialize(filling) => {
+            let next = Task::System(SystemCall::InitializeShared(filling));
             begin(machine, next, Frame::Passing)
         }
-        SystemCall::InitializeShared(id) => Ok(Doing::Give(Value::Instance(id))),
+        SystemCall::InitializeShared(filling) => {
+            Ok(Doing::Act(Action::Fill(filling), Values::new(alloc)))
+        }
     }
 }
 

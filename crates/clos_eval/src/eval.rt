@@ -1,21 +1,19 @@
 //! Evaluation: the turns of the machine, and the whole of a form.
-ghost use Rattle.std.specs.Prelude.{◌≡◌, ◌∷◌, ℕ, ◌+◌, ◌<◌, ◌≤◌, OnOk, length};
+ghost use Rattle.std.specs.Prelude.{◌≡◌, ◌∷◌, ℕ, ◌+◌, ◌<◌, ◌≤◌, IfOk, OnOk, length};
 ghost use Rattle.lisp_data.specs.ValueView.{value_of};
 ghost use Rattle.clos_forms.specs.Form.{operator_in};
 ghost use Rattle.clos_forms.specs.OperatorView.{operator_of};
 ghost use Rattle.clos_world.specs.Values.{last_first};
 ghost use Rattle.clos_world.specs.World.{seen};
-ghost use Rattle.clos_machine.specs.Calls.{called};
-ghost use Rattle.clos_machine.specs.Machine.{Answers, Grows, Leads, Takes, Turns, denote, given_to, inside, lift, weight_of};
-ghost use Rattle.clos_machine.specs.Meaning.{acted, begun, body, changed_call, evaluation, meaning, operated};
+ghost use Rattle.clos_machine.specs.Functions.{called, place_read, place_set};
+ghost use Rattle.clos_machine.specs.Machine.{Answers, Grows, Leads, Shrinks, Takes, Turns, denote, given_to, inside, lift, weight_of};
+ghost use Rattle.clos_machine.specs.Meaning.{acted, begun, body, changed_place, evaluation, meaning, operated};
 ghost use Rattle.clos_machine.specs.declared.machine.Doing.TheVariants.{Start};
 
 use crate::calls::{
     call, call_setter, compute, function_named, new_value, next_of_body, next_parameter,
     next_value, start_call, start_effective, start_system,
 };
-use crate::class_functions::call_class_function;
-use crate::objects::make_instance;
 use crate::output::{end_line, print};
 use clos_control::arguments::collect_values;
 use clos_control::assignment::{
@@ -28,15 +26,19 @@ use clos_control::binding::{
 use clos_control::control::{clause_tested, follow, go_on, keep, next_clause};
 use clos_forms::{Form, Forms, Operator};
 use clos_machine::arguments::{Arguments, Context};
-use clos_machine::callee::{Callee, callee_named};
+use clos_machine::callee::{Callee, SlotFunction, callee_named};
 use clos_machine::locals::Locals;
-use clos_machine::machine::{Action, Control, Doing, Frame, Level, Levels, Machine, Task};
+use clos_machine::machine::{Action, Control, Doing, Frame, Level, Levels, Machine, Target, Task};
 use clos_machine::truth::{nil, t};
+use clos_objects::class_functions::call_class_function;
+use clos_objects::creation::{allocate, make_instance, next_default};
+use clos_objects::filling::{fill, fill_with};
+use clos_objects::slots::{call_slot_function, set_slot_value};
 use clos_world::{ConditionKind, Stop, Values, World, plain};
 use lisp_data::{Name, Value};
 use lisp_prims::Primitive;
 use lisp_prims::arithmetic::Arithmetic;
-use std::alloc::Global;
+use std::alloc::{AllocError, Global};
 
 /// A form begins.
 fn start_form(
@@ -120,53 +122,114 @@ fn apply(
         Callee::Output(output) => print(alloc, machine, world, output, &values, steps),
         Callee::Terpri => end_line(alloc, machine, world, &values, steps),
         Callee::Primitive(primitive) => compute(alloc, machine, world, primitive, &values),
-        Callee::MakeInstance => make_instance(alloc, machine, world, &values, steps),
+        Callee::MakeInstance => make_instance(alloc, machine, world, values, steps),
         Callee::ClassFunction(function) => {
             call_class_function(alloc, machine, world, function, &values)
+        }
+        Callee::SlotFunction(function) => {
+            call_slot_function(alloc, machine, world, function, &values, steps)
         }
         Callee::Defined => call(alloc, machine, world, name, values),
     }
 }
 
-/// A call is read, and then changed by the amount, the last of the values.
-fn change_call(
+/// A place is set with its arguments and the new value.
+#[tactic(auto, using(clos_machine::proofs::Running::turns_of_leads))]
+fn set_place(
+    alloc: Global,
+    machine: &mut Machine,
+    world: &mut World,
+    target: &Target,
+    values: Values,
+    steps: &mut u64,
+) -> Result<Doing, Stop>
+    ensures turns { Turns (inside machine.old (place_set (meaning machine.old.room) machine.old.context target.now values)) (seen world.old) steps.old result machine.new (seen world.new) steps.new }
+    ensures small { Grows 6 machine.old.levels result machine.new }
+    ensures fewer { steps.new ≤ steps.old }
+{
+    match target {
+        Target::Call(name) => call_setter(alloc, machine, world, name, values),
+        Target::SlotValue => set_slot_value(alloc, machine, world, &values, steps),
+    }
+}
+
+/// A place is read with its arguments.
+fn read_place(
+    alloc: Global,
+    machine: &mut Machine,
+    world: &mut World,
+    target: &Target,
+    values: Values,
+    steps: &mut u64,
+) -> Result<Doing, Stop>
+    ensures turns { Turns (inside machine.old (place_read (meaning machine.old.room) machine.old.context target.now values)) (seen world.old) steps.old result machine.new (seen world.new) steps.new }
+    ensures small { Grows 6 machine.old.levels result machine.new }
+    ensures fewer { steps.new ≤ steps.old }
+{
+    match target {
+        Target::Call(name) => apply(alloc, machine, world, name, values, steps),
+        Target::SlotValue => {
+            call_slot_function(
+                alloc,
+                machine,
+                world,
+                SlotFunction::SlotValue,
+                &values,
+                steps,
+            )
+        }
+    }
+}
+
+/// The same target.
+fn copy_target(target: &Target) -> Result<Target, AllocError>
+    ensures { IfOk result (λ r. r ≡ target.now) }
+{
+    match target {
+        Target::Call(name) => Ok(Target::Call(name.copy()?)),
+        Target::SlotValue => Ok(Target::SlotValue),
+    }
+}
+
+/// A place is read, and then changed by the amount, the last of the values.
+fn change_place(
     alloc: Global,
     machine: &mut Machine,
     world: &mut World,
     primitive: Primitive,
-    name: Name,
+    target: Target,
     mut values: Values,
     steps: &mut u64,
 ) -> Result<Doing, Stop>
-    ensures turns { Turns (inside machine.old (changed_call (meaning machine.old.room) machine.old.context primitive name (last_first values))) (seen world.old) steps.old result machine.new (seen world.new) steps.new }
+    ensures turns { Turns (inside machine.old (changed_place (meaning machine.old.room) machine.old.context primitive target (last_first values))) (seen world.old) steps.old result machine.new (seen world.new) steps.new }
     ensures small { Grows 12 machine.old.levels result machine.new }
     ensures fewer { steps.new ≤ steps.old }
 {
     match values.take_last() {
         None => Err(Stop::Refused(plain(alloc, ConditionKind::ProgramError))),
-        Some(amount) => read_call(
-            alloc, machine, world, primitive, name, values, amount, steps,
+        Some(amount) => change_by(
+            alloc, machine, world, primitive, target, values, amount, steps,
         ),
     }
 }
 
-/// A call of this name with these arguments is read, and then changed by this amount.
-fn read_call(
+/// A place with these arguments is read, and then changed by this amount.
+fn change_by(
     alloc: Global,
     machine: &mut Machine,
     world: &mut World,
     primitive: Primitive,
-    name: Name,
+    target: Target,
     values: Values,
     amount: Value,
     steps: &mut u64,
 ) -> Result<Doing, Stop>
-    ensures turns { Turns (inside machine.old (changed_call (meaning machine.old.room) machine.old.context primitive name (value_of amount ∷ values))) (seen world.old) steps.old result machine.new (seen world.new) steps.new }
+    ensures turns { Turns (inside machine.old (changed_place (meaning machine.old.room) machine.old.context primitive target (value_of amount ∷ values))) (seen world.old) steps.old result machine.new (seen world.new) steps.new }
     ensures small { Grows 12 machine.old.levels result machine.new }
     ensures fewer { steps.new ≤ steps.old }
 {
     let room = machine.room;
-    let Ok(called) = name.copy() else {
+    let Ok(read) = copy_target(&target) else {
         drop(amount);
         return Err(Stop::Storage);
     };
@@ -174,13 +237,13 @@ fn read_call(
         drop(amount);
         return Err(Stop::Storage);
     };
-    let frame = Frame::Changed(primitive, name, values, amount);
+    let frame = Frame::Changed(primitive, target, values, amount);
     machine.levels.push(Level { frame, room })?;
-    apply(alloc, machine, world, &called, arguments, steps)
+    read_place(alloc, machine, world, &read, arguments, steps)
 }
 
 /// An action is done with its values.
-#[tactic(auto, using(clos_machine::proofs::Running::turns_of_leads, clos_machine::proofs::Turns::grows_6_7))]
+#[tactic(auto, using(clos_machine::proofs::Running::turns_of_leads, crate::proofs::Shrinking::grows_2, crate::proofs::Shrinking::grows_4, crate::proofs::Shrinking::grows_6, crate::proofs::Shrinking::grows_12, crate::proofs::Shrinking::grows_14))]
 fn act(
     alloc: Global,
     machine: &mut Machine,
@@ -190,22 +253,34 @@ fn act(
     steps: &mut u64,
 ) -> Result<Doing, Stop>
     ensures turns { Turns (inside machine.old (acted (meaning machine.old.room) machine.old.context action values)) (seen world.old) steps.old result machine.new (seen world.new) steps.new }
-    ensures small { Grows (7 + lift action) machine.old.levels result machine.new }
+    ensures small { Shrinks (8 + lift action) steps.old steps.new machine.old.levels result machine.new }
     ensures fewer { steps.new ≤ steps.old }
 {
     match action {
         Action::Call(name) => apply(alloc, machine, world, &name, values, steps),
-        Action::CallSetter(name) => call_setter(alloc, machine, world, &name, values),
+        Action::Set(target) => set_place(alloc, machine, world, &target, values, steps),
         Action::Store(name) => store_only(alloc, machine, world, &name, &values, steps),
         Action::Change(primitive, name) => {
             change_only(alloc, machine, world, primitive, &name, &values, steps)
         }
-        Action::NewValue(name, form) => new_value(machine, name, &form, values),
-        Action::Amount(primitive, name, form) => {
-            with_amount(machine, Action::ChangeCall(primitive, name), &form, values)
+        Action::NewValue(target, form) => new_value(machine, target, &form, values),
+        Action::Amount(primitive, target, form) => {
+            with_amount(
+                machine,
+                Action::ChangePlace(primitive, target),
+                &form,
+                values,
+            )
         }
-        Action::ChangeCall(primitive, name) => {
-            change_call(alloc, machine, world, primitive, name, values, steps)
+        Action::ChangePlace(primitive, target) => {
+            change_place(alloc, machine, world, primitive, target, values, steps)
+        }
+        Action::Allocate(class, effective) => {
+            allocate(alloc, machine, world, class, effective, values, steps)
+        }
+        Action::Fill(filling) => fill(alloc, machine, world, filling, steps),
+        Action::FillWith(filling, value) => {
+            fill_with(alloc, machine, world, filling, value, steps)
         }
     }
 }
@@ -250,9 +325,16 @@ fn give(
         }
         Frame::Setq(form, place, rest) => { set_next(alloc, machine, &form, place, &rest, value) }
         Frame::Setf(rest) => set_next_place(alloc, machine, &rest, value),
-        Frame::Changed(primitive, name, values, amount) => {
-            change_from(alloc, machine, primitive, name, values, amount, value)
+        Frame::Changed(primitive, target, values, amount) => {
+            change_from(alloc, machine, primitive, target, values, amount, value)
         }
+        Frame::Default(class, effective, place, initargs) => {
+            next_default(alloc, machine, class, effective, place, initargs, value)
+        }
+        Frame::Filled(filling) => Ok(Doing::Act(
+            Action::FillWith(filling, value),
+            Values::new(alloc),
+        )),
         Frame::Known(saved) => {
             machine.context = saved;
             Ok(Doing::Give(value))

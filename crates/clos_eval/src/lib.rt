@@ -1,10 +1,8 @@
-//! Calls, objects, output, and the machine that evaluates forms.
+//! Calls, output, and the machine that evaluates forms.
 #![tactic(auto)]
 
 mod calls;
-mod class_functions;
 pub mod eval;
-mod objects;
 mod output;
 
 pub use calls::setter_value;

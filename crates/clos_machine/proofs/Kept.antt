@@ -1,10 +1,11 @@
 -- Evaluation defines nothing.
-use Rattle.std.proofs.Common.{◌≡◌, ℕ, zero, suc, ◌==◌, List, [], ◌∷◌, ◌++◌, map, Option, Some, None, Result, Ok, Err, Bool, true, false, length, slice_get, refl, ◌∙◌}
+use Rattle.std.proofs.Common.{◌≡◌, ℕ, zero, suc, ◌==◌, List, [], ◌∷◌, ◌++◌, map, Option, Some, None, Result, Ok, Err, Bool, true, false, length, ◌+◌, slice_get, refl, ◌∙◌}
 use Rattle.std.specs.Prelude.{pos, is_some, nat_lt, if◌then◌else◌}
 use Rattle.lisp_data.specs.Name.{Nam}
 use Rattle.lisp_data.specs.Print.{Called, by_symbol, by_setf}
 use Rattle.lisp_data.specs.Value.{Val}
 use Rattle.lisp_data.specs.Value as value
+use Rattle.lisp_data.specs.ValueView.{value_of}
 use Rattle.lisp_prims.specs.Fault as prims
 use Rattle.lisp_prims.specs.Primitive.{answer}
 use Rattle.lisp_prims.specs.declared.arithmetic.Arithmetic.TheVariants.{Sum, Difference}
@@ -19,7 +20,7 @@ use Rattle.clos_world.specs.Functions.{function_in}
 use Rattle.clos_world.specs.Generic.{function_named, ordered}
 use Rattle.clos_world.specs.Globals.{is_global, any_global}
 use Rattle.clos_world.specs.Values.{only_value, last_first}
-use Rattle.clos_world.specs.World.{State, Local, bound_as, unbound, local_named, names_of, class_of, lists_of}
+use Rattle.clos_world.specs.World.{State, Local, bound_as, unbound, local_named, names_of, class_of, class_of_instance, lists_of}
 use Rattle.clos_world.specs.declared.condition.Condition.{Condition}
 use Rattle.clos_world.specs.declared.condition.ConditionKind.TheVariants.{DepthLimit}
 use Rattle.clos_world.specs.declared.functions.Function.{Function}
@@ -28,22 +29,37 @@ use Rattle.clos_world.specs.declared.generic.Method.{Method}
 use Rattle.clos_machine.specs.Assignment.{stored, stored_globally, stored_only, made_of, changed_only, global_set}
 use Rattle.clos_machine.specs.Callee.{callee_of}
 use Rattle.clos_machine.specs.ClassFunctions.{Answer, class_answer, comes_to}
-use Rattle.clos_machine.specs.Calls.{known, restoring, parameters_run, body_run, applied_to, called_defined, called, called_setter, setter_value, dispatched, called_generic, called_function, method_run, combined, system, applied}
+use Rattle.clos_machine.specs.Calls.{known, restoring, parameters_run, body_run, applied_to, called_defined, called_setter, setter_value, dispatched, called_generic, called_function, method_run, combined, system}
 use Rattle.clos_machine.specs.Control.{keeping, sequence, while_true, until_true, branch, followed, going, tested, clause, clauses}
 use Rattle.clos_machine.specs.Effective.{Effective, call_method, progn, prog1}
 use Rattle.clos_machine.specs.Fault.{answered}
-use Rattle.clos_machine.specs.Meaning.{acted, collect, collected, alone, setq, setf, assigned, place_in, with_amount, set_call, changed_from, changed_call, changing, changed_place, other_function, is_plain_function, symbol_function, function_value, operated, begun, meaning, closed, evaluation}
-use Rattle.clos_machine.specs.Objects.{made, designated, allocated, instance_made}
+use Rattle.clos_machine.specs.Meaning.{acted, collect, collected, alone, setq, setf, assigned, place_in, with_amount, set_place, changed_from, changed_place, changing, changed_by, other_function, is_plain_function, symbol_function, function_value, operated, begun, meaning, closed, evaluation}
+use Rattle.clos_machine.specs.Objects.{designated}
+use Rattle.clos_machine.specs.Filling.{Filler, nothing, initform, filler, filled, filled_with, filled_by, fill, fill_with, is_the_class, slots_left, Subject, subject_of}
+use Rattle.clos_machine.specs.Filling as filler
+use Rattle.clos_machine.specs.Functions.{applied, called, place_read, place_set}
+use Rattle.clos_machine.specs.Initialization.{allocate, filling_of, initialized, invalid_initarg, is_given, made, defaulted, default_given, making_of, making, instance_made}
+use Rattle.clos_machine.specs.Slots.{slot_designated, slot_read, slot_tested, slot_changed, slot_answer, slot_applied, slot_called, slot_given, slot_set, slot_stored}
+use Rattle.clos_machine.specs.declared.callee.SlotFunction as of_slots
+use Rattle.clos_machine.specs.declared.callee.SlotFunction.TheVariants.{SlotValue, SlotBoundp, SlotMakunbound, SlotExistsP}
+use Rattle.clos_machine.specs.declared.machine.SystemCall.TheVariants.{SignalUnbound, SignalMissing}
+use Rattle.clos_machine.specs.declared.machine.Target.{Target}
+use Rattle.clos_machine.specs.declared.machine.Target.TheVariants as target
+use Rattle.clos_class.specs.Slots.{Effective as Whole}
+use Rattle.clos_class.specs.declared.effective_slots.EffectiveSlot.{EffectiveSlot}
+use Rattle.clos_syntax.specs.declared.class.DefaultInitarg.{DefaultInitarg}
+use Rattle.clos_store.specs.Store.{allocated, has_room, slot_found, with_instance}
+use Rattle.clos_world.specs.Class.{effective}
 use Rattle.clos_machine.specs.Outcome.{Out, Gave, Stopped, Run, Eval, then_do, step_then, gave, stopped, is_true}
 use Rattle.clos_machine.specs.Output.{output_of, text_by, written, line_ended}
-use Rattle.clos_machine.specs.Parameters.{Sources, argument, refused, init, fits, required_sources, sources}
+use Rattle.clos_machine.specs.Parameters.{Sources, argument, refused, init, are_pairs, fits, required_sources, sources}
 use Rattle.clos_machine.specs.Variables.{Loop, found_value, variable_value, inner, leaving, init_form, within, binding, in_order, together, aside, name_in, counted, body_of, result_value, turns, turns_in, repeated, dotimes}
 use Rattle.clos_machine.specs.declared.arguments.Context.{Context}
 use Rattle.clos_machine.specs.declared.callee.Callee.{Callee}
-use Rattle.clos_machine.specs.declared.callee.Callee.TheVariants.{Output, Terpri, Primitive, MakeInstance, ClassFunction, Defined}
+use Rattle.clos_machine.specs.declared.callee.Callee.TheVariants.{Output, Terpri, Primitive, MakeInstance, ClassFunction, SlotFunction, Defined}
 use Rattle.clos_machine.specs.declared.callee.Output as output
 use Rattle.clos_machine.specs.declared.machine.Action.{Action}
-use Rattle.clos_machine.specs.declared.machine.Action.TheVariants.{Call, CallSetter, Store, Change, NewValue, Amount, ChangeCall}
+use Rattle.clos_machine.specs.declared.machine.Action.TheVariants.{Call, Set, Store, Change, NewValue, Amount, ChangePlace, Allocate, Fill, FillWith}
 use Rattle.clos_machine.specs.declared.machine.Control.{Control}
 use Rattle.clos_machine.specs.declared.machine.Control.TheVariants.{Progn, Prog1, If, When, Unless, And, Or}
 use Rattle.clos_machine.specs.declared.machine.SystemCall.{SystemCall}
@@ -195,12 +211,107 @@ combined_kept ev h env (call_method m ns) w k = method_kept ev h env.arguments (
 combined_kept ev h env (progn e) w k = h env (Effect e) w k
 combined_kept ev h env (prog1 e) w k = h env (Effect e) w k
 
-made_kept : (ev : Eval) → Keeps ev → (env : Context) (d : Result ℕ Condition) (w : State) (k : ℕ) → Kept w (made ev env d w k)
-made_kept ev h env (Err c) w k = same w
-made_kept ev h env (Ok c) w k =
-    choice_kept (nat_lt (length w.instances) w.limits.instances) w (step_then (allocated ev env c) w k) _
-    (step_kept (allocated ev env c) w k
-    (λ j. h env (System (Initialize _)) (record w { instances = w.instances ++ c ∷ [] }) j)) (same w)
+-- ---- slots
+
+slot_read_kept : (ev : Eval) → Keeps ev → (env : Context) (i : ℕ) (name : Nam) (o : Option (Option Val)) (w : State) (k : ℕ) → Kept w (slot_read ev env i name o w k)
+slot_read_kept ev h env i name None w k = h env (System (SignalMissing name (record { 0 = i }))) w k
+slot_read_kept ev h env i name (Some None) w k = h env (System (SignalUnbound name (record { 0 = i }))) w k
+slot_read_kept ev h env i name (Some (Some v)) w k = same w
+
+slot_tested_kept : (ev : Eval) → Keeps ev → (env : Context) (i : ℕ) (name : Nam) (o : Option (Option Val)) (w : State) (k : ℕ) → Kept w (slot_tested ev env i name o w k)
+slot_tested_kept ev h env i name None w k = h env (System (SignalMissing name (record { 0 = i }))) w k
+slot_tested_kept ev h env i name (Some x) w k = same w
+
+slot_changed_kept : (ev : Eval) → Keeps ev → (env : Context) (i : ℕ) (name : Nam) (x : Option Val) (v : Val) (o : Option (Option Val)) (w : State) (k : ℕ)
+    → Kept w (slot_changed ev env i name x v o w k)
+slot_changed_kept ev h env i name x v None w k = h env (System (SignalMissing name (record { 0 = i }))) w k
+slot_changed_kept ev h env i name x v (Some old) w k = step_kept (slot_stored i name x v) w k (λ j. same w)
+
+slot_answer_kept : (ev : Eval) → Keeps ev → (env : Context) (f : of_slots.SlotFunction) (i : ℕ) (name : Nam) (w : State) (k : ℕ) → Kept w (slot_answer ev env f i name w k)
+slot_answer_kept ev h env SlotValue i name w k = slot_read_kept ev h env i name (slot_found w.store i name) w k
+slot_answer_kept ev h env SlotBoundp i name w k = slot_tested_kept ev h env i name (slot_found w.store i name) w k
+slot_answer_kept ev h env SlotMakunbound i name w k = slot_changed_kept ev h env i name None (value.instance i) (slot_found w.store i name) w k
+slot_answer_kept ev h env SlotExistsP i name w k = same w
+
+slot_applied_kept : (ev : Eval) → Keeps ev → (env : Context) (f : of_slots.SlotFunction) (d : Result (ℕ × Nam) Condition) (w : State) (k : ℕ) → Kept w (slot_applied ev env f d w k)
+slot_applied_kept ev h env f (Err c) w k = same w
+slot_applied_kept ev h env f (Ok p) w k = slot_answer_kept ev h env f p.0 p.1 w k
+
+slot_called_kept : (ev : Eval) → Keeps ev → (env : Context) (f : of_slots.SlotFunction) (vs : List Val) (w : State) (k : ℕ) → Kept w (slot_called ev env f vs w k)
+slot_called_kept ev h env f [] w k = same w
+slot_called_kept ev h env f (v ∷ []) w k = same w
+slot_called_kept ev h env f (v ∷ (x ∷ [])) w k = slot_applied_kept ev h env f (slot_designated v x) w k
+slot_called_kept ev h env f (v ∷ (x ∷ (y ∷ vs))) w k = same w
+
+slot_given_kept : (ev : Eval) → Keeps ev → (env : Context) (x : Val) (d : Result (ℕ × Nam) Condition) (w : State) (k : ℕ) → Kept w (slot_given ev env x d w k)
+slot_given_kept ev h env x (Err c) w k = same w
+slot_given_kept ev h env x (Ok p) w k = slot_changed_kept ev h env p.0 p.1 (Some x) x (slot_found w.store p.0 p.1) w k
+
+slot_set_kept : (ev : Eval) → Keeps ev → (env : Context) (vs : List Val) (w : State) (k : ℕ) → Kept w (slot_set ev env vs w k)
+slot_set_kept ev h env [] w k = same w
+slot_set_kept ev h env (v ∷ []) w k = same w
+slot_set_kept ev h env (v ∷ (x ∷ [])) w k = same w
+slot_set_kept ev h env (v ∷ (x ∷ (y ∷ []))) w k = slot_given_kept ev h env y (slot_designated v x) w k
+slot_set_kept ev h env (v ∷ (x ∷ (y ∷ (z ∷ vs)))) w k = same w
+
+-- ---- the making of instances
+
+stored_kept_then : (f : Subject) (slot : EffectiveSlot) (rest : Run) → ((u : State) (j : ℕ) → Kept u (rest u j)) → (v : Val) (w : State) (k : ℕ) → Kept w (filled f slot rest v w k)
+stored_kept_then f slot rest g v w k =
+    then_kept w (step_then (slot_stored f.instance slot.name (Some v) v) w k) (λ x u j. rest u j)
+    (step_kept (slot_stored f.instance slot.name (Some v) v) w k (λ j. same w)) (λ x u j. g u j)
+
+filled_with_kept : (f : Subject) (slot : EffectiveSlot) (rest : Run) → ((u : State) (j : ℕ) → Kept u (rest u j)) → (v : Val) (w : State) (k : ℕ) → Kept w (filled_with f slot rest v w k)
+filled_with_kept f slot rest g v w k =
+    choice_kept (is_the_class f.class (class_of_instance w f.instance)) w (filled f slot rest v w k) _ (stored_kept_then f slot rest g v w k) (same w)
+
+filled_kept : (ev : Eval) → Keeps ev → (env : Context) (f : Subject) (slot : EffectiveSlot) (rest : Run) → ((u : State) (j : ℕ) → Kept u (rest u j)) → (x : Filler) (w : State) (k : ℕ)
+    → Kept w (filled_by ev env f slot rest x w k)
+filled_kept ev h env f slot rest g nothing w k = g w k
+filled_kept ev h env f slot rest g (filler.value v) w k = stored_kept_then f slot rest g v w k
+filled_kept ev h env f slot rest r (initform g) w k =
+    then_kept w (ev env (Plain g) w k) (λ v. filled_with f slot rest v) (h env (Plain g) w k) (λ v u j. filled_with_kept f slot rest r v u j)
+
+fill_kept : (ev : Eval) → Keeps ev → (env : Context) (f : Subject) (slots : List EffectiveSlot) (w : State) (k : ℕ) → Kept w (fill ev env f slots w k)
+fill_kept ev h env f [] w k = same w
+fill_kept ev h env f (slot ∷ slots) w k =
+    filled_kept ev h env f slot (λ u j. fill ev env f slots u j) (λ u j. fill_kept ev h env f slots u j) (filler w f slot) w k
+
+fill_with_kept : (ev : Eval) → Keeps ev → (env : Context) (f : Subject) (slots : List EffectiveSlot) (v : Val) (w : State) (k : ℕ) → Kept w (fill_with ev env f slots v w k)
+fill_with_kept ev h env f [] v w k = same w
+fill_with_kept ev h env f (slot ∷ slots) v w k = filled_with_kept f slot (λ u j. fill ev env f slots u j) (λ u j. fill_kept ev h env f slots u j) v w k
+
+initialized_kept : (ev : Eval) → Keeps ev → (env : Context) (c : ℕ) (e : Whole) (vs : List Val) (i : ℕ) (o : Option Val) (w : State) (k : ℕ) → Kept w (initialized ev env c e vs i o w k)
+initialized_kept ev h env c e vs i (Some x) w k = same w
+initialized_kept ev h env c e vs i None w k =
+    then_kept w (ev env (System (Initialize (filling_of c e vs i))) w k) (λ v. gave (value.instance i)) (h env (System (Initialize (filling_of c e vs i))) w k) (λ v u j. same u)
+
+allocate_kept : (ev : Eval) → Keeps ev → (env : Context) (c : ℕ) (e : Whole) (vs : List Val) (w : State) (k : ℕ) → Kept w (allocate ev env c e vs w k)
+allocate_kept ev h env c e vs w k =
+    choice_kept (has_room w.store) w (step_then (made ev env c e vs) w k) _
+    (step_kept (made ev env c e vs) w k
+    (λ j. initialized_kept ev h env c e vs (length w.store.instances + 1) (invalid_initarg e.slots vs) (record w { store = with_instance (allocated c e.layout) w.store }) j)) (same w)
+
+defaulted_kept : (ev : Eval) → Keeps ev → (env : Context) (c : ℕ) (e : Whole) (ds : List DefaultInitarg) (vs : List Val) (w : State) (k : ℕ) → Kept w (defaulted ev env c e ds vs w k)
+defaulted_kept ev h env c e [] vs w k = allocate_kept ev h env c e vs w k
+defaulted_kept ev h env c e (d ∷ ds) vs w k =
+    choice_kept (is_given vs d) w (defaulted ev env c e ds vs w k) _ (defaulted_kept ev h env c e ds vs w k)
+    (then_kept w (ev env (Plain d.form) w k) (λ v. defaulted ev env c e ds (vs ++ name_value d.name ∷ v ∷ [])) (h env (Plain d.form) w k)
+    (λ v u j. defaulted_kept ev h env c e ds (vs ++ name_value d.name ∷ v ∷ []) u j))
+
+making_of_kept : (ev : Eval) → Keeps ev → (vs : List Val) (c : ℕ) (o : Option Whole) (w : State) (k : ℕ) → Kept w (making_of ev vs c o w k)
+making_of_kept ev h vs c None w k = same w
+making_of_kept ev h vs c (Some e) w k =
+    restored w.locals w (defaulted ev (known []) c e e.defaults vs (bound_as [] w) k) (defaulted_kept ev h (known []) c e e.defaults vs (bound_as [] w) k)
+
+making_kept : (ev : Eval) → Keeps ev → (vs : List Val) (d : Result ℕ Condition) (w : State) (k : ℕ) → Kept w (making ev vs d w k)
+making_kept ev h vs (Err c) w k = same w
+making_kept ev h vs (Ok c) w k = making_of_kept ev h vs c (effective w.classes c) w k
+
+instance_kept : (ev : Eval) → Keeps ev → (vs : List Val) (w : State) (k : ℕ) → Kept w (instance_made ev vs w k)
+instance_kept ev h [] w k = same w
+instance_kept ev h (v ∷ vs) w k =
+    choice_kept (are_pairs vs) w (making ev vs (designated w.classes v) w k) _ (making_kept ev h vs (designated w.classes v) w k) (same w)
 
 output_kept : (o : output.Output) (x : Option Val) (w : State) (k : ℕ) → Kept w (output_of o x w k)
 output_kept o None w k = same w
@@ -218,15 +329,12 @@ comes_kept : (x : Answer) (w : State) (k : ℕ) → Kept w (comes_to x w k)
 comes_kept (Ok v) w k = same w
 comes_kept (Err c) w k = same w
 
-instance_kept : (ev : Eval) → Keeps ev → (env : Context) (x : Option Val) (w : State) (k : ℕ) → Kept w (instance_made ev env x w k)
-instance_kept ev h env None w k = same w
-instance_kept ev h env (Some v) w k = made_kept ev h env (designated w.classes v) w k
-
 applied_kept : (ev : Eval) → Keeps ev → (env : Context) (c : Callee) (name : Nam) (vs : List Val) (w : State) (k : ℕ) → Kept w (applied ev env c name vs w k)
 applied_kept ev h env (Output o) name vs w k = output_kept o (only_value vs) w k
 applied_kept ev h env Terpri name vs w k = line_kept vs w k
 applied_kept ev h env (Primitive p) name vs w k = answered_kept (answer p vs) w k
-applied_kept ev h env MakeInstance name vs w k = instance_kept ev h env (only_value vs) w k
+applied_kept ev h env MakeInstance name vs w k = instance_kept ev h vs w k
+applied_kept ev h env (SlotFunction f) name vs w k = slot_called_kept ev h env f vs w k
 applied_kept ev h env (ClassFunction f) name vs w k = comes_kept (class_answer f w.classes (class_of w) vs) w k
 applied_kept ev h env Defined name vs w k = function_kept ev h name vs (function_named w.generics name) w k
 
@@ -317,18 +425,26 @@ changed_kept p name (Some amount) w k =
 setter_kept : (ev : Eval) → Keeps ev → (name : Nam) (vs : List Val) (w : State) (k : ℕ) → Kept w (called_setter ev name vs w k)
 setter_kept ev h name vs w k = defined_kept ev h (last_first vs) (setter_value name) (function_in w.setters name) w k
 
-changed_from_kept : (ev : Eval) → Keeps ev → (p : of_values.Primitive) (name : Nam) (vs : List Val) (amount old : Val) (w : State) (k : ℕ)
-    → Kept w (changed_from ev p name vs amount old w k)
-changed_from_kept ev h p name vs amount old w k =
-    then_kept w (answered (answer p (old ∷ amount ∷ [])) w k) (λ v. set_call ev name vs v) (answered_kept (answer p (old ∷ amount ∷ [])) w k)
-    (λ v u j. then_kept u (called_setter ev name (vs ++ v ∷ []) u j) (λ x. gave v) (setter_kept ev h name (vs ++ v ∷ []) u j) (λ x t i. same t))
+read_kept : (ev : Eval) → Keeps ev → (env : Context) (t : Target) (vs : List Val) (w : State) (k : ℕ) → Kept w (place_read ev env t vs w k)
+read_kept ev h env (target.Call name) vs w k = applied_kept ev h env (callee_of name) name vs w k
+read_kept ev h env target.SlotValue vs w k = slot_called_kept ev h env SlotValue vs w k
 
-changed_call_kept : (ev : Eval) → Keeps ev → (env : Context) (p : of_values.Primitive) (name : Nam) (vs : List Val) (w : State) (k : ℕ)
-    → Kept w (changed_call ev env p name vs w k)
-changed_call_kept ev h env p name [] w k = same w
-changed_call_kept ev h env p name (amount ∷ vs) w k =
-    then_kept w (called ev env name vs w k) (λ old. changed_from ev p name vs amount old) (applied_kept ev h env (callee_of name) name vs w k)
-    (λ old u j. changed_from_kept ev h p name vs amount old u j)
+set_kept : (ev : Eval) → Keeps ev → (env : Context) (t : Target) (vs : List Val) (w : State) (k : ℕ) → Kept w (place_set ev env t vs w k)
+set_kept ev h env (target.Call name) vs w k = setter_kept ev h name vs w k
+set_kept ev h env target.SlotValue vs w k = slot_set_kept ev h env vs w k
+
+changed_from_kept : (ev : Eval) → Keeps ev → (env : Context) (p : of_values.Primitive) (t : Target) (vs : List Val) (amount old : Val) (w : State) (k : ℕ)
+    → Kept w (changed_from ev env p t vs amount old w k)
+changed_from_kept ev h env p t vs amount old w k =
+    then_kept w (answered (answer p (old ∷ amount ∷ [])) w k) (λ v. set_place ev env t vs v) (answered_kept (answer p (old ∷ amount ∷ [])) w k)
+    (λ v u j. then_kept u (place_set ev env t (vs ++ v ∷ []) u j) (λ x. gave v) (set_kept ev h env t (vs ++ v ∷ []) u j) (λ x y i. same y))
+
+changed_place_kept : (ev : Eval) → Keeps ev → (env : Context) (p : of_values.Primitive) (t : Target) (vs : List Val) (w : State) (k : ℕ)
+    → Kept w (changed_place ev env p t vs w k)
+changed_place_kept ev h env p t [] w k = same w
+changed_place_kept ev h env p t (amount ∷ vs) w k =
+    then_kept w (place_read ev env t vs w k) (λ old. changed_from ev env p t vs amount old) (read_kept ev h env t vs w k)
+    (λ old u j. changed_from_kept ev h env p t vs amount old u j)
 
 amount_kept : (ev : Eval) → Keeps ev → (env : Context) (fs : Frms) (vs : List Val) (go : List Val → Run)
     → ((us : List Val) (u : State) (j : ℕ) → Kept u (go us u j)) → (w : State) (k : ℕ) → Kept w (with_amount ev env fs vs go w k)
@@ -337,14 +453,17 @@ amount_kept ev h env (cons f fs) vs go g w k = collect_kept ev h env (cons f fs)
 
 acted_kept : (ev : Eval) → Keeps ev → (env : Context) (a : Action) (vs : List Val) (w : State) (k : ℕ) → Kept w (acted ev env a vs w k)
 acted_kept ev h env (Call name) vs w k = applied_kept ev h env (callee_of name) name vs w k
-acted_kept ev h env (CallSetter name) vs w k = setter_kept ev h name vs w k
+acted_kept ev h env (Set t) vs w k = set_kept ev h env t vs w k
 acted_kept ev h env (Store name) vs w k = stored_only_kept name (only_value vs) w k
 acted_kept ev h env (Change p name) vs w k = changed_kept p name (only_value vs) w k
-acted_kept ev h env (NewValue name f) vs w k =
-    collect_kept ev h env (alone f) vs (λ us u j. called_setter ev name us u j) (λ us u j. setter_kept ev h name us u j) w k
-acted_kept ev h env (Amount p name fs) vs w k =
-    amount_kept ev h env fs vs (λ us u j. changed_call ev env p name (last_first us) u j) (λ us u j. changed_call_kept ev h env p name (last_first us) u j) w k
-acted_kept ev h env (ChangeCall p name) vs w k = changed_call_kept ev h env p name (last_first vs) w k
+acted_kept ev h env (NewValue t f) vs w k =
+    collect_kept ev h env (alone f) vs (λ us u j. place_set ev env t us u j) (λ us u j. set_kept ev h env t us u j) w k
+acted_kept ev h env (Amount p t fs) vs w k =
+    amount_kept ev h env fs vs (λ us u j. changed_place ev env p t (last_first us) u j) (λ us u j. changed_place_kept ev h env p t (last_first us) u j) w k
+acted_kept ev h env (ChangePlace p t) vs w k = changed_place_kept ev h env p t (last_first vs) w k
+acted_kept ev h env (Allocate c e) vs w k = allocate_kept ev h env c.0 e vs w k
+acted_kept ev h env (Fill f) vs w k = fill_kept ev h env (subject_of f) (slots_left f) w k
+acted_kept ev h env (FillWith f v) vs w k = fill_with_kept ev h env (subject_of f) (slots_left f) (value_of v) w k
 
 collected_kept : (ev : Eval) → Keeps ev → (env : Context) (fs : Frms) (a : Action) (w : State) (k : ℕ) → Kept w (collected ev env fs a w k)
 collected_kept ev h env fs a w k = collect_kept ev h env fs [] (acted ev env a) (λ us u j. acted_kept ev h env a us u j) w k
@@ -359,8 +478,8 @@ setq_kept ev h env (n ∷ ns) (cons f fs) v w k =
 assigned_kept : (ev : Eval) → Keeps ev → (env : Context) (o : Option Plc) (ps : Frms) (f : Frm) (w : State) (k : ℕ) → Kept w (assigned ev env o ps f w k)
 assigned_kept ev h env None ps f w k = same w
 assigned_kept ev h env (Some (variable_place n)) ps f w k = collected_kept ev h env (alone f) (Store n) w k
-assigned_kept ev h env (Some slot_value_place) ps f w k = same w
-assigned_kept ev h env (Some (call_place n)) ps f w k = collected_kept ev h env ps (NewValue n f) w k
+assigned_kept ev h env (Some slot_value_place) ps f w k = collected_kept ev h env ps (NewValue target.SlotValue f) w k
+assigned_kept ev h env (Some (call_place n)) ps f w k = collected_kept ev h env ps (NewValue (target.Call n) f) w k
 
 setf_kept : (ev : Eval) → Keeps ev → (env : Context) (fs : Frms) (v : Val) (w : State) (k : ℕ) → Kept w (setf ev env fs v w k)
 setf_kept ev h env nil v w k = same w
@@ -370,12 +489,12 @@ setf_kept ev h env (cons p (cons f fs)) v w k =
     (assigned_kept ev h env (place_in (operator_in p)) (parts_in p) f w k) (λ x u j. setf_kept ev h env fs x u j)
 
 place_kept : (ev : Eval) → Keeps ev → (env : Context) (p : of_values.Primitive) (o : Option Plc) (ps fs : Frms) (w : State) (k : ℕ)
-    → Kept w (changed_place ev env p o ps fs w k)
+    → Kept w (changed_by ev env p o ps fs w k)
 place_kept ev h env p None ps fs w k = same w
 place_kept ev h env p (Some (variable_place n)) ps fs w k =
     amount_kept ev h env fs [] (acted ev env (Change p n)) (λ us u j. acted_kept ev h env (Change p n) us u j) w k
-place_kept ev h env p (Some slot_value_place) ps fs w k = same w
-place_kept ev h env p (Some (call_place n)) ps fs w k = collected_kept ev h env ps (Amount p n fs) w k
+place_kept ev h env p (Some slot_value_place) ps fs w k = collected_kept ev h env ps (Amount p target.SlotValue fs) w k
+place_kept ev h env p (Some (call_place n)) ps fs w k = collected_kept ev h env ps (Amount p (target.Call n) fs) w k
 
 changing_kept : (ev : Eval) → Keeps ev → (env : Context) (p : of_values.Primitive) (fs : Frms) (w : State) (k : ℕ) → Kept w (changing ev env p fs w k)
 changing_kept ev h env p nil w k = same w
@@ -426,8 +545,10 @@ operated_kept ev h env (of.call name) ps w k = collected_kept ev h env ps (Call 
 
 system_kept : (ev : Eval) → Keeps ev → (env : Context) (c : SystemCall) (w : State) (k : ℕ) → Kept w (system ev env c w k)
 system_kept ev h env (SignalNoApplicable name vs) w k = same w
-system_kept ev h env (Initialize i) w k = h env (System (InitializeShared i)) w k
-system_kept ev h env (InitializeShared i) w k = same w
+system_kept ev h env (SignalUnbound name i) w k = same w
+system_kept ev h env (SignalMissing name i) w k = same w
+system_kept ev h env (Initialize f) w k = h env (System (InitializeShared f)) w k
+system_kept ev h env (InitializeShared f) w k = fill_kept ev h env (subject_of f) (slots_left f) w k
 
 begun_kept : (ev : Eval) → Keeps ev → (env : Context) (task : Task) (w : State) (k : ℕ) → Kept w (begun ev env task w k)
 begun_kept ev h env (Plain f) w k = operated_kept ev h env (operator_in f) (parts_in f) w k

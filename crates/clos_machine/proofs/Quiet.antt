@@ -15,7 +15,7 @@ use Rattle.clos_world.specs.Functions.{function_in}
 use Rattle.clos_world.specs.Generic.{function_named, ordered}
 use Rattle.clos_world.specs.Globals.{is_global, any_global}
 use Rattle.clos_world.specs.Values.{only_value, last_first}
-use Rattle.clos_world.specs.World.{State, Local, unbound, bound_as, local_named, class_of, lists_of}
+use Rattle.clos_world.specs.World.{State, Local, unbound, bound_as, local_named, class_of, class_of_instance, lists_of}
 use Rattle.clos_world.specs.declared.condition.Condition.{Condition}
 use Rattle.clos_world.specs.declared.condition.ConditionKind.TheVariants.{StepLimit}
 use Rattle.clos_world.specs.declared.functions.Function.{Function}
@@ -23,33 +23,48 @@ use Rattle.clos_world.specs.declared.generic.Generic.{Generic}
 use Rattle.clos_machine.specs.Assignment.{stored, stored_globally, stored_only, made_of, changed_only, with_local}
 use Rattle.clos_machine.specs.Callee.{callee_of}
 use Rattle.clos_machine.specs.ClassFunctions.{Answer, class_answer, comes_to}
-use Rattle.clos_machine.specs.Calls.{known, restoring, parameters_run, body_run, applied_to, called_defined, called, called_setter, setter_value, dispatched, called_generic, called_function, applied}
+use Rattle.clos_machine.specs.Calls.{known, restoring, parameters_run, body_run, applied_to, called_defined, called_setter, setter_value, dispatched, called_generic, called_function}
 use Rattle.clos_machine.specs.Control.{keeping, sequence, while_true, until_true, branch, followed, tested, clause, clauses}
 use Rattle.clos_machine.specs.Fault.{answered}
 use Rattle.clos_machine.specs.Machine.{at, below, after, resume, leaves, denote, loop_of, targets}
-use Rattle.clos_machine.specs.Meaning.{acted, collect, collected, alone, with_amount, set_call, changed_from, changed_call, setq, setf, assigned, place_in, meaning, closed}
-use Rattle.clos_machine.specs.Objects.{made, designated, allocated, instance_made}
+use Rattle.clos_machine.specs.Meaning.{acted, collect, collected, alone, with_amount, set_place, changed_from, changed_place, setq, setf, assigned, place_in, meaning, closed}
+use Rattle.clos_machine.specs.Objects.{designated}
+use Rattle.clos_machine.specs.Filling.{Filler, nothing, initform, filler, filled_with, filled_by, fill, fill_with, is_the_class, slots_left, Subject, subject_of}
+use Rattle.clos_machine.specs.Filling as filler
+use Rattle.clos_machine.specs.Functions.{applied, called, place_read, place_set}
+use Rattle.clos_machine.specs.Initialization.{allocate, is_given, defaulted, default_given, making_of, making, instance_made}
+use Rattle.clos_machine.specs.Slots.{slot_designated, slot_read, slot_tested, slot_changed, slot_answer, slot_applied, slot_called, slot_given, slot_set}
+use Rattle.clos_machine.specs.declared.callee.SlotFunction as of_slots
+use Rattle.clos_machine.specs.declared.callee.SlotFunction.TheVariants.{SlotValue, SlotBoundp, SlotMakunbound, SlotExistsP}
+use Rattle.clos_machine.specs.declared.machine.SystemCall.TheVariants.{SignalUnbound, SignalMissing}
+use Rattle.clos_machine.specs.declared.machine.Target.{Target}
+use Rattle.clos_machine.specs.declared.machine.Target.TheVariants as target
+use Rattle.clos_class.specs.Slots.{Effective as Whole}
+use Rattle.clos_class.specs.declared.effective_slots.EffectiveSlot.{EffectiveSlot}
+use Rattle.clos_syntax.specs.declared.class.DefaultInitarg.{DefaultInitarg}
+use Rattle.clos_store.specs.Store.{has_room, slot_found}
+use Rattle.clos_world.specs.Class.{effective}
 use Rattle.clos_machine.specs.Outcome.{Out, Gave, Stopped, Run, Eval, then_do, step_then, gave, stopped, is_true}
 use Rattle.clos_machine.specs.Output.{output_of, line_ended}
-use Rattle.clos_machine.specs.Parameters.{Sources, argument, refused, init, fits, sources}
+use Rattle.clos_machine.specs.Parameters.{Sources, argument, refused, init, are_pairs, fits, sources}
 use Rattle.clos_machine.specs.Variables.{Loop, found_value, variable_value, inner, leaving, init_form, within, binding, in_order, together, aside, name_in, counted, result_value, turns, turns_in, repeated}
 use Rattle.clos_machine.specs.declared.arguments.Context.{Context}
 use Rattle.clos_machine.specs.declared.callee.Callee.{Callee}
-use Rattle.clos_machine.specs.declared.callee.Callee.TheVariants.{Output, Terpri, Primitive, MakeInstance, ClassFunction, Defined}
+use Rattle.clos_machine.specs.declared.callee.Callee.TheVariants.{Output, Terpri, Primitive, MakeInstance, ClassFunction, SlotFunction, Defined}
 use Rattle.clos_machine.specs.declared.callee.Output as output
 use Rattle.clos_machine.specs.declared.machine.Action.{Action}
-use Rattle.clos_machine.specs.declared.machine.Action.TheVariants.{Call, CallSetter, Store, Change, NewValue, Amount, ChangeCall}
+use Rattle.clos_machine.specs.declared.machine.Action.TheVariants.{Call, Set, Store, Change, NewValue, Amount, ChangePlace, Allocate, Fill, FillWith}
 use Rattle.clos_machine.specs.declared.machine.Control.{Control}
 use Rattle.clos_machine.specs.declared.machine.Control.TheVariants.{Progn, Prog1, If, When, Unless, And, Or}
 use Rattle.clos_machine.specs.declared.machine.Doing.TheVariants.{Start, Act}
 use Rattle.clos_machine.specs.declared.machine.Doing.TheVariants as doing
 use Rattle.clos_machine.specs.declared.machine.Frame.{Frame}
-use Rattle.clos_machine.specs.declared.machine.Frame.TheVariants.{Rest, Keep, Clause, Collect, Body, Bind, Scope, InOrder, Aside, Count, Turn, Setq, Setf, Changed, Known, Passing}
+use Rattle.clos_machine.specs.declared.machine.Frame.TheVariants.{Rest, Keep, Clause, Collect, Body, Bind, Scope, InOrder, Aside, Count, Turn, Setq, Setf, Changed, Default, Filled, Known, Passing}
 use Rattle.clos_machine.specs.declared.machine.Level.{Level}
 use Rattle.clos_machine.specs.declared.machine.Machine.{Machine}
 use Rattle.clos_machine.specs.declared.machine.Repetition.{Repetition}
 use Rattle.clos_machine.specs.declared.machine.Task.{Task}
-use Rattle.clos_machine.specs.declared.machine.Task.TheVariants.{Plain}
+use Rattle.clos_machine.specs.declared.machine.Task.TheVariants.{Plain, System}
 
 -- where the outcome leaves the world
 abbrev Quiet : Out → State → Type 0
@@ -91,11 +106,6 @@ follows_quiet : (o : Out) (go : Val → Run) (w : State) → Quiet o w → ((v :
 follows_quiet (Stopped c u k) go w h g = h
 follows_quiet (Gave v u k) go w h g =
     subst (λ x. leaves (closed (go v u k)) x 0) h.0 (subst (λ j. leaves (closed (go v u j)) (unbound u) 0) (sym h.1) (g v u))
-
-made_quiet : (ev : Eval) (env : Context) (d : Result ℕ Condition) (w : State) → leaves (closed (made ev env d w 0)) (unbound w) 0
-made_quiet ev env (Err c) w = (refl, refl)
-made_quiet ev env (Ok c) w =
-    choice_quiet (nat_lt (length w.instances) w.limits.instances) (step_then (allocated ev env c) w 0) _ w (refl, refl) (refl, refl)
 
 generic_quiet : (n : ℕ) (vs : List Val) (o : Option Generic) (w : State) → leaves (closed (called_generic (meaning n) vs o w 0)) (unbound w) 0
 generic_quiet n vs None w = (refl, refl)
@@ -150,16 +160,100 @@ comes_quiet : (x : Answer) (w : State) → Quiet (comes_to x w 0) w
 comes_quiet (Ok v) w = (refl, refl)
 comes_quiet (Err c) w = (refl, refl)
 
-instance_quiet : (n : ℕ) (env : Context) (x : Option Val) (w : State) → leaves (closed (instance_made (meaning n) env x w 0)) (unbound w) 0
-instance_quiet n env None w = (refl, refl)
-instance_quiet n env (Some v) w = made_quiet (meaning n) env (designated w.classes v) w
+-- ---- slots
+
+slot_read_quiet : (n : ℕ) (env : Context) (i : ℕ) (name : Nam) (o : Option (Option Val)) (w : State) → Quiet (slot_read (meaning n) env i name o w 0) w
+slot_read_quiet n env i name None w = task_quiet n env (System (SignalMissing name (record { 0 = i }))) w
+slot_read_quiet n env i name (Some None) w = task_quiet n env (System (SignalUnbound name (record { 0 = i }))) w
+slot_read_quiet n env i name (Some (Some v)) w = (refl, refl)
+
+slot_tested_quiet : (n : ℕ) (env : Context) (i : ℕ) (name : Nam) (o : Option (Option Val)) (w : State) → Quiet (slot_tested (meaning n) env i name o w 0) w
+slot_tested_quiet n env i name None w = task_quiet n env (System (SignalMissing name (record { 0 = i }))) w
+slot_tested_quiet n env i name (Some x) w = (refl, refl)
+
+slot_changed_quiet : (n : ℕ) (env : Context) (i : ℕ) (name : Nam) (x : Option Val) (v : Val) (o : Option (Option Val)) (w : State)
+    → Quiet (slot_changed (meaning n) env i name x v o w 0) w
+slot_changed_quiet n env i name x v None w = task_quiet n env (System (SignalMissing name (record { 0 = i }))) w
+slot_changed_quiet n env i name x v (Some old) w = (refl, refl)
+
+slot_answer_quiet : (n : ℕ) (env : Context) (f : of_slots.SlotFunction) (i : ℕ) (name : Nam) (w : State) → Quiet (slot_answer (meaning n) env f i name w 0) w
+slot_answer_quiet n env SlotValue i name w = slot_read_quiet n env i name (slot_found w.store i name) w
+slot_answer_quiet n env SlotBoundp i name w = slot_tested_quiet n env i name (slot_found w.store i name) w
+slot_answer_quiet n env SlotMakunbound i name w = slot_changed_quiet n env i name None (value.instance i) (slot_found w.store i name) w
+slot_answer_quiet n env SlotExistsP i name w = (refl, refl)
+
+slot_applied_quiet : (n : ℕ) (env : Context) (f : of_slots.SlotFunction) (d : Result (ℕ × Nam) Condition) (w : State) → Quiet (slot_applied (meaning n) env f d w 0) w
+slot_applied_quiet n env f (Err c) w = (refl, refl)
+slot_applied_quiet n env f (Ok p) w = slot_answer_quiet n env f p.0 p.1 w
+
+slot_called_quiet : (n : ℕ) (env : Context) (f : of_slots.SlotFunction) (vs : List Val) (w : State) → Quiet (slot_called (meaning n) env f vs w 0) w
+slot_called_quiet n env f [] w = (refl, refl)
+slot_called_quiet n env f (v ∷ []) w = (refl, refl)
+slot_called_quiet n env f (v ∷ (x ∷ [])) w = slot_applied_quiet n env f (slot_designated v x) w
+slot_called_quiet n env f (v ∷ (x ∷ (y ∷ vs))) w = (refl, refl)
+
+slot_given_quiet : (n : ℕ) (env : Context) (x : Val) (d : Result (ℕ × Nam) Condition) (w : State) → Quiet (slot_given (meaning n) env x d w 0) w
+slot_given_quiet n env x (Err c) w = (refl, refl)
+slot_given_quiet n env x (Ok p) w = slot_changed_quiet n env p.0 p.1 (Some x) x (slot_found w.store p.0 p.1) w
+
+slot_set_quiet : (n : ℕ) (env : Context) (vs : List Val) (w : State) → Quiet (slot_set (meaning n) env vs w 0) w
+slot_set_quiet n env [] w = (refl, refl)
+slot_set_quiet n env (v ∷ []) w = (refl, refl)
+slot_set_quiet n env (v ∷ (x ∷ [])) w = (refl, refl)
+slot_set_quiet n env (v ∷ (x ∷ (y ∷ []))) w = slot_given_quiet n env y (slot_designated v x) w
+slot_set_quiet n env (v ∷ (x ∷ (y ∷ (z ∷ vs)))) w = (refl, refl)
+
+-- ---- the making of instances
+
+filled_quiet : (n : ℕ) (env : Context) (f : Subject) (slot : EffectiveSlot) (rest : Run) (x : Filler) (w : State) → Quiet (rest w 0) w
+    → Quiet (filled_by (meaning n) env f slot rest x w 0) w
+filled_quiet n env f slot rest nothing w h = h
+filled_quiet n env f slot rest (filler.value v) w h = (refl, refl)
+filled_quiet n env f slot rest (initform g) w h = then_quiet n env (Plain g) (λ v. filled_with f slot rest v) w
+
+fill_quiet : (n : ℕ) (env : Context) (f : Subject) (slots : List EffectiveSlot) (w : State) → Quiet (fill (meaning n) env f slots w 0) w
+fill_quiet n env f [] w = (refl, refl)
+fill_quiet n env f (slot ∷ slots) w =
+    filled_quiet n env f slot (λ u k. fill (meaning n) env f slots u k) (filler w f slot) w (fill_quiet n env f slots w)
+
+fill_with_quiet : (n : ℕ) (env : Context) (f : Subject) (slots : List EffectiveSlot) (v : Val) (w : State) → Quiet (fill_with (meaning n) env f slots v w 0) w
+fill_with_quiet n env f [] v w = (refl, refl)
+fill_with_quiet n env f (slot ∷ slots) v w = choice_quiet (is_the_class f.class (class_of_instance w f.instance)) _ _ w (refl, refl) (refl, refl)
+
+allocate_quiet : (n : ℕ) (env : Context) (c : ℕ) (e : Whole) (vs : List Val) (w : State) → Quiet (allocate (meaning n) env c e vs w 0) w
+allocate_quiet n env c e vs w = choice_quiet (has_room w.store) _ _ w (refl, refl) (refl, refl)
+
+defaulted_quiet : (n : ℕ) (env : Context) (c : ℕ) (e : Whole) (ds : List DefaultInitarg) (vs : List Val) (w : State) → Quiet (defaulted (meaning n) env c e ds vs w 0) w
+defaulted_quiet n env c e [] vs w = allocate_quiet n env c e vs w
+defaulted_quiet n env c e (d ∷ ds) vs w =
+    choice_quiet (is_given vs d) (defaulted (meaning n) env c e ds vs w 0) _ w (defaulted_quiet n env c e ds vs w)
+    (then_quiet n env (Plain d.form) (λ v. defaulted (meaning n) env c e ds (vs ++ name_value d.name ∷ v ∷ [])) w)
+
+default_given_quiet : (n : ℕ) (env : Context) (c : ℕ) (e : Whole) (ds : List DefaultInitarg) (vs : List Val) (v : Val) (w : State)
+    → Quiet (default_given (meaning n) env c e ds vs v w 0) w
+default_given_quiet n env c e [] vs v w = (refl, refl)
+default_given_quiet n env c e (d ∷ ds) vs v w = defaulted_quiet n env c e ds (vs ++ name_value d.name ∷ v ∷ []) w
+
+making_of_quiet : (n : ℕ) (vs : List Val) (c : ℕ) (o : Option Whole) (w : State) → Quiet (making_of (meaning n) vs c o w 0) w
+making_of_quiet n vs c None w = (refl, refl)
+making_of_quiet n vs c (Some e) w =
+    restored_quiet w.locals (defaulted (meaning n) (known []) c e e.defaults vs (bound_as [] w) 0) w (defaulted_quiet n (known []) c e e.defaults vs (bound_as [] w))
+
+making_quiet : (n : ℕ) (vs : List Val) (d : Result ℕ Condition) (w : State) → Quiet (making (meaning n) vs d w 0) w
+making_quiet n vs (Err c) w = (refl, refl)
+making_quiet n vs (Ok c) w = making_of_quiet n vs c (effective w.classes c) w
+
+instance_quiet : (n : ℕ) (vs : List Val) (w : State) → Quiet (instance_made (meaning n) vs w 0) w
+instance_quiet n [] w = (refl, refl)
+instance_quiet n (v ∷ vs) w = choice_quiet (are_pairs vs) (making (meaning n) vs (designated w.classes v) w 0) _ w (making_quiet n vs (designated w.classes v) w) (refl, refl)
 
 applied_quiet : (n : ℕ) (env : Context) (c : Callee) (name : Nam) (vs : List Val) (w : State) → leaves (closed (applied (meaning n) env c name vs w 0)) (unbound w) 0
 applied_quiet n env (Output o) name vs w = output_quiet o (only_value vs) w
 applied_quiet n env Terpri name vs w = line_quiet vs w
 applied_quiet n env (Primitive p) name vs w = answered_quiet (answer p vs) w
-applied_quiet n env MakeInstance name vs w = instance_quiet n env (only_value vs) w
+applied_quiet n env MakeInstance name vs w = instance_quiet n vs w
 applied_quiet n env (ClassFunction f) name vs w = comes_quiet (class_answer f w.classes (class_of w) vs) w
+applied_quiet n env (SlotFunction f) name vs w = slot_called_quiet n env f vs w
 applied_quiet n env Defined name vs w = function_quiet n name vs (function_named w.generics name) w
 
 -- ---- assignment
@@ -193,36 +287,47 @@ changed_quiet p name (Some amount) w =
 setter_quiet : (n : ℕ) (name : Nam) (vs : List Val) (w : State) → Quiet (called_setter (meaning n) name vs w 0) w
 setter_quiet n name vs w = defined_quiet n (last_first vs) (setter_value name) (function_in w.setters name) w
 
-changed_from_quiet : (n : ℕ) (p : of_values.Primitive) (name : Nam) (vs : List Val) (amount old : Val) (w : State)
-    → Quiet (changed_from (meaning n) p name vs amount old w 0) w
-changed_from_quiet n p name vs amount old w =
-    follows_quiet (answered (answer p (old ∷ amount ∷ [])) w 0) (λ v. set_call (meaning n) name vs v) w (answered_quiet (answer p (old ∷ amount ∷ [])) w)
-    (λ v u. follows_quiet (called_setter (meaning n) name (vs ++ v ∷ []) u 0) (λ x. gave v) u (setter_quiet n name (vs ++ v ∷ []) u) (λ x t. (refl, refl)))
+read_quiet : (n : ℕ) (env : Context) (t : Target) (vs : List Val) (w : State) → Quiet (place_read (meaning n) env t vs w 0) w
+read_quiet n env (target.Call name) vs w = applied_quiet n env (callee_of name) name vs w
+read_quiet n env target.SlotValue vs w = slot_called_quiet n env SlotValue vs w
 
-change_call_quiet : (n : ℕ) (env : Context) (p : of_values.Primitive) (name : Nam) (vs : List Val) (w : State)
-    → Quiet (changed_call (meaning n) env p name vs w 0) w
-change_call_quiet n env p name [] w = (refl, refl)
-change_call_quiet n env p name (amount ∷ vs) w =
-    follows_quiet (called (meaning n) env name vs w 0) (λ old. changed_from (meaning n) p name vs amount old) w
-    (applied_quiet n env (callee_of name) name vs w) (λ old u. changed_from_quiet n p name vs amount old u)
+set_quiet : (n : ℕ) (env : Context) (t : Target) (vs : List Val) (w : State) → Quiet (place_set (meaning n) env t vs w 0) w
+set_quiet n env (target.Call name) vs w = setter_quiet n name vs w
+set_quiet n env target.SlotValue vs w = slot_set_quiet n env vs w
 
-amount_quiet : (n : ℕ) (env : Context) (p : of_values.Primitive) (name : Nam) (fs : Frms) (vs : List Val) (w : State)
-    → Quiet (with_amount (meaning n) env fs vs (λ us u k. changed_call (meaning n) env p name (last_first us) u k) w 0) w
-amount_quiet n env p name nil vs w = change_call_quiet n env p name (last_first (vs ++ value.integer (pos 1) ∷ [])) w
-amount_quiet n env p name (cons f fs) vs w =
-    then_quiet n env (Plain f) (λ v. collect (meaning n) env fs (vs ++ v ∷ []) (λ us u k. changed_call (meaning n) env p name (last_first us) u k)) w
+changed_from_quiet : (n : ℕ) (env : Context) (p : of_values.Primitive) (t : Target) (vs : List Val) (amount old : Val) (w : State)
+    → Quiet (changed_from (meaning n) env p t vs amount old w 0) w
+changed_from_quiet n env p t vs amount old w =
+    follows_quiet (answered (answer p (old ∷ amount ∷ [])) w 0) (λ v. set_place (meaning n) env t vs v) w (answered_quiet (answer p (old ∷ amount ∷ [])) w)
+    (λ v u. follows_quiet (place_set (meaning n) env t (vs ++ v ∷ []) u 0) (λ x. gave v) u (set_quiet n env t (vs ++ v ∷ []) u) (λ x y. (refl, refl)))
+
+change_place_quiet : (n : ℕ) (env : Context) (p : of_values.Primitive) (t : Target) (vs : List Val) (w : State)
+    → Quiet (changed_place (meaning n) env p t vs w 0) w
+change_place_quiet n env p t [] w = (refl, refl)
+change_place_quiet n env p t (amount ∷ vs) w =
+    follows_quiet (place_read (meaning n) env t vs w 0) (λ old. changed_from (meaning n) env p t vs amount old) w
+    (read_quiet n env t vs w) (λ old u. changed_from_quiet n env p t vs amount old u)
+
+amount_quiet : (n : ℕ) (env : Context) (p : of_values.Primitive) (t : Target) (fs : Frms) (vs : List Val) (w : State)
+    → Quiet (with_amount (meaning n) env fs vs (λ us u k. changed_place (meaning n) env p t (last_first us) u k) w 0) w
+amount_quiet n env p t nil vs w = change_place_quiet n env p t (last_first (vs ++ value.integer (pos 1) ∷ [])) w
+amount_quiet n env p t (cons f fs) vs w =
+    then_quiet n env (Plain f) (λ v. collect (meaning n) env fs (vs ++ v ∷ []) (λ us u k. changed_place (meaning n) env p t (last_first us) u k)) w
 
 -- ---- actions
 
 acted_quiet : (n : ℕ) (env : Context) (a : Action) (vs : List Val) (w : State) → Quiet (acted (meaning n) env a vs w 0) w
 acted_quiet n env (Call name) vs w = applied_quiet n env (callee_of name) name vs w
-acted_quiet n env (CallSetter name) vs w = setter_quiet n name vs w
+acted_quiet n env (Set t) vs w = set_quiet n env t vs w
 acted_quiet n env (Store name) vs w = stored_only_quiet name (only_value vs) w
 acted_quiet n env (Change p name) vs w = changed_quiet p name (only_value vs) w
-acted_quiet n env (NewValue name f) vs w =
-    then_quiet n env (Plain f) (λ v. collect (meaning n) env nil (vs ++ v ∷ []) (λ us u k. called_setter (meaning n) name us u k)) w
-acted_quiet n env (Amount p name fs) vs w = amount_quiet n env p name fs vs w
-acted_quiet n env (ChangeCall p name) vs w = change_call_quiet n env p name (last_first vs) w
+acted_quiet n env (NewValue t f) vs w =
+    then_quiet n env (Plain f) (λ v. collect (meaning n) env nil (vs ++ v ∷ []) (λ us u k. place_set (meaning n) env t us u k)) w
+acted_quiet n env (Amount p t fs) vs w = amount_quiet n env p t fs vs w
+acted_quiet n env (ChangePlace p t) vs w = change_place_quiet n env p t (last_first vs) w
+acted_quiet n env (Allocate c e) vs w = allocate_quiet n env c.0 e vs w
+acted_quiet n env (Fill f) vs w = fill_quiet n env (subject_of f) (slots_left f) w
+acted_quiet n env (FillWith f v) vs w = fill_with_quiet n env (subject_of f) (slots_left f) (value_of v) w
 
 collect_quiet : (n : ℕ) (env : Context) (fs : Frms) (vs : List Val) (a : Action) (w : State) → Quiet (collect (meaning n) env fs vs (acted (meaning n) env a) w 0) w
 collect_quiet n env nil vs a w = acted_quiet n env a vs w
@@ -235,13 +340,15 @@ setq_quiet n env (x ∷ ns) (cons f fs) v w =
     halted (collected (meaning n) env (alone f) (Store x) w 0) (λ u. setq (meaning n) env ns fs u) w
     (halts n env (Plain f) (λ v. collect (meaning n) env nil (v ∷ []) (acted (meaning n) env (Store x))) w)
 
+placed_halts : (n : ℕ) (env : Context) (t : Target) (ps : Frms) (f : Frm) (w : State) → Halts w (collected (meaning n) env ps (NewValue t f) w 0)
+placed_halts n env t nil f w = halts n env (Plain f) (λ v. collect (meaning n) env nil (v ∷ []) (λ us u k. place_set (meaning n) env t us u k)) w
+placed_halts n env t (cons p ps) f w = halts n env (Plain p) (λ v. collect (meaning n) env ps (v ∷ []) (acted (meaning n) env (NewValue t f))) w
+
 assigned_halts : (n : ℕ) (env : Context) (o : Option Plc) (ps : Frms) (f : Frm) (w : State) → Halts w (assigned (meaning n) env o ps f w 0)
 assigned_halts n env None ps f w = (_, refl)
 assigned_halts n env (Some (variable_place x)) ps f w = halts n env (Plain f) (λ v. collect (meaning n) env nil (v ∷ []) (acted (meaning n) env (Store x))) w
-assigned_halts n env (Some slot_value_place) ps f w = (_, refl)
-assigned_halts n env (Some (call_place x)) nil f w =
-    halts n env (Plain f) (λ v. collect (meaning n) env nil (v ∷ []) (λ us u k. called_setter (meaning n) x us u k)) w
-assigned_halts n env (Some (call_place x)) (cons p ps) f w = halts n env (Plain p) (λ v. collect (meaning n) env ps (v ∷ []) (acted (meaning n) env (NewValue x f))) w
+assigned_halts n env (Some slot_value_place) ps f w = placed_halts n env target.SlotValue ps f w
+assigned_halts n env (Some (call_place x)) ps f w = placed_halts n env (target.Call x) ps f w
 
 setf_quiet : (n : ℕ) (env : Context) (fs : Frms) (v : Val) (w : State) → Quiet (setf (meaning n) env fs v w 0) w
 setf_quiet n env nil v w = (refl, refl)
@@ -370,7 +477,9 @@ after_quiet n env (Count l) v w = repeated_quiet n env (loop_of l) v w
 after_quiet n env (Turn l counter rest) v w = turn_quiet n env (loop_of l) counter.0 counter.1 rest v w
 after_quiet n env (Setq f place rest) v w = setq_quiet n env (drop place (targets (operator_in f))) rest v w
 after_quiet n env (Setf rest) v w = setf_quiet n env rest v w
-after_quiet n env (Changed p name vs amount) v w = changed_from_quiet n p name vs (value_of amount) v w
+after_quiet n env (Changed p t vs amount) v w = changed_from_quiet n env p t vs (value_of amount) v w
+after_quiet n env (Default c e place vs) v w = default_given_quiet n env c.0 e (drop place e.defaults) vs v w
+after_quiet n env (Filled f) v w = fill_with_quiet n env (subject_of f) (slots_left f) v w
 after_quiet n env (Known saved) v w = (refl, refl)
 after_quiet n env Passing v w = (refl, refl)
 

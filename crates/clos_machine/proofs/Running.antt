@@ -27,7 +27,6 @@ use Rattle.clos_world.specs.declared.condition.Stop.TheVariants.{Refused, Storag
 use Rattle.clos_machine.specs.Fault.{condition_of, Signals, answered}
 use Rattle.clos_machine.specs.Machine.{at, after, below, resume, inside, denote, given_to, leaves, Leads, Turns, Becomes, Changes, Designates, Answers, Takes, Reached}
 use Rattle.clos_machine.specs.Meaning.{closed, meaning, begun}
-use Rattle.clos_machine.specs.Objects.{made, designated, class_found, instance_made, allocated}
 use Rattle.clos_machine.specs.Control.{sequence}
 use Rattle.clos_machine.specs.Variables.{Loop, body_of, counted, found_value, variable_value, leaving, result_value, turns}
 use Rattle.clos_machine.specs.Outcome.{Gave, Stopped, Run, Eval, then_do, step_then, stopped}
@@ -87,11 +86,6 @@ line_refused m (x ∷ xs) vs c w s h e k =
     subst (λ us. inside m (line_ended us) w s ≡ Stopped c (unbound w) s) e
     (stopped_through m.levels m.context (record { kind = ProgramError; items = [] }) (at m w) s ∙ ap (λ d. Stopped d (unbound w) s) (sym k))
 
-pub nothing_made : (m : Machine) (ev : Eval) (env : Context) (x : Option Val) (c : Condition) (w : State) (s : ℕ) → None ≡ x → c ≡ record { kind = Unsupported; items = [] }
-    → inside m (instance_made ev env x) w s ≡ Stopped c (unbound w) s
-nothing_made m ev env None c w s e k = stopped_through m.levels m.context (record { kind = Unsupported; items = [] }) (at m w) s ∙ ap (λ d. Stopped d (unbound w) s) (sym k)
-nothing_made m ev env (Some v) c w s e k = cc
-
 pub applied_runs : (m : Machine) (ev : Eval) (vs us : List Val) (f : Function) (w : State) (r : Result Doing Stop) (p : Machine) → us ≡ vs
     → true ≡ fits f.lambda_list vs → Leads (inside m (body_run ev us (sources f.lambda_list us) f.body)) w r p → Leads (inside m (applied_to ev vs f)) w r p
 applied_runs m ev vs us f w r p e l h =
@@ -121,41 +115,6 @@ pub not_computed : (m m' : Machine) (x : Result Val prims.Condition) (f : PrimFa
 not_computed m m' x f Storage w a h k = tt
 not_computed m m' x f (Refused d) w a h k = λ t.
     ap (λ o. closed (resume m.levels m.context o)) (not_made x f (Refused d) (at m w) a h k t) ∙ stopped_through m.levels m.context d (at m w) t
-
--- ---- an instance is made
-
-pub nil_designates : (w : State) (l : Vals) (n : Nam) (r : Result ClassId Stop) → l ≡ nil → n ≡ nil_name → Designates (class_found w.classes n (named w.classes n)) r
-    → Designates (designated w.classes (list l)) r
-nil_designates w l n r e k h =
-    subst (λ x. Designates (designated w.classes (list x)) r) (sym e) (subst (λ x. Designates (class_found w.classes x (named w.classes x)) r) k h)
-
-pub not_designated : (m : Machine) (ev : Eval) (env : Context) (v : Val) (w : State) (s : ℕ) (stop : Stop) (m' : Machine) → Designates (designated w.classes v) (Err stop)
-    → Turns (inside m (λ u k. made ev env (designated u.classes v) u k)) w s (Err stop) m' w s
-not_designated m ev env v w s (Refused c) m' e =
-    ap (λ d. closed (resume m.levels m.context (made ev env d (at m w) s))) e ∙ stopped_through m.levels m.context c (at m w) s
-not_designated m ev env v w s Storage m' e = (refl, refl)
-
-pub made_full : (m : Machine) (ev : Eval) (env : Context) (c : ℕ) (w : State) (s : ℕ) → w.limits.instances ≤ length w.instances
-    → inside m (made ev env (Ok c)) w s ≡ stopped TableLimit [] (unbound w) s
-made_full m ev env c w s h =
-    ap (λ b. closed (resume m.levels m.context (if b then step_then (allocated ev env c) (at m w) s else stopped TableLimit [] (at m w) s))) (le-ltb (length w.instances) w.limits.instances h)
-    ∙ stopped_through m.levels m.context (record { kind = TableLimit; items = [] }) (at m w) s
-
-pub made_more : (m : Machine) (ev : Eval) (env : Context) (c : ℕ) (w : State) (s : ℕ) → length w.instances < w.limits.instances
-    → inside m (made ev env (Ok c)) w s ≡ inside m (step_then (allocated ev env c)) w s
-made_more m ev env c w s h =
-    ap (λ b. closed (resume m.levels m.context (if b then step_then (allocated ev env c) (at m w) s else stopped TableLimit [] (at m w) s))) (lt-ltb (length w.instances) w.limits.instances h)
-
-pub made_no_step : (m : Machine) (ev : Eval) (env : Context) (c : ℕ) (w : State) (s : ℕ) → length w.instances < w.limits.instances → s ≡ 0
-    → inside m (made ev env (Ok c)) w s ≡ stopped StepLimit [] (unbound w) s
-made_no_step m ev env c w s h e =
-    made_more m ev env c w s h ∙ ap (inside m (step_then (allocated ev env c)) w) e
-    ∙ stopped_through m.levels m.context (record { kind = StepLimit; items = [] }) (at m w) 0 ∙ ap (stopped StepLimit [] (unbound w)) (sym e)
-
-pub made_next : (m : Machine) (ev : Eval) (env : Context) (c : ℕ) (w : State) (t : ℕ) → length w.instances < w.limits.instances
-    → inside m (made ev env (Ok c)) w (1 + t) ≡ inside m (allocated ev env c) w t
-made_next m ev env c w t h =
-    made_more m ev env c w (1 + t) h ∙ ap (inside m (step_then (allocated ev env c)) w) (one_more t)
 
 -- ---- a task begins
 

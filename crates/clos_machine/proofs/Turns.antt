@@ -1,5 +1,5 @@
 -- Outcomes through the levels of the machine.
-use Rattle.std.proofs.Common.{◌≡◌, ℕ, arith, Result, Ok, Err, List, [], ◌∷◌, Option, Some, None, refl, ap, sym, subst, ◌∙◌}
+use Rattle.std.proofs.Common.{◌≡◌, ℕ, ◌<◌, ◌≤◌, arith, Result, Ok, Err, List, [], ◌∷◌, Option, Some, None, refl, ap, sym, subst, ◌∙◌}
 use Rattle.lisp_data.specs.Value.{Val}
 use Rattle.clos_forms.specs.Form.{Frms, nil, cons}
 use Rattle.clos_world.specs.World.{State, Local, bound_as, unbound}
@@ -10,7 +10,7 @@ use Rattle.clos_world.specs.declared.condition.Stop.TheVariants.{Refused, Storag
 use Rattle.clos_world.specs.declared.generic.Method.{Method}
 use Rattle.clos_machine.specs.Calls.{method_run}
 use Rattle.clos_machine.specs.Control.{sequence, while_true, until_true, going}
-use Rattle.clos_machine.specs.Machine.{at, below, after, resume, inside, Grows, Leads}
+use Rattle.clos_machine.specs.Machine.{at, below, after, resume, inside, Grows, Leads, Shrinks}
 use Rattle.clos_machine.specs.Meaning.{meaning, closed}
 use Rattle.clos_machine.specs.Outcome.{Out, Run, Eval, Gave, Stopped, then_do, gave}
 use Rattle.clos_machine.specs.declared.arguments.Context.{Context}
@@ -48,6 +48,11 @@ grows_9_16 old (Err e) m h = tt
 pub grows_6_7 : (old : List Level) (r : Result Doing Stop) (m : Machine) → Grows 6 old r m → Grows 7 old r m
 grows_6_7 old (Ok d) m h = omega (arith, h)
 grows_6_7 old (Err e) m h = tt
+
+-- what adds less than what comes next makes a turn, whether it takes steps or not
+pub shrinks_of : (n k s s' : ℕ) (old : List Level) (r : Result Doing Stop) (m : Machine) → n < k → s' ≤ s → Grows n old r m → Shrinks k s s' old r m
+shrinks_of n k s s' old (Ok d) m l h g = omega (arith, l, h, g)
+shrinks_of n k s s' old (Err e) m l h g = tt
 
 -- how forms go on, in the words of the machine
 pub going_progn : (ev : Eval) (env : Context) (fs : Frms) (v : Val) (w : State) (t : ℕ) → going ev env Progn fs v w t ≡ sequence ev env fs v w t

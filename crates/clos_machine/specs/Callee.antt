@@ -5,9 +5,11 @@ use Rattle.lisp_prims.specs.Primitive.{primitive_of}
 use Rattle.lisp_prims.specs.declared.primitive.Primitive as of_values
 use Rattle.clos_forms.specs.Names.{is_called}
 use Rattle.clos_machine.specs.declared.callee.Callee.{Callee}
-use Rattle.clos_machine.specs.declared.callee.Callee.TheVariants.{Output, Terpri, Primitive, MakeInstance, ClassFunction, Defined}
+use Rattle.clos_machine.specs.declared.callee.Callee.TheVariants.{Output, Terpri, Primitive, MakeInstance, ClassFunction, SlotFunction, Defined}
 use Rattle.clos_machine.specs.declared.callee.ClassFunction as of_classes
 use Rattle.clos_machine.specs.declared.callee.ClassFunction.TheVariants.{ClassOf, ClassName, ClassPrecedenceList, FindClass, Typep}
+use Rattle.clos_machine.specs.declared.callee.SlotFunction as of_slots
+use Rattle.clos_machine.specs.declared.callee.SlotFunction.TheVariants.{SlotValue, SlotBoundp, SlotMakunbound, SlotExistsP}
 use Rattle.clos_machine.specs.declared.callee.Output.TheVariants.{Princ, Prin1, Print}
 
 abbrev pub value_function : Option of_values.Primitive → Callee
@@ -27,6 +29,18 @@ abbrev pub class_function : Option of_classes.ClassFunction → Callee → Calle
 class_function None other = other
 class_function (Some f) other = ClassFunction f
 
+abbrev pub slot_function_of : Nam → Option of_slots.SlotFunction
+slot_function_of name =
+    if is_called (codes "SLOT-VALUE") name then Some SlotValue
+    else if is_called (codes "SLOT-BOUNDP") name then Some SlotBoundp
+    else if is_called (codes "SLOT-MAKUNBOUND") name then Some SlotMakunbound
+    else if is_called (codes "SLOT-EXISTS-P") name then Some SlotExistsP
+    else None
+
+abbrev pub slot_function : Option of_slots.SlotFunction → Nam → Callee
+slot_function None name = value_function (primitive_of name)
+slot_function (Some f) name = SlotFunction f
+
 -- what a call of the name calls
 abbrev pub callee_of : Nam → Callee
 callee_of name =
@@ -35,4 +49,4 @@ callee_of name =
     else if is_called (codes "PRINT") name then Output Print
     else if is_called (codes "TERPRI") name then Terpri
     else if is_called (codes "MAKE-INSTANCE") name then MakeInstance
-    else class_function (class_function_of name) (value_function (primitive_of name))
+    else class_function (class_function_of name) (slot_function (slot_function_of name) name)

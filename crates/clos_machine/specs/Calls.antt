@@ -2,32 +2,25 @@
 use Rattle.std.specs.Prelude.{ℕ, ◌==◌, List, [], ◌∷◌, ◌++◌, Option, Some, None, codes, false, if◌then◌else◌, length, slice_get}
 use Rattle.lisp_data.specs.Name.{Nam}
 use Rattle.lisp_data.specs.Value.{Val, instance, symbol, list, nil, cons}
-use Rattle.lisp_prims.specs.Primitive.{answer}
 use Rattle.clos_forms.specs.Form.{Frms}
 use Rattle.clos_forms.specs.Quotation.{name_value}
 use Rattle.clos_world.specs.Functions.{function_in}
 use Rattle.clos_world.specs.Generic.{function_named, ordered}
 use Rattle.clos_world.specs.Values.{only_value, last_first}
 use Rattle.clos_world.specs.World.{State, Local, bound_as, class_of, lists_of}
-use Rattle.clos_world.specs.declared.condition.ConditionKind.TheVariants.{ProgramError, UndefinedFunction, NoApplicableMethod, Unsupported}
+use Rattle.clos_world.specs.declared.condition.ConditionKind.TheVariants.{ProgramError, UndefinedFunction, NoApplicableMethod, UnboundSlot, MissingSlot}
 use Rattle.clos_world.specs.declared.functions.Function.{Function}
 use Rattle.clos_world.specs.declared.generic.Generic.{Generic}
 use Rattle.clos_world.specs.declared.generic.Method.{Method}
-use Rattle.clos_machine.specs.Callee.{callee_of}
-use Rattle.clos_machine.specs.ClassFunctions.{class_answer, comes_to}
 use Rattle.clos_machine.specs.Control.{sequence}
 use Rattle.clos_machine.specs.Effective.{Effective, call_method, progn, prog1, effective_form}
-use Rattle.clos_machine.specs.Fault.{answered}
-use Rattle.clos_machine.specs.Objects.{instance_made}
+use Rattle.clos_machine.specs.Filling.{fill, slots_left, subject_of}
 use Rattle.clos_machine.specs.Outcome.{Gave, Stopped, Run, Eval, then_do, stopped}
-use Rattle.clos_machine.specs.Output.{output_of, line_ended}
 use Rattle.clos_machine.specs.Parameters.{Source, Sources, argument, refused, init, fits, required_sources, sources}
 use Rattle.clos_machine.specs.Variables.{binding}
 use Rattle.clos_machine.specs.declared.arguments.Context.{Context}
-use Rattle.clos_machine.specs.declared.callee.Callee.{Callee}
-use Rattle.clos_machine.specs.declared.callee.Callee.TheVariants.{Output, Terpri, Primitive, MakeInstance, ClassFunction, Defined}
 use Rattle.clos_machine.specs.declared.machine.SystemCall.{SystemCall}
-use Rattle.clos_machine.specs.declared.machine.SystemCall.TheVariants.{SignalNoApplicable, Initialize, InitializeShared}
+use Rattle.clos_machine.specs.declared.machine.SystemCall.TheVariants.{SignalNoApplicable, SignalUnbound, SignalMissing, Initialize, InitializeShared}
 use Rattle.clos_machine.specs.declared.machine.Task.{Task}
 use Rattle.clos_machine.specs.declared.machine.Task.TheVariants.{Plain, Effect, System}
 
@@ -98,21 +91,10 @@ combined ev env (prog1 e) w s = ev env (Effect e) w s
 -- the effective form of a system generic function, whose one method is the system's
 abbrev pub system : Eval → Context → SystemCall → Run
 system ev env (SignalNoApplicable name vs) w s = stopped NoApplicableMethod (name_value name ∷ vs) w s
-system ev env (Initialize i) w s = ev env (System (InitializeShared i)) w s
-system ev env (InitializeShared i) w s = Gave (instance i.0) w s
-
--- ---- any function
-
-abbrev pub applied : Eval → Context → Callee → Nam → List Val → Run
-applied ev env (Output o) name vs w s = output_of o (only_value vs) w s
-applied ev env Terpri name vs w s = line_ended vs w s
-applied ev env (Primitive p) name vs w s = answered (answer p vs) w s
-applied ev env MakeInstance name vs w s = instance_made ev env (only_value vs) w s
-applied ev env (ClassFunction f) name vs w s = comes_to (class_answer f w.classes (class_of w) vs) w s
-applied ev env Defined name vs w s = called_function ev name vs (function_named w.generics name) w s
-
-abbrev pub called : Eval → Context → Nam → List Val → Run
-called ev env name vs w s = applied ev env (callee_of name) name vs w s
+system ev env (SignalUnbound name i) w s = stopped UnboundSlot (name_value name ∷ instance i.0 ∷ []) w s
+system ev env (SignalMissing name i) w s = stopped MissingSlot (name_value name ∷ instance i.0 ∷ []) w s
+system ev env (Initialize f) w s = ev env (System (InitializeShared f)) w s
+system ev env (InitializeShared f) w s = fill ev env (subject_of f) (slots_left f) w s
 
 -- ---- functions (setf name): the new value is their first argument, though it is evaluated last
 

@@ -9,11 +9,15 @@ pub mod Control
 pub mod Variables
 pub mod Assignment
 pub mod Objects
+pub mod Slots
+pub mod Filling
+pub mod Initialization
 pub mod Output
 pub mod ClassFunctions
 pub mod Parameters
 pub mod ParametersCode
 pub mod ParametersView
 pub mod Calls
+pub mod Functions
 pub mod Meaning
 pub mod Machine

@@ -16,18 +16,20 @@ use Rattle.clos_world.specs.declared.condition.Stop.{Stop}
 use Rattle.clos_world.specs.declared.condition.Stop.TheVariants.{Refused, Storage}
 use Rattle.clos_machine.specs.Calls.{restoring, parameters_run}
 use Rattle.clos_machine.specs.Control.{followed, keeping, tested, clauses, sequence}
+use Rattle.clos_machine.specs.Filling.{fill_with, slots_left, subject_of}
+use Rattle.clos_machine.specs.Initialization.{default_given}
 use Rattle.clos_machine.specs.Meaning.{acted, changed_from, collect, setq, setf, meaning, closed}
 use Rattle.clos_machine.specs.Outcome.{Out, Gave, Stopped, Run, Eval, then_do, step_then, gave}
 use Rattle.clos_machine.specs.Parameters.{Sources, argument, refused, init}
 use Rattle.clos_machine.specs.Variables.{Loop, found_value, in_order, binding, within, aside, repeated, turns}
 use Rattle.clos_machine.specs.declared.arguments.Context.{Context}
 use Rattle.clos_machine.specs.declared.machine.Action.{Action}
-use Rattle.clos_machine.specs.declared.machine.Action.TheVariants.{Call, CallSetter, Store, Change, NewValue, Amount, ChangeCall}
+use Rattle.clos_machine.specs.declared.machine.Action.TheVariants.{Call, Set, Store, Change, NewValue, Amount, ChangePlace, Allocate, Fill, FillWith}
 use Rattle.clos_machine.specs.declared.machine.Doing.{Doing}
 use Rattle.clos_machine.specs.declared.machine.Doing.TheVariants.{Start, Act, Give}
 use Rattle.clos_machine.specs.declared.machine.Doing.TheVariants as doing
 use Rattle.clos_machine.specs.declared.machine.Frame.{Frame}
-use Rattle.clos_machine.specs.declared.machine.Frame.TheVariants.{Rest, Keep, Clause, Collect, Body, Bind, Scope, InOrder, Aside, Count, Turn, Setq, Setf, Changed, Known, Passing}
+use Rattle.clos_machine.specs.declared.machine.Frame.TheVariants.{Rest, Keep, Clause, Collect, Body, Bind, Scope, InOrder, Aside, Count, Turn, Setq, Setf, Changed, Default, Filled, Known, Passing}
 use Rattle.clos_machine.specs.declared.machine.Level.{Level}
 use Rattle.clos_machine.specs.declared.machine.Machine.{Machine}
 use Rattle.clos_machine.specs.declared.machine.Repetition.{Repetition}
@@ -60,7 +62,9 @@ below env (Count l) = env
 below env (Turn l counter rest) = env
 below env (Setq f place rest) = env
 below env (Setf rest) = env
-below env (Changed p name vs amount) = env
+below env (Changed p t vs amount) = env
+below env (Default c e place vs) = env
+below env (Filled f) = env
 below env (Known saved) = saved
 below env Passing = env
 
@@ -79,7 +83,9 @@ after ev env (Count l) = λ v. repeated ev env (loop_of l) v
 after ev env (Turn l counter rest) = λ v w s. then_do (sequence ev env rest v w s) (λ u. turns ev env (loop_of l) counter.0 counter.1)
 after ev env (Setq f place rest) = λ v. setq ev env (drop place (targets (operator_in f))) rest v
 after ev env (Setf rest) = λ v. setf ev env rest v
-after ev env (Changed p name vs amount) = λ old. changed_from ev p name vs (value_of amount) old
+after ev env (Changed p t vs amount) = λ old. changed_from ev env p t vs (value_of amount) old
+after ev env (Default c e place vs) = λ v. default_given ev env c.0 e (drop place e.defaults) vs v
+after ev env (Filled f) = λ v. fill_with ev env (subject_of f) (slots_left f) v
 after ev env (Known saved) = gave
 after ev env Passing = gave
 
@@ -144,12 +150,15 @@ Takes run w s (Err e) w' s' = Unit {0}
 -- What an action weighs more than others, since some may follow it with no step between.
 abbrev pub lift : Action → ℕ
 lift (Call name) = 0
-lift (CallSetter name) = 0
+lift (Set t) = 0
 lift (Store name) = 0
 lift (Change p name) = 0
-lift (NewValue name f) = 0
-lift (Amount p name fs) = 7
-lift (ChangeCall p name) = 5
+lift (NewValue t f) = 0
+lift (Amount p t fs) = 7
+lift (ChangePlace p t) = 5
+lift (Allocate c e) = 0
+lift (Fill f) = 0
+lift (FillWith f v) = 0
 
 -- What is left to do, which each turn makes smaller: a frame that may lead to an action weighs more, an action yet more.
 abbrev pub weight_of : Frame → ℕ
@@ -157,7 +166,7 @@ weight_of (Rest c fs) = 2
 weight_of (Keep fs v) = 2
 weight_of (Clause fs cs) = 2
 weight_of (Collect action rest values) = 4 + lift action
-weight_of (Body rest saved locals) = 2
+weight_of (Body rest saved locals) = 1
 weight_of (Bind name plan body saved locals) = 2
 weight_of (Scope outer rest) = 2
 weight_of (InOrder outer name plan forms) = 2
@@ -166,7 +175,9 @@ weight_of (Count l) = 4
 weight_of (Turn l counter rest) = 4
 weight_of (Setq f place rest) = 2
 weight_of (Setf rest) = 2
-weight_of (Changed p name vs amount) = 6
+weight_of (Changed p t vs amount) = 6
+weight_of (Default c e place vs) = 5
+weight_of (Filled f) = 4
 weight_of (Known saved) = 2
 weight_of Passing = 2
 
@@ -189,10 +200,10 @@ abbrev pub Grows : ℕ → List Level → Result Doing Stop → Machine → Type
 Grows n old (Ok d) m = load m.levels + given d ≤ load old + n
 Grows n old (Err e) m = Unit {0}
 
--- A turn makes less what is left to do, whether it takes a step or not.
-abbrev pub Shrinks : ℕ → ℕ → List Level → Result Doing Stop → Machine → Type 0
-Shrinks s s' old (Ok d) m = 18 * s' + (load m.levels + given d) < 18 * s + (load old + 8)
-Shrinks s s' old (Err e) m = Unit {0}
+-- A turn makes less what is left to do, of which so much is what comes next, whether it takes a step or not.
+abbrev pub Shrinks : ℕ → ℕ → ℕ → List Level → Result Doing Stop → Machine → Type 0
+Shrinks n s s' old (Ok d) m = 18 * s' + (load m.levels + given d) < 18 * s + (load old + n)
+Shrinks n s s' old (Err e) m = Unit {0}
 
 -- the class that a value designates, or why there is none
 abbrev pub Designates : Result ℕ Condition → Result ClassId Stop → Type 0

@@ -3,6 +3,7 @@ use Rattle.std.specs.Prelude.{ℕ, zero, suc, pos, Bool, true, false, List, [], 
 use Rattle.lisp_data.specs.Name.{Nam}
 use Rattle.lisp_data.specs.Print.{Called, by_symbol, by_setf}
 use Rattle.lisp_data.specs.Value.{Val, integer, generic, list, nil}
+use Rattle.lisp_data.specs.ValueView.{value_of}
 use Rattle.lisp_prims.specs.Primitive.{truth, answer}
 use Rattle.lisp_prims.specs.declared.primitive.Primitive.{Primitive}
 use Rattle.lisp_prims.specs.declared.primitive.Primitive.TheVariants.{Number}
@@ -19,15 +20,20 @@ use Rattle.clos_world.specs.Values.{only_value, last_first}
 use Rattle.clos_world.specs.World.{State, unbound}
 use Rattle.clos_world.specs.declared.condition.ConditionKind.TheVariants.{ProgramError, UndefinedFunction, Unsupported, DepthLimit}
 use Rattle.clos_machine.specs.Assignment.{stored_only, changed_only}
-use Rattle.clos_machine.specs.Calls.{known, called, called_setter, setter_value, combined, system}
+use Rattle.clos_machine.specs.Calls.{known, setter_value, combined, system}
 use Rattle.clos_machine.specs.Control.{going, clauses}
 use Rattle.clos_machine.specs.Fault.{answered}
+use Rattle.clos_machine.specs.Filling.{fill, fill_with, slots_left, subject_of}
+use Rattle.clos_machine.specs.Functions.{called, place_read, place_set}
+use Rattle.clos_machine.specs.Initialization.{allocate}
 use Rattle.clos_machine.specs.Outcome.{Out, Gave, Stopped, Run, Eval, then_do, step_then, gave, stopped}
 use Rattle.clos_machine.specs.Variables.{found_value, variable_value, in_order, aside, dotimes}
 use Rattle.clos_machine.specs.declared.arguments.Context.{Context}
 use Rattle.clos_machine.specs.declared.machine.Action.{Action}
-use Rattle.clos_machine.specs.declared.machine.Action.TheVariants.{Call, CallSetter, Store, Change, NewValue, Amount, ChangeCall}
+use Rattle.clos_machine.specs.declared.machine.Action.TheVariants.{Call, Set, Store, Change, NewValue, Amount, ChangePlace, Allocate, Fill, FillWith}
 use Rattle.clos_machine.specs.declared.machine.Control.TheVariants.{Progn, Prog1, If, When, Unless, And, Or}
+use Rattle.clos_machine.specs.declared.machine.Target.{Target}
+use Rattle.clos_machine.specs.declared.machine.Target.TheVariants as target
 use Rattle.clos_machine.specs.declared.machine.Task.TheVariants.{Plain, Effect, System}
 
 -- the values of forms, from left to right
@@ -38,7 +44,7 @@ collect ev env (form.cons f fs) vs go w s = then_do (ev env (Plain f) w s) (λ v
 abbrev pub alone : Frm → Frms
 alone f = form.cons f form.nil
 
--- ---- a call that is changed by an amount: it is read as a call, and then set
+-- ---- a place that is changed by an amount: it is read, and then set
 
 -- these values and the amount, which is 1 where no form gives it
 abbrev pub with_amount : Eval → Context → Frms → List Val → (List Val → Run) → Run
@@ -46,26 +52,29 @@ with_amount ev env form.nil vs go w s = go (vs ++ integer (pos 1) ∷ []) w s
 with_amount ev env (form.cons f fs) vs go w s = collect ev env (form.cons f fs) vs go w s
 
 -- the value is the new one, whatever the function (setf name) gives
-abbrev pub set_call : Eval → Nam → List Val → Val → Run
-set_call ev name vs v w s = then_do (called_setter ev name (vs ++ v ∷ []) w s) (λ u. gave v)
+abbrev pub set_place : Eval → Context → Target → List Val → Val → Run
+set_place ev env t vs v w s = then_do (place_set ev env t (vs ++ v ∷ []) w s) (λ u. gave v)
 
-abbrev pub changed_from : Eval → Primitive → Nam → List Val → Val → Val → Run
-changed_from ev p name vs amount old w s = then_do (answered (answer p (old ∷ amount ∷ [])) w s) (λ v. set_call ev name vs v)
+abbrev pub changed_from : Eval → Context → Primitive → Target → List Val → Val → Val → Run
+changed_from ev env p t vs amount old w s = then_do (answered (answer p (old ∷ amount ∷ [])) w s) (λ v. set_place ev env t vs v)
 
--- with the amount before the call's arguments
-abbrev pub changed_call : Eval → Context → Primitive → Nam → List Val → Run
-changed_call ev env p name [] w s = stopped ProgramError [] w s
-changed_call ev env p name (amount ∷ vs) w s = then_do (called ev env name vs w s) (λ old. changed_from ev p name vs amount old)
+-- with the amount before the place's arguments
+abbrev pub changed_place : Eval → Context → Primitive → Target → List Val → Run
+changed_place ev env p t [] w s = stopped ProgramError [] w s
+changed_place ev env p t (amount ∷ vs) w s = then_do (place_read ev env t vs w s) (λ old. changed_from ev env p t vs amount old)
 
 -- what is done with the values
 abbrev pub acted : Eval → Context → Action → List Val → Run
 acted ev env (Call name) vs w s = called ev env name vs w s
-acted ev env (CallSetter name) vs w s = called_setter ev name vs w s
+acted ev env (Set t) vs w s = place_set ev env t vs w s
 acted ev env (Store name) vs w s = stored_only name (only_value vs) w s
 acted ev env (Change p name) vs w s = changed_only p name (only_value vs) w s
-acted ev env (NewValue name f) vs w s = collect ev env (alone f) vs (λ us u k. called_setter ev name us u k) w s
-acted ev env (Amount p name fs) vs w s = with_amount ev env fs vs (λ us u k. changed_call ev env p name (last_first us) u k) w s
-acted ev env (ChangeCall p name) vs w s = changed_call ev env p name (last_first vs) w s
+acted ev env (NewValue t f) vs w s = collect ev env (alone f) vs (λ us u k. place_set ev env t us u k) w s
+acted ev env (Amount p t fs) vs w s = with_amount ev env fs vs (λ us u k. changed_place ev env p t (last_first us) u k) w s
+acted ev env (ChangePlace p t) vs w s = changed_place ev env p t (last_first vs) w s
+acted ev env (Allocate c e) vs w s = allocate ev env c.0 e vs w s
+acted ev env (Fill f) vs w s = fill ev env (subject_of f) (slots_left f) w s
+acted ev env (FillWith f v) vs w s = fill_with ev env (subject_of f) (slots_left f) (value_of v) w s
 
 -- these forms, and then what is done with their values
 abbrev pub collected : Eval → Context → Frms → Action → Run
@@ -82,12 +91,12 @@ abbrev pub place_in : Opr → Option Plc
 place_in (of.place p) = Some p
 place_in o = None
 
--- a place is set to the value of a form; what a call is set by is a function of the program's
+-- a place is set to the value of a form
 abbrev pub assigned : Eval → Context → Option Plc → Frms → Frm → Run
 assigned ev env None ps f w s = stopped ProgramError [] w s
 assigned ev env (Some (variable_place n)) ps f w s = collected ev env (alone f) (Store n) w s
-assigned ev env (Some slot_value_place) ps f w s = stopped Unsupported [] w s
-assigned ev env (Some (call_place n)) ps f w s = collected ev env ps (NewValue n f) w s
+assigned ev env (Some slot_value_place) ps f w s = collected ev env ps (NewValue target.SlotValue f) w s
+assigned ev env (Some (call_place n)) ps f w s = collected ev env ps (NewValue (target.Call n) f) w s
 
 abbrev pub setf : Eval → Context → Frms → Val → Run
 setf ev env form.nil v w s = Gave v w s
@@ -95,15 +104,15 @@ setf ev env (form.cons p form.nil) v w s = stopped ProgramError [] w s
 setf ev env (form.cons p (form.cons f fs)) v w s = then_do (assigned ev env (place_in (operator_in p)) (parts_in p) f w s) (λ u. setf ev env fs u)
 
 -- a place with its parts is changed by the amount that these forms give
-abbrev pub changed_place : Eval → Context → Primitive → Option Plc → Frms → Frms → Run
-changed_place ev env p None ps fs w s = stopped ProgramError [] w s
-changed_place ev env p (Some (variable_place n)) ps fs w s = with_amount ev env fs [] (acted ev env (Change p n)) w s
-changed_place ev env p (Some slot_value_place) ps fs w s = stopped Unsupported [] w s
-changed_place ev env p (Some (call_place n)) ps fs w s = collected ev env ps (Amount p n fs) w s
+abbrev pub changed_by : Eval → Context → Primitive → Option Plc → Frms → Frms → Run
+changed_by ev env p None ps fs w s = stopped ProgramError [] w s
+changed_by ev env p (Some (variable_place n)) ps fs w s = with_amount ev env fs [] (acted ev env (Change p n)) w s
+changed_by ev env p (Some slot_value_place) ps fs w s = collected ev env ps (Amount p target.SlotValue fs) w s
+changed_by ev env p (Some (call_place n)) ps fs w s = collected ev env ps (Amount p (target.Call n) fs) w s
 
 abbrev pub changing : Eval → Context → Primitive → Frms → Run
 changing ev env p form.nil w s = stopped ProgramError [] w s
-changing ev env p (form.cons place fs) w s = changed_place ev env p (place_in (operator_in place)) (parts_in place) fs w s
+changing ev env p (form.cons place fs) w s = changed_by ev env p (place_in (operator_in place)) (parts_in place) fs w s
 
 -- ---- function: a generic function; other functions are no objects here
 

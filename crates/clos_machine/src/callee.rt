@@ -1,6 +1,6 @@
 //! What the functions of the language are, by their names.
 ghost use Rattle.std.specs.Prelude.{◌≡◌};
-ghost use Rattle.clos_machine.specs.Callee.{callee_of, class_function, class_function_of, value_function};
+ghost use Rattle.clos_machine.specs.Callee.{callee_of, class_function, class_function_of, slot_function, slot_function_of, value_function};
 
 use clos_forms::is_the;
 use lisp_data::Name;
@@ -32,6 +32,19 @@ pub enum ClassFunction {
     Typep,
 }
 
+/// A function of an instance and the name of a slot (HyperSpec 7.5.2, 7.7).
+#[derive(Clone, Copy, Debug, Drop, PartialEq, Eq)]
+pub enum SlotFunction {
+    /// The value of the slot.
+    SlotValue,
+    /// Whether it has a value.
+    SlotBoundp,
+    /// Takes its value away.
+    SlotMakunbound,
+    /// Whether there is such a slot.
+    SlotExistsP,
+}
+
 /// What a call of a name calls.
 #[derive(Clone, Copy, Debug, Drop, PartialEq, Eq)]
 pub enum Callee {
@@ -44,6 +57,8 @@ pub enum Callee {
     MakeInstance,
     /// A function of classes.
     ClassFunction(ClassFunction),
+    /// A function of slots.
+    SlotFunction(SlotFunction),
     /// A function of the program's, if there is one.
     Defined,
 }
@@ -69,8 +84,36 @@ pub fn callee_named(name: &Name) -> Callee
     }
     match class_function_named(name) {
         Some(function) => Callee::ClassFunction(function),
+        None => slot_function(name),
+    }
+}
+
+fn slot_function(name: &Name) -> Callee
+    ensures { result ≡ slot_function (slot_function_of name.now) name.now }
+{
+    match slot_function_named(name) {
+        Some(function) => Callee::SlotFunction(function),
         None => value_function(Primitive::named(name)),
     }
+}
+
+/// The function of slots of this name.
+fn slot_function_named(name: &Name) -> Option<SlotFunction>
+    ensures { result ≡ slot_function_of name.now }
+{
+    if is_the(name, "SLOT-VALUE") {
+        return Some(SlotFunction::SlotValue);
+    }
+    if is_the(name, "SLOT-BOUNDP") {
+        return Some(SlotFunction::SlotBoundp);
+    }
+    if is_the(name, "SLOT-MAKUNBOUND") {
+        return Some(SlotFunction::SlotMakunbound);
+    }
+    if is_the(name, "SLOT-EXISTS-P") {
+        return Some(SlotFunction::SlotExistsP);
+    }
+    None
 }
 
 /// The function of classes of this name.

@@ -6,6 +6,7 @@ pub mod callee;
 pub mod counter;
 pub mod effective;
 pub mod fault;
+pub mod finalized;
 pub mod locals;
 pub mod machine;
 pub mod parameters;

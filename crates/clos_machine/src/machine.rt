@@ -4,11 +4,12 @@ ghost use Rattle.std.specs.Prelude.{◌≡◌, ◌∷◌, [], ℕ, ◌<◌, ◌�
 use crate::arguments::{Arguments, Context};
 use crate::counter::Counter;
 use crate::effective::EffectiveForm;
+use crate::finalized::Finalized;
 use crate::locals::{Locals, Plan};
 use crate::parameters::ParameterPlan;
 use clos_forms::{Form, Forms};
 use clos_world::Values;
-use lisp_data::{InstanceId, Name, Value};
+use lisp_data::{ClassId, InstanceId, Name, Value};
 use lisp_prims::Primitive;
 use std::alloc::{AllocError, Global};
 use std::marker::Model;
@@ -26,10 +27,34 @@ pub enum Task {
 pub enum SystemCall {
     /// The function no-applicable-method, of the generic function of this name and its arguments.
     SignalNoApplicable(Name, Arguments),
+    /// The function slot-unbound, of the slot of this name and an instance.
+    SignalUnbound(Name, InstanceId),
+    /// The function slot-missing, of a name and an instance that has no such slot.
+    SignalMissing(Name, InstanceId),
     /// The function initialize-instance.
-    Initialize(InstanceId),
+    Initialize(Filling),
     /// The function shared-initialize.
-    InitializeShared(InstanceId),
+    InitializeShared(Filling),
+}
+
+/// An instance whose slots are filled in layout order: its class, the initargs, what the class has, and the place of the
+/// slot that comes next.
+#[derive(Drop)]
+pub struct Filling {
+    pub instance: InstanceId,
+    pub class: ClassId,
+    pub initargs: Arguments,
+    pub effective: Finalized,
+    pub place: usize,
+}
+
+/// What a place other than a variable is read and set by.
+#[derive(Drop)]
+pub enum Target {
+    /// The functions of this name, and `(setf name)`.
+    Call(Name),
+    /// The slot of an instance.
+    SlotValue,
 }
 
 /// What is done with values when they are there.
@@ -37,19 +62,25 @@ pub enum SystemCall {
 pub enum Action {
     /// The function of this name is called with them.
     Call(Name),
-    /// The function `(setf name)` is called, with the last of them first.
-    CallSetter(Name),
+    /// They are the arguments of a place, and its new value.
+    Set(Target),
     /// The variable of this name gets the one value.
     Store(Name),
     /// The variable of this name gets what the function makes of its value and this one.
     Change(Primitive, Name),
-    /// They are the arguments of a place: the value of this form comes last, and then `(setf name)` is called.
-    NewValue(Name, Form),
+    /// They are the arguments of a place: the value of this form comes last, and then it is set.
+    NewValue(Target, Form),
     /// They are the arguments of a place that is changed by an amount: the value of the form, if there is one, else 1.
-    Amount(Primitive, Name, Forms),
-    /// The function of this name is called with all but the last, and `(setf name)` with them and what the function of
-    /// values makes of the call's value and the last of them, the amount.
-    ChangeCall(Primitive, Name),
+    Amount(Primitive, Target, Forms),
+    /// The place is read with all but the last as its arguments, and set to what the function of values makes of its value
+    /// and the last of them, the amount.
+    ChangePlace(Primitive, Target),
+    /// They are the initargs with which an instance of this class is made, which has these slots.
+    Allocate(ClassId, Finalized),
+    /// The next slot is filled.
+    Fill(Filling),
+    /// The next slot is filled with this value, that of its initform.
+    FillWith(Filling, Value),
 }
 
 /// A loop of `dotimes`: how many variables are outside it, its own, whether it has a result form, and that form, where
@@ -125,8 +156,12 @@ pub enum Frame {
     Setq(Form, usize, Forms),
     /// These places and forms follow.
     Setf(Forms),
-    /// It is the value of a call of this name with these arguments, and is changed by this amount.
-    Changed(Primitive, Name, Values, Value),
+    /// It is the value of a place with these arguments, and is changed by this amount.
+    Changed(Primitive, Target, Values, Value),
+    /// It is the default initarg at this place of those of a class that has these slots, after these initargs.
+    Default(ClassId, Finalized, usize, Values),
+    /// It is the value of the initform of the next slot.
+    Filled(Filling),
     /// The context goes back to the caller's.
     Known(Context),
     /// Nothing.

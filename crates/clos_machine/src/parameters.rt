@@ -92,7 +92,7 @@ pub fn requires_only(lambda_list: &LambdaList) -> bool
 }
 
 /// Whether these are names, each with its argument.
-fn are_pairs(values: &[Value]) -> bool
+pub fn are_pairs(values: &[Value]) -> bool
     ensures { result ≡ are_pairs (map value_of values.now) }
 {
     let mut left = values;
@@ -120,7 +120,7 @@ fn is_symbol(value: &Value) -> bool
 }
 
 /// Whether a value is the symbol of this name.
-fn is_symbol_named(value: &Value, name: &Name) -> bool
+pub fn is_symbol_named(value: &Value, name: &Name) -> bool
     ensures { result ≡ is_symbol_named name.now (value_of value.now) }
 {
     match value {
@@ -131,7 +131,7 @@ fn is_symbol_named(value: &Value, name: &Name) -> bool
 }
 
 /// The argument of this name: the leftmost counts.
-fn argument_named<'a>(values: &'a [Value], name: &Name) -> Option<&'a Value>
+pub fn argument_named<'a>(values: &'a [Value], name: &Name) -> Option<&'a Value>
     ensures { option_map (λ v. value_of v.now) result ≡ argument_named name.now (map value_of values.now) }
 {
     let mut left = values;
@@ -148,7 +148,7 @@ fn argument_named<'a>(values: &'a [Value], name: &Name) -> Option<&'a Value>
 }
 
 /// Whether a value is the symbol `:allow-other-keys`.
-fn is_allow_other_keys(value: &Value) -> bool
+pub fn is_allow_other_keys(value: &Value) -> bool
     ensures { result ≡ is_allow_other_keys (value_of value.now) }
 {
     match value {
@@ -158,7 +158,7 @@ fn is_allow_other_keys(value: &Value) -> bool
 }
 
 /// Whether a call allows names that no parameter has.
-fn is_allowing(values: &[Value]) -> bool
+pub fn is_allowing(values: &[Value]) -> bool
     ensures { result ≡ is_allowing (map value_of values.now) }
 {
     let mut left = values;

@@ -1,11 +1,12 @@
 -- Names and values side by side.
-use Rattle.std.proofs.Common.{◌≡◌, ℕ, zero, suc, ◌+◌, ◌<◌, List, [], ◌∷◌, Option, Some, None, Bool, true, false, length, map, replicate, arith, refl, ap, sym, ◌∙◌, true≢false, subst}
+use Rattle.std.proofs.Common.{◌≡◌, ℕ, zero, suc, ◌+◌, ◌<◌, ◌≤◌, List, [], ◌∷◌, Option, Some, None, Bool, true, false, length, map, replicate, arith, refl, ap, sym, ◌∙◌, true≢false, subst}
 use Rattle.std.specs.Prelude.{slice_get, slice_set, slice_index_or, position, if◌then◌else◌, unwrap_or, is_some, nat_lt, not, ◌==◌, ◌-◌}
 use Rattle.std.specs.Option.{option_map_or}
 use Rattle.std.specs.Map.{lookup}
 use Rattle.std.specs.List.{zip, position_or_len}
 use Rattle.std.proofs.lemmas.List.{length-replicate}
-use Rattle.std.proofs.lemmas.Option.{slice_get_read}
+use Rattle.std.proofs.lemmas.Option.{slice_get_read, slice_get_past}
+use Rattle.std.proofs.lemmas.Bool.{ltb-false}
 use Rattle.lisp_data.specs.Name.{Nam, same_name}
 use Rattle.lisp_data.specs.Value.{Val}
 use Rattle.clos_store.specs.Store.{Slots, Object, Contents, slot_names, if_bound, value_at, value_named, with_value, with_value_at, with_changed, with_slots, slots_of, place_named}
@@ -80,6 +81,38 @@ value_placed ss name i e = ap (value_at ss) (sym (place_there ss name i e)) ∙ 
 
 with_value_placed : (ss : Slots) (name : Nam) (i : ℕ) (value : Option Val) → place ss name ≡ Some i → with_value_at i value ss ≡ with_value name value ss
 with_value_placed ss name i value e = ap (λ k. with_value_at k value ss) (sym (place_there ss name i e)) ∙ with_value_there ss name value
+
+-- the slot of this name is the one at its place
+found_there : (names : List Nam) (values : List (Option Val)) (name : Nam) → length values ≡ length names
+    → slice_get values (position_or_len (same_name name) names) ≡ lookup (same_name name) (zip names values)
+found_there [] [] name e = refl
+found_there [] (v ∷ values) name e = absurd (omega (arith, e))
+found_there (n ∷ names) [] name e = absurd (omega (arith, e))
+found_there (n ∷ names) (v ∷ values) name e =
+    elim (same_name name n)
+    as (λ b. slice_get (v ∷ values) (if not b then 1 + position_or_len (same_name name) names else 0) ≡ (if b then Some v else lookup (same_name name) (zip names values))) [
+      | true ↦ refl
+      | false ↦ ap (slice_get (v ∷ values)) (next (position_or_len (same_name name) names)) ∙ found_there names values name (omega (arith, e))
+    ]
+
+place_past : (m l : ℕ) → None ≡ (if nat_lt m l then Some m else None) → l ≤ m
+place_past m l e = by (nat_lt m l) refl e
+  where
+    by : (b : Bool) → nat_lt m l ≡ b → None ≡ (if b then Some m else None) → l ≤ m
+    by true k e = absurd (true≢false (sym (ap is_some e)))
+    by false k e = ltb-false m l k
+
+pub no_slot_there : (names : List Nam) (values : List (Option Val)) (name : Nam) → length values ≡ length names → None ≡ position (same_name name) names
+    → None ≡ lookup (same_name name) (zip names values)
+no_slot_there names values name e h =
+    sym (slice_get_past values (position_or_len (same_name name) names) (subst (λ l. l ≤ position_or_len (same_name name) names) (sym e) (place_past (position_or_len (same_name name) names) (length names) h)))
+    ∙ found_there names values name e
+
+pub slot_there : (names : List Nam) (values : List (Option Val)) (name : Nam) (i : ℕ) → length values ≡ length names → Some i ≡ position (same_name name) names
+    → slice_get values i ≡ lookup (same_name name) (zip names values)
+slot_there names values name i e h =
+    ap (slice_get values) (sym (place_is (nat_lt (position_or_len (same_name name) names) (length names)) (position_or_len (same_name name) names) i (sym h)))
+    ∙ found_there names values name e
 
 -- ---- one of the instances
 

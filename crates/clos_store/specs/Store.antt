@@ -67,6 +67,10 @@ kept_layout o = record { locals = slot_names o.slots; shared = o.shared }
 abbrev pub has_room : Contents → Bool
 has_room w = nat_lt (length w.instances) w.most_instances
 
+-- the number of the next one
+abbrev pub next_instance : Contents → Option ℕ
+next_instance w = if has_room w then Some (length w.instances + 1) else None
+
 abbrev pub with_instance : Object → Contents → Contents
 with_instance o w = record w { instances = w.instances ++ o ∷ [] }
 
@@ -109,3 +113,29 @@ with_cell_value c value w = record w { cells = slice_set w.cells c value }
 -- whether so many more cells may be made
 abbrev pub has_room_for : ℕ → Contents → Bool
 has_room_for n w = nat_le (length w.cells + n) w.most_cells
+
+-- ---- the slot of an instance by its name, a local or a shared one (7.5.1)
+
+abbrev pub cell_found : Contents → Option CellId → Option (Option Val)
+cell_found w None = None
+cell_found w (Some c) = slice_get w.cells c.0
+
+abbrev pub found_or : Option (Option Val) → Option (Option Val) → Option (Option Val)
+found_or None shared = shared
+found_or (Some value) shared = Some value
+
+-- its value, or that it is unbound, where there is such a slot
+abbrev pub slot_found : Contents → ℕ → Nam → Option (Option Val)
+slot_found w i name = found_or (lookup (same_name name) (slots_of w i)) (cell_found w (lookup (same_name name) (shared_of w i)))
+
+abbrev pub with_cell_named : Option CellId → Option Val → Contents → Contents
+with_cell_named None value w = w
+with_cell_named (Some c) value w = with_cell_value c.0 value w
+
+abbrev pub with_place : ℕ → Nam → Option Val → Contents → Option ℕ → Contents
+with_place i name value w None = with_cell_named (lookup (same_name name) (shared_of w i)) value w
+with_place i name value w (Some place) = with_slots (with_value name value) i w
+
+-- the slot of this name has this value, or none, where the instance has such a slot
+abbrev pub with_slot : ℕ → Nam → Option Val → Contents → Contents
+with_slot i name value w = with_place i name value w (place_named w i name)

@@ -1,5 +1,5 @@
 //! One instance.
-ghost use Rattle.std.specs.Prelude.{◌≡◌, ◌<◌, IfOk, length, option_map, position, replicate, None};
+ghost use Rattle.std.specs.Prelude.{◌≡◌, ◌<◌, IfOk, length, option_map, position, replicate, slice_get, None};
 ghost use Rattle.std.specs.Map.{lookup};
 ghost use Rattle.lisp_data.specs.Name.{same_name};
 ghost use Rattle.lisp_data.specs.ValueView.{value_of};
@@ -47,6 +47,12 @@ fn unbound_slots(alloc: Global, count: usize) -> Result<Vec<Slot>, AllocError>
     Ok(slots)
 }
 
+fn slot_at(slots: &[Slot], place: usize) -> Option<&Slot>
+    ensures { option_map (λ s. s.now) result ≡ slice_get slots.now place }
+{
+    slots.get(place)
+}
+
 impl Instance {
     /// A new instance, all of whose slots are unbound.
     #[tactic(auto, using(crate::proofs::Slots::length_of_unbound, crate::proofs::Slots::all_unbound))]
@@ -89,6 +95,17 @@ impl Instance {
         ensures { result ≡ lookup (same_name name.now) self.now.shared }
     {
         self.layout.cell(name)
+    }
+
+    /// The local slot of this name.
+    #[tactic(auto, using(crate::proofs::Slots::no_slot_there))]
+    pub fn slot(&self, name: &Name) -> Option<&Slot>
+        ensures { option_map (λ s. s.now) result ≡ lookup (same_name name.now) self.now.slots }
+    {
+        match self.layout.place_of(name) {
+            None => None,
+            Some(place) => slot_at(&self.slots, place),
+        }
     }
 
     /// The value of the slot at this place, where it is bound.

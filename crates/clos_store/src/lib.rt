@@ -7,4 +7,5 @@ mod slot;
 mod store;
 
 pub use fault::StoreFault;
+pub use slot::Slot;
 pub use store::Store;

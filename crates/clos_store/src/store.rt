@@ -3,7 +3,7 @@ ghost use Rattle.std.specs.Prelude.{◌≡◌, ◌≤◌, ◌<◌, ◌+◌, ℕ,
 ghost use Rattle.std.specs.Map.{lookup};
 ghost use Rattle.lisp_data.specs.Name.{same_name};
 ghost use Rattle.lisp_data.specs.ValueView.{value_of};
-ghost use Rattle.clos_store.specs.Store.{allocated, cell_value, empty, has_room, has_room_for, instance, kept_layout, place_named, shared_of, slots_of, value_at, value_named, with_cell, with_cell_value, with_instance, with_slots, with_value, with_value_at};
+ghost use Rattle.clos_store.specs.Store.{allocated, cell_value, empty, has_room, has_room_for, instance, kept_layout, next_instance, place_named, shared_of, slot_found, slots_of, value_at, value_named, with_cell, with_cell_value, with_instance, with_slot, with_slots, with_value, with_value_at};
 ghost use Rattle.clos_store.specs.StoreFault.{Refuses};
 
 use crate::fault::StoreFault;
@@ -68,6 +68,17 @@ impl Store {
         ensures { result ≡ length self.now.instances }
     {
         self.instances.len() as u64
+    }
+
+    /// The number of the instance that is made next, if one may be made.
+    pub fn next_instance(&self) -> Option<InstanceId>
+        ensures { option_map (λ i. i.0) result ≡ next_instance self.now }
+    {
+        let count = self.instance_count();
+        if count < self.most_instances {
+            return Some(InstanceId(count + 1));
+        }
+        None
     }
 
     /// Makes an instance of this class with this layout (HyperSpec 7.1, allocate-instance): its slots are unbound.
@@ -147,6 +158,44 @@ impl Store {
         ensures named { (name : _) → place_named self.now id.0 name ≡ Some place → option_map (λ v. value_of v.now) result ≡ value_named (slots_of self.now id.0) name }
     {
         self.instances[(id.0 - 1) as usize].read(place)
+    }
+
+    /// The slot of this name that an instance has, a local or a shared one (HyperSpec 7.5.1).
+    pub fn slot(&self, id: InstanceId, name: &Name) -> Option<&Slot>
+        ensures { option_map (λ s. s.now) result ≡ slot_found self.now id.0 name.now }
+    {
+        match self.instance(id) {
+            None => None,
+            Some(instance) => match instance.slot(name) {
+                Some(slot) => Some(slot),
+                None => match instance.cell(name) {
+                    None => None,
+                    Some(cell) => self.cells.get(cell.0 as usize),
+                },
+            },
+        }
+    }
+
+    /// Gives the slot of this name this value, or makes it unbound, where the instance has such a slot.
+    pub fn set_slot(&mut self, id: InstanceId, name: &Name, value: Option<Value>)
+        ensures { self.new ≡ with_slot id.0 name.now (option_map value_of value) self.old }
+    {
+        match self.place_of(id, name) {
+            Some(place) => self.set(id, place, value),
+            None => match self.cell(id, name) {
+                Some(cell) => self.set_cell(cell, value),
+                None => {}
+            },
+        }
+    }
+
+    /// Gives a cell this value, or none, where there is such a cell.
+    fn set_cell(&mut self, id: CellId, value: Option<Value>)
+        ensures { self.new ≡ with_cell_value id.0 (option_map value_of value) self.old }
+    {
+        if id.0 < self.cell_count() {
+            self.cells[id.0 as usize] = Slot::new(value);
+        }
     }
 
     fn set(&mut self, id: InstanceId, place: usize, value: Option<Value>)

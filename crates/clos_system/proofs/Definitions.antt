@@ -28,7 +28,9 @@ use Rattle.clos_machine.proofs.Kept.{same, same_then, Kept, evaluation_kept}
 use Rattle.clos_system.specs.Definitions.{DefinesNothing}
 use Rattle.clos_system.specs.Served.{is_combination, served_of}
 use Rattle.clos_system.specs.Session.{Replies}
-use Rattle.clos_class_core.specs.Table.{Refusal, refusal, or_standard}
+use Rattle.clos_class_core.specs.Table.{Refusal}
+use Rattle.clos_class.specs.Table.{refusal}
+use Rattle.clos_syntax.specs.declared.class.ClassDefinition.{ClassDefinition}
 use Rattle.clos_system.specs.Class.{class_defined, define_class, unless_refused}
 use Rattle.clos_system.specs.Step.{checked, define_method, function_added, method_added, new_method, on_function, performed, room_of, served_run, specializer_numbers, step}
 use Rattle.clos_system.specs.declared.served.Served.{Served}
@@ -58,13 +60,13 @@ step_refuses : (run : Run) (w : State) (k : ℕ) → ((j : ℕ) → Refuses w (r
 step_refuses run w zero h = same w
 step_refuses run w (suc k) h = h k
 
-new_class_refuses : (name : Nam) (above : List Nam) (o : Option Refusal) (w : State) (k : ℕ) → Refuses w (unless_refused name above o w k)
-new_class_refuses name above None w k = step_refuses (class_defined name above) w k (λ j. tt)
-new_class_refuses name above (Some r) w k = same w
+new_class_refuses : (d : ClassDefinition) (o : Option Refusal) (w : State) (k : ℕ) → Refuses w (unless_refused d o w k)
+new_class_refuses d None w k = step_refuses (class_defined d) w k (λ j. tt)
+new_class_refuses d (Some r) w k = same w
 
-class_refuses : (name : Nam) (supers : List Nam) (o : Option ℕ) (w : State) (k : ℕ) → Refuses w (define_class name supers o w k)
-class_refuses name supers None w k = new_class_refuses name (or_standard supers) (refusal w.classes name (or_standard supers) false) w k
-class_refuses name supers (Some n) w k = same w
+class_refuses : (d : ClassDefinition) (o : Option ℕ) (w : State) (k : ℕ) → Refuses w (define_class d o w k)
+class_refuses d None w k = new_class_refuses d (refusal w.classes.table d) w k
+class_refuses d (Some n) w k = same w
 
 new_method_refuses : (name : Nam) (g : ℕ) (o : Option Generic) (parameters : List Nam) (specializers : List ℕ) (body : Frms) (w : State) (k : ℕ) → Refuses w (new_method name g o parameters specializers body w k)
 new_method_refuses name g None parameters specializers body w k = same w
@@ -112,7 +114,7 @@ variable_refuses d w k =
     (step_refuses (defined_name d.name) w k (λ j. tt)) (value_refuses d.name d.form w k)) (same w)
 
 performed_refuses : (served : Served) (w : State) (k : ℕ) → Refuses w (performed served w k)
-performed_refuses (DefineClass name supers) w k = class_refuses name supers (named w.classes name) w k
+performed_refuses (DefineClass d) w k = class_refuses d (named w.classes d.name) w k
 performed_refuses (DefineMethod name parameters classes body) w k =
     choice_refuses (is_some (function_in w.functions name)) w _ _ (same w) (method_refuses name parameters body (specializer_numbers w classes) w k)
 performed_refuses (DefineFunction name function) w k = defun_refuses (called_of name) function w k

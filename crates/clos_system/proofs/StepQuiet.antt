@@ -23,8 +23,10 @@ use Rattle.clos_system.specs.Variable.{room_below, keeps_value, value_given, new
 use Rattle.clos_machine.specs.Machine.{Answers, leaves}
 use Rattle.clos_world.specs.declared.condition.Stop.{Stop}
 use Rattle.clos_world.specs.declared.condition.Stop.TheVariants.{Refused, Storage}
-use Rattle.clos_class_core.specs.Table.{Refusal, refusal, or_standard}
-use Rattle.clos_system.specs.Class.{define_class, unless_refused}
+use Rattle.clos_class_core.specs.Table.{Refusal}
+use Rattle.clos_class.specs.Table.{refusal}
+use Rattle.clos_syntax.specs.declared.class.ClassDefinition.{ClassDefinition}
+use Rattle.clos_system.specs.Class.{define_class, new_class, unless_refused}
 use Rattle.clos_system.specs.Step.{define_method, on_function, new_method, specializer_numbers, performed, served_run, checked, step, room_of}
 use Rattle.clos_syntax.specs.Top.{top_of}
 use Rattle.clos_syntax.specs.declared.top.Top.{Top}
@@ -40,13 +42,16 @@ either : (b : Bool) (x y : Out) (w : State) → leaves x w 0 → leaves y w 0 �
 either true x y w p q = p
 either false x y w p q = q
 
-class_quiet : (name : Nam) (above : List Nam) (o : Option Refusal) (w : State) → leaves (unless_refused name above o w 0) w 0
-class_quiet name above None w = (refl, refl)
-class_quiet name above (Some r) w = (refl, refl)
+class_quiet : (d : ClassDefinition) (o : Option Refusal) (w : State) → leaves (unless_refused d o w 0) w 0
+class_quiet d None w = (refl, refl)
+class_quiet d (Some r) w = (refl, refl)
 
-pub define_class_quiet : (name : Nam) (supers : List Nam) (o : Option ℕ) (w : State) → leaves (define_class name supers o w 0) w 0
-define_class_quiet name supers None w = class_quiet name (or_standard supers) (refusal w.classes name (or_standard supers) false) w
-define_class_quiet name supers (Some n) w = (refl, refl)
+pub new_class_quiet : (d : ClassDefinition) (w : State) → leaves (new_class d w 0) w 0
+new_class_quiet d w = class_quiet d (refusal w.classes.table d) w
+
+define_class_quiet : (d : ClassDefinition) (o : Option ℕ) (w : State) → leaves (define_class d o w 0) w 0
+define_class_quiet d None w = new_class_quiet d w
+define_class_quiet d (Some n) w = (refl, refl)
 
 method_quiet : (name : Nam) (g : ℕ) (o : Option Generic) (ps : List Nam) (ss : List ℕ) (body : Frms) (w : State) → leaves (new_method name g o ps ss body w 0) w 0
 method_quiet name g None ps ss body w = (refl, refl)
@@ -86,7 +91,7 @@ variable_quiet d w =
     (either (keeps_value (seen w) d.definer d.name) _ _ (seen w) (refl, refl) (value_quiet d.name d.form w)) (refl, refl)
 
 performed_quiet : (served : Served) (w : World) → leaves (performed served (seen w) 0) (seen w) 0
-performed_quiet (DefineClass name supers) w = define_class_quiet name supers (named (seen w).classes name) (seen w)
+performed_quiet (DefineClass d) w = define_class_quiet d (named (seen w).classes d.name) (seen w)
 performed_quiet (DefineMethod name ps cs body) w =
     either (is_some (function_in (seen w).functions name)) _ _ (seen w) (refl, refl) (define_method_quiet name ps body (specializer_numbers (seen w) cs) (seen w))
 performed_quiet (DefineFunction name function) w = function_defined_quiet (called_of name) function (seen w)

@@ -1,6 +1,6 @@
 -- Which forms are served.
 use Rattle.std.specs.Prelude.{Bool, true, false, not, ◌&&◌, ◌||◌, List, [], ◌∷◌, Option, Some, None, map, codes, if◌then◌else◌}
-use Rattle.std.specs.List.{list_any}
+use Rattle.std.specs.List.{list_all, list_any}
 use Rattle.lisp_data.specs.Name.{Nam}
 use Rattle.lisp_data.specs.Datum.{Dat, integer, symbol, string, list, dotted, method, Dats}
 use Rattle.lisp_data.specs.Datum as datum
@@ -12,6 +12,7 @@ use Rattle.clos_lambda.specs.declared.lambda_list.LambdaList.{LambdaList}
 use Rattle.clos_lambda.specs.declared.lambda_list.Optional.{Optional}
 use Rattle.clos_syntax.specs.Method.{t_name}
 use Rattle.clos_syntax.specs.declared.class.ClassDefinition.{ClassDefinition}
+use Rattle.clos_syntax.specs.declared.slot.SlotSpecifier.{SlotSpecifier}
 use Rattle.clos_syntax.specs.declared.function.FunctionDefinition.{FunctionDefinition}
 use Rattle.clos_syntax.specs.declared.variable.VariableDefinition.{VariableDefinition}
 use Rattle.clos_syntax.specs.declared.method.MethodDefinition.{MethodDefinition}
@@ -19,22 +20,18 @@ use Rattle.clos_syntax.specs.declared.method.ParameterSpecializer.{ParameterSpec
 use Rattle.clos_syntax.specs.declared.method.ParameterSpecializer.TheVariants.{Class, Eql}
 use Rattle.clos_syntax.specs.declared.top.Top.{Top}
 use Rattle.clos_syntax.specs.declared.top.Top.TheVariants.{DefClass, DefGeneric, DefMethod, Defun, DefVar, RemoveMethod, AddDependent, RemoveDependent, InPackage, Expr}
+use Rattle.clos_class.specs.Table.{is_shared}
 use Rattle.clos_system.specs.declared.served.Served.{Served}
 use Rattle.clos_system.specs.declared.served.Served.TheVariants.{DefineClass, DefineMethod, DefineFunction, DefineVariable, Nothing, Expression}
 use Rattle.clos_forms.specs.Form.{Frm, form, Frms, nil, cons}
 use Rattle.clos_forms.specs.Names.{is_called, is_one_of, functions, system_functions}
-use Rattle.clos_forms.specs.Operator.{Opr, Plc, variable_place, slot_value_place, call_place}
+use Rattle.clos_forms.specs.Operator.{Opr}
 use Rattle.lisp_data.specs.Print.{Called, by_symbol, by_setf}
 use Rattle.clos_forms.specs.Operator as of
 use Rattle.clos_machine.specs.Callee.{callee_of}
 use Rattle.clos_machine.specs.Parameters.{requires_only}
 use Rattle.clos_machine.specs.declared.callee.Callee.{Callee}
-use Rattle.clos_machine.specs.declared.callee.Callee.TheVariants.{Output, Terpri, Primitive, MakeInstance, ClassFunction, Defined}
-
-abbrev pub is_one : Frms → Bool
-is_one nil = false
-is_one (cons f nil) = true
-is_one (cons f (cons g fs)) = false
+use Rattle.clos_machine.specs.declared.callee.Callee.TheVariants.{Output, Terpri, Primitive, MakeInstance, ClassFunction, SlotFunction, Defined}
 
 -- whether a function is served: of those of the language some are not yet, and have no other meaning
 abbrev pub is_served_as : Callee → Nam → Bool
@@ -43,61 +40,47 @@ is_served_as Terpri name = true
 is_served_as (Primitive p) name = true
 is_served_as MakeInstance name = true
 is_served_as (ClassFunction f) name = true
+is_served_as (SlotFunction f) name = true
 is_served_as Defined name = not (is_one_of functions name) && not (is_one_of system_functions name)
 
+abbrev pub calls : Nam → Bool
+calls name = is_served_as (callee_of name) name
+
 abbrev pub names_served : Called → Bool
-names_served (by_symbol name) = is_served_as (callee_of name) name
+names_served (by_symbol name) = calls name
 names_served (by_setf name) = true
 
--- a place that may be set
-abbrev pub is_set : Plc → Bool
-is_set (variable_place n) = true
-is_set slot_value_place = false
-is_set (call_place n) = true
-
--- a call of a function by its kind
-abbrev pub calls_as : Callee → Nam → Frms → Bool
-calls_as (Output o) name arguments = true
-calls_as Terpri name arguments = true
-calls_as (Primitive p) name arguments = true
-calls_as MakeInstance name arguments = is_one arguments
-calls_as (ClassFunction f) name arguments = true
-calls_as Defined name arguments = is_served_as Defined name
-
-abbrev pub calls : Nam → Frms → Bool
-calls name arguments = calls_as (callee_of name) name arguments
-
-abbrev pub serves : Opr → Frms → Bool
-serves (of.constant v) ps = true
-serves of.no_value ps = true
-serves (of.variable n) ps = true
-serves of.if_form ps = true
-serves of.cond ps = true
-serves of.clause ps = true
-serves of.when ps = true
-serves of.unless ps = true
-serves of.and_form ps = true
-serves of.or_form ps = true
-serves of.progn ps = true
-serves of.prog1 ps = true
-serves (of.call name) ps = calls name ps
-serves (of.function c) ps = names_served c
-serves (of.let_form bs) ps = true
-serves (of.let_in_order bs) ps = true
-serves (of.setq ns) ps = true
-serves of.setf ps = true
-serves of.incf ps = true
-serves of.decf ps = true
-serves (of.place p) ps = is_set p
-serves (of.dotimes n b) ps = true
-serves (of.with_slots bs) ps = false
-serves of.call_next_method ps = false
-serves of.next_method_p ps = false
+abbrev pub serves : Opr → Bool
+serves (of.constant v) = true
+serves of.no_value = true
+serves (of.variable n) = true
+serves of.if_form = true
+serves of.cond = true
+serves of.clause = true
+serves of.when = true
+serves of.unless = true
+serves of.and_form = true
+serves of.or_form = true
+serves of.progn = true
+serves of.prog1 = true
+serves (of.call name) = calls name
+serves (of.function c) = names_served c
+serves (of.let_form bs) = true
+serves (of.let_in_order bs) = true
+serves (of.setq ns) = true
+serves of.setf = true
+serves of.incf = true
+serves of.decf = true
+serves (of.place p) = true
+serves (of.dotimes n b) = true
+serves (of.with_slots bs) = false
+serves of.call_next_method = false
+serves of.next_method_p = false
 
 -- whether a form is served, with all that is evaluated in it
 abbrev mutual
   pub is_served : Frm → Bool
-  is_served (form o ps) = serves o ps && are_served ps
+  is_served (form o ps) = serves o && are_served ps
 
   pub are_served : Frms → Bool
   are_served nil = true
@@ -109,9 +92,20 @@ abbrev pub is_empty : {A : Type 0} → List A → Bool
 is_empty [] = true
 is_empty (x ∷ xs) = false
 
--- a class without slots and default initargs
+abbrev pub is_served_if_any : Option Frm → Bool
+is_served_if_any None = true
+is_served_if_any (Some f) = is_served f
+
+-- a slot of each instance, without accessors, whose initform is served
+abbrev pub is_plain_slot : SlotSpecifier → Bool
+is_plain_slot s = not (is_shared s.allocation) && is_empty s.accessors && is_served_if_any s.initform
+
+-- a class whose slots are plain, and whose default initargs have forms that are served
+abbrev pub is_plain_class : ClassDefinition → Bool
+is_plain_class c = list_all is_plain_slot c.slots && list_all (λ i. is_served i.form) c.defaults
+
 abbrev pub served_class : ClassDefinition → Option Served
-served_class c = if is_empty c.slots && is_empty c.defaults then Some (DefineClass c.name c.superclasses) else None
+served_class c = if is_plain_class c then Some (DefineClass c) else None
 
 abbrev pub is_no_data : Dats → Bool
 is_no_data datum.nil = true
@@ -144,10 +138,6 @@ served_method f m =
     if is_plain m.qualifiers m.lambda_list m.body
     then (served_name f >>= λ n. classes_named m.specializers >>= λ cs. Some (DefineMethod n m.lambda_list.required cs m.body))
     else None
-
-abbrev pub is_served_if_any : Option Frm → Bool
-is_served_if_any None = true
-is_served_if_any (Some f) = is_served f
 
 -- an init form that is not served
 abbrev pub is_unserved : Optional → Bool

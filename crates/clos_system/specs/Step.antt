@@ -105,7 +105,7 @@ abbrev pub room_of : State → ℕ
 room_of w = min w.limits.depth 4_000
 
 abbrev pub performed : Served → Run
-performed (DefineClass name supers) w k = define_class name supers (named w.classes name) w k
+performed (DefineClass d) w k = define_class d (named w.classes d.name) w k
 performed (DefineMethod name parameters classes body) w k = unless_function name (define_method name parameters body (specializer_numbers w classes)) w k
 performed (DefineFunction name function) w k = define_function (called_of name) function w k
 performed (DefineVariable d) w k = variable_defined d w k

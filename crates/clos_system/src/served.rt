@@ -1,21 +1,20 @@
 //! Which forms are served.
 ghost use Rattle.std.specs.Prelude.{◌≡◌, ◌&&◌, IfOk, Bool, List, map, not, option_map, Some, None};
-ghost use Rattle.std.specs.List.{list_any};
+ghost use Rattle.std.specs.List.{list_all, list_any};
 ghost use Rattle.lisp_data.specs.Datum.{Dats, nil};
 ghost use Rattle.lisp_data.specs.DatumView.{datum_of};
 ghost use Rattle.clos_forms.specs.Form.{Frm, Frms};
-ghost use Rattle.clos_forms.specs.OperatorView.{called_of, operator_of, place_of};
+ghost use Rattle.clos_forms.specs.OperatorView.{called_of, operator_of};
 ghost use Rattle.clos_lambda.specs.LambdaList.{entries_of};
-ghost use Rattle.clos_system.specs.Served.{are_served, calls, class_name, classes_named, is_combination, is_empty, is_eql, is_one, is_plain, is_served, is_unserved, are_inits_served, served_class, served_function, served_method, served_name, served_of, served_variable, serves, names_served, is_served_as, is_served_if_any, is_set};
+ghost use Rattle.clos_class.specs.Table.{is_shared};
+ghost use Rattle.clos_system.specs.Served.{are_served, calls, class_name, classes_named, is_combination, is_empty, is_eql, is_plain, is_plain_class, is_plain_slot, is_served, is_unserved, are_inits_served, served_class, served_function, served_method, served_name, served_of, served_variable, serves, names_served, is_served_as, is_served_if_any};
 
-use clos_forms::{
-    Form, Forms, FunctionName, Operator, Place, is_function, is_system_function, is_the,
-};
+use clos_forms::{Form, Forms, FunctionName, Operator, is_function, is_system_function, is_the};
 use clos_machine::callee::{Callee, callee_named};
 use clos_machine::parameters::requires_only;
 use clos_syntax::{
-    ClassDefinition, FunctionDefinition, Key, Keys, LambdaList, MethodDefinition, Optional,
-    ParameterSpecializer, Sequence, Top, VariableDefinition,
+    Allocation, ClassDefinition, DefaultInitarg, FunctionDefinition, Key, Keys, LambdaList,
+    MethodDefinition, Optional, ParameterSpecializer, SlotSpecifier, Top, VariableDefinition,
 };
 use clos_world::{Function, Parameters};
 use lisp_data::{Data, Datum, Name};
@@ -24,8 +23,8 @@ use std::alloc::{AllocError, Global};
 /// A top-level form that is served.
 #[derive(Drop)]
 pub enum Served {
-    /// A class, with the direct superclasses that it names.
-    DefineClass(Name, Sequence<Name>),
+    /// A class, none of whose slots is shared or has accessors.
+    DefineClass(ClassDefinition),
     /// A method of the function of this name: its parameters, the names of their classes, and its body.
     DefineMethod(Name, Parameters, Parameters, Forms),
     /// A function of this name.
@@ -76,20 +75,48 @@ pub fn is_combination(datum: &Datum) -> bool
     }
 }
 
-/// A class without slots and default initargs.
 fn serve_class(class: ClassDefinition) -> Option<Served>
     ensures { result ≡ served_class class }
 {
-    let ClassDefinition {
-        name,
-        superclasses,
-        slots,
-        defaults,
-    } = class;
-    if slots.len() > 0 || defaults.len() > 0 {
+    if !is_plain_class(&class) {
         return None;
     }
-    Some(Served::DefineClass(name, superclasses))
+    Some(Served::DefineClass(class))
+}
+
+/// A class whose slots are plain, and whose default initargs have forms that are served.
+fn is_plain_class(class: &ClassDefinition) -> bool
+    ensures { result ≡ is_plain_class class.now }
+{
+    are_plain_slots(class.slots.as_slice()) && are_defaults_served(class.defaults.as_slice())
+}
+
+fn are_plain_slots(slots: &[SlotSpecifier]) -> bool
+    ensures { result ≡ list_all is_plain_slot slots.now }
+{
+    slots.iter().all(|slot| is_plain_slot(slot))
+}
+
+/// A slot of each instance, without accessors, whose initform is served.
+fn is_plain_slot(slot: &SlotSpecifier) -> bool
+    ensures { result ≡ is_plain_slot slot.now }
+{
+    !is_shared(slot.allocation) && slot.accessors.len() == 0 && is_served_if_any(&slot.initform)
+}
+
+fn is_shared(allocation: Allocation) -> bool
+    ensures { result ≡ is_shared allocation }
+{
+    match allocation {
+        Allocation::Instance => false,
+        Allocation::Class => true,
+    }
+}
+
+fn are_defaults_served(defaults: &[DefaultInitarg]) -> bool
+    ensures { result ≡ list_all (λ i. is_served i.form) defaults.now }
+{
+    defaults.iter().all(|default| is_served(&default.form))
 }
 
 /// An unqualified method on classes, of required parameters alone, with a body that is served.
@@ -266,7 +293,7 @@ fn class_name(specializer: &ParameterSpecializer) -> Result<Name, AllocError>
 pub fn is_served(form: &Form) -> bool
     ensures { result ≡ is_served form.now }
 {
-    serves(form.operator(), form.parts()) && are_served(form.parts())
+    serves(form.operator()) && are_served(form.parts())
 }
 
 /// Whether all of these forms are.
@@ -284,9 +311,8 @@ pub fn are_served(forms: &Forms) -> bool
     true
 }
 
-/// Whether an operator is served, with so many parts.
-fn serves(operator: &Operator, parts: &Forms) -> bool
-    ensures { result ≡ serves (operator_of operator.now) parts.now }
+fn serves(operator: &Operator) -> bool
+    ensures { result ≡ serves (operator_of operator.now) }
 {
     match operator {
         Operator::Constant(_) => true,
@@ -301,7 +327,7 @@ fn serves(operator: &Operator, parts: &Forms) -> bool
         Operator::Or => true,
         Operator::Progn => true,
         Operator::Prog1 => true,
-        Operator::Call(name) => calls(name, parts),
+        Operator::Call(name) => calls(name),
         Operator::Function(name) => names_served(name),
         Operator::Let(_) => true,
         Operator::LetInOrder(_) => true,
@@ -309,7 +335,7 @@ fn serves(operator: &Operator, parts: &Forms) -> bool
         Operator::Setf => true,
         Operator::Incf => true,
         Operator::Decf => true,
-        Operator::Place(place) => is_set(place),
+        Operator::Place(_) => true,
         Operator::Dotimes(_, _) => true,
         Operator::WithSlots(_) => false,
         Operator::CallNextMethod => false,
@@ -317,12 +343,19 @@ fn serves(operator: &Operator, parts: &Forms) -> bool
     }
 }
 
+/// Whether a call of this name is served.
+fn calls(name: &Name) -> bool
+    ensures { result ≡ calls name.now }
+{
+    is_served_as(callee_named(name), name)
+}
+
 /// Whether the function of this name is served.
 fn names_served(name: &FunctionName) -> bool
     ensures { result ≡ names_served (called_of name.now) }
 {
     match name {
-        FunctionName::Symbol(name) => is_served_as(callee_named(name), name),
+        FunctionName::Symbol(name) => calls(name),
         FunctionName::Setf(_) => true,
     }
 }
@@ -337,39 +370,6 @@ fn is_served_as(callee: Callee, name: &Name) -> bool
         Callee::Primitive(_) => true,
         Callee::MakeInstance => true,
         Callee::ClassFunction(_) => true,
-    }
-}
-
-/// Whether a place may be set.
-fn is_set(place: &Place) -> bool
-    ensures { result ≡ is_set (place_of place.now) }
-{
-    match place {
-        Place::Variable(_) => true,
-        Place::SlotValue => false,
-        Place::Call(_) => true,
-    }
-}
-
-/// Whether a call of this name is served.
-fn calls(name: &Name, arguments: &Forms) -> bool
-    ensures { result ≡ calls name.now arguments.now }
-{
-    match callee_named(name) {
-        Callee::Output(_) => true,
-        Callee::Terpri => true,
-        Callee::Primitive(_) => true,
-        Callee::MakeInstance => is_one(arguments),
-        Callee::ClassFunction(_) => true,
-        Callee::Defined => is_served_as(Callee::Defined, name),
-    }
-}
-
-fn is_one(forms: &Forms) -> bool
-    ensures { result ≡ is_one forms.now }
-{
-    match forms.split_first() {
-        None => false,
-        Some((_, others)) => others.split_first().is_none(),
+        Callee::SlotFunction(_) => true,
     }
 }

@@ -15,13 +15,10 @@ use crate::function::defun;
 use crate::method::defmethod;
 use crate::served::{Served, is_combination, serve};
 use crate::variable::define_variable;
-use clos_class_core::Classes;
 use clos_eval::evaluate;
 use clos_forms::SyntaxFault;
 use clos_syntax::{Top, parse_top};
-use clos_world::{
-    ConditionKind, Function, Functions, Generics, Globals, Limits, Stop, Values, World, plain,
-};
+use clos_world::{ConditionKind, Limits, Stop, Values, World, plain};
 use lisp_data::{Datum, Items, Value};
 use std::alloc::{AllocError, Global};
 
@@ -53,18 +50,7 @@ impl Session {
     pub fn new(alloc: Global, limits: Limits) -> Result<Session, AllocError>
         ensures { IfOk result (λ s. state_of s ≡ initial limits) }
     {
-        let classes = Classes::new(alloc, limits.classes)?;
-        let world = World {
-            classes,
-            generics: Generics::new(alloc),
-            methods: Vec::new(alloc),
-            functions: Functions::new(alloc),
-            setters: Functions::new(alloc),
-            globals: Globals::new(alloc),
-            instances: Vec::new(alloc),
-            written: Vec::new(alloc),
-            limits,
-        };
+        let world = World::new(alloc, limits)?;
         Ok(Session { world, alloc })
     }
 
@@ -144,9 +130,7 @@ fn perform_served(
     ensures { Answers (performed served) (seen world.old) steps.old result (seen world.new) steps.new }
 {
     match served {
-        Served::DefineClass(name, superclasses) => {
-            defclass(alloc, world, name, superclasses.into_items(), steps)
-        }
+        Served::DefineClass(definition) => defclass(alloc, world, &definition, steps),
         Served::DefineMethod(name, parameters, classes, body) => {
             defmethod(alloc, world, name, parameters, &classes, body, steps)
         }

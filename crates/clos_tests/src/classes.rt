@@ -136,7 +136,7 @@ const DISPATCH: &str =
 (defclass x (c b a) ()) => ; 9 (INCONSISTENT-PRECEDENCE V)~";
 
 /// A definition, the number of the condition that it ends with where no step is left for it, and where one is.
-const WITHOUT_STEPS: [(&str, u64, u64); 8] = [
+const WITHOUT_STEPS: [(&str, u64, u64); 11] = [
     ("(defclass c () ())", 29, 0),
     ("(defclass q () ())", 29, 0),
     ("(defclass c (a q) ())", 29, 0),
@@ -145,6 +145,9 @@ const WITHOUT_STEPS: [(&str, u64, u64); 8] = [
     ("(defclass q (c symbol) ())", 8, 8),
     ("(defclass b () ())", 9, 9),
     ("(defclass c (b b) ())", 1, 1),
+    ("(defclass c () ((x :initform (princ 1))))", 29, 0),
+    ("(defclass c (c) (x))", 10, 10),
+    ("(defclass c () ((x :reader x)))", 28, 28),
 ];
 
 const FUNCTIONS: &str = r#"(princ (class-of 3)) => #<CLASS INTEGER>

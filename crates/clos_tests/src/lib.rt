@@ -8,6 +8,8 @@ mod data;
 #[cfg(test)]
 mod forms;
 #[cfg(test)]
+mod instances;
+#[cfg(test)]
 mod session;
 #[cfg(test)]
 mod top;

@@ -47,20 +47,24 @@ const ORDERS: &str =
 
 const UNSUPPORTED: &str = "; 28 (UNSUPPORTED)~";
 
-const NOT_SERVED: &str = "(defvar x (princ (slot-boundp 1 'a)))
+const NOT_SERVED: &str = "(defvar x (princ (change-class 1 'a)))
 (with-slots (a) (princ 1) a)
-(f (princ 1) (slot-boundp 1 'a))
-(progn (princ 1) (cond (nil (incf (slot-value 1 2)))))
-(progn (princ 1) (setf (slot-value 1 'a) 2))
+(f (princ 1) (change-class 1 'a))
+(progn (princ 1) (cond (nil (incf (slot-value (change-class 1 'a) 'b)))))
+(progn (princ 1) (setf (slot-value (make-instance 'a) 'b) (change-class 1 'a)))
 (progn (princ 1) #'initialize-instance)
-(defun f () (princ 1)) (defun f (&optional (x (slot-boundp 1 'a))) 2) (f) => ; 28 (UNSUPPORTED)~1
-(defun f (&key (x (princ 1)) (y (slot-boundp 1 'a))) x)
+(defun f () (princ 1)) (defun f (&optional (x (change-class 1 'a))) 2) (f) => ; 28 (UNSUPPORTED)~1
+(defun f (&key (x (princ 1)) (y (change-class 1 'a))) x)
 (defmethod f (x) (call-next-method))
 (initialize-instance (princ 1))
 (defgeneric f (x))
-(defclass a (b c) (s))
-(defclass a () (s))
-(defclass a () () (:default-initargs :s 1))
+(defclass a (b c) ((s :allocation :class)))
+(defclass a () ((s :reader s)))
+(defclass a () ((s :writer s)))
+(defclass a () (r (s :accessor s)))
+(defclass a () (r (s :initform (change-class 1 'a))))
+(defclass a () ((s :initarg :s)) (:default-initargs :r 1 :s (change-class 1 'a)))
+(defclass a () ((s :reader s))) (princ (find-class 'a nil)) => ; 28 (UNSUPPORTED)~NIL
 (define-method-combination c)
 (defmethod f :before (x) x)
 (defmethod f :around ((x integer)) x)
@@ -68,9 +72,10 @@ const NOT_SERVED: &str = "(defvar x (princ (slot-boundp 1 'a)))
 (defmethod f (x &rest y) x)
 (defmethod f (x &optional y) x)
 (defmethod f (x &key) x)
-(defmethod f (x) (class-of (slot-boundp x 'a)))
+(defmethod f (x) (class-of (change-class x 'a)))
 (defmethod initialize-instance (x) x)
-(defclass a () ()) (defclass a () ()) (princ (make-instance 'a)) => ; 28 (UNSUPPORTED)~#<A 1>";
+(defclass a () ()) (defclass a () ()) (princ (make-instance 'a)) => ; 28 (UNSUPPORTED)~#<A 1>
+(defclass a () ()) (defclass a () (s)) (princ (slot-exists-p (make-instance 'a) 's)) => ; 28 (UNSUPPORTED)~NIL";
 
 const PROGRAM_ERROR: &str = "; 1 (PROGRAM-ERROR)~";
 

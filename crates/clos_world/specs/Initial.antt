@@ -1,6 +1,7 @@
 -- A session that begins.
 use Rattle.std.specs.Prelude.{[]}
-use Rattle.clos_class_core.specs.Initial as classes
+use Rattle.clos_class.specs.Table as classes
+use Rattle.clos_store.specs.Store.{empty}
 use Rattle.clos_world.specs.World.{State}
 use Rattle.clos_world.specs.declared.limits.Limits.{Limits}
 
@@ -12,7 +13,7 @@ initial limits = record {
   functions = [];
   setters = [];
   globals = [];
-  instances = [];
+  store = empty limits.instances limits.cells;
   written = [];
   limits = limits;
   locals = [];

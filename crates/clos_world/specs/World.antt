@@ -1,5 +1,5 @@
 -- The state of a session (HyperSpec 3.1.1, 4.3, 7.6): lists that only grow at their ends.
-use Rattle.std.specs.Prelude.{ℕ, ◌-◌, ◌==◌, List, [], ◌∷◌, Option, Some, None, codes, map, reverse, take, option_map, unwrap_or, slice_get, if◌then◌else◌}
+use Rattle.std.specs.Prelude.{ℕ, List, [], ◌∷◌, Option, Some, None, codes, map, reverse, take, option_map, unwrap_or, slice_get, if◌then◌else◌}
 use Rattle.lisp_data.specs.Name.{Nam, same_name}
 use Rattle.lisp_data.specs.Value.{Val, integer, symbol, string, list, class, generic, method, instance, nil, cons}
 use Rattle.lisp_data.specs.Print.{Names, MethodParts, by_symbol, on_class}
@@ -10,7 +10,9 @@ use Rattle.clos_world.specs.declared.functions.Function.{Function}
 use Rattle.clos_world.specs.declared.world.World.{World}
 use Rattle.clos_world.specs.Globals.{Variables}
 use Rattle.clos_class_core.specs.Initial.{number, class_of_class}
-use Rattle.clos_class_core.specs.Table.{Table}
+use Rattle.clos_class.specs.Table.{Table}
+use Rattle.clos_store.specs.Store.{Contents}
+use Rattle.clos_store.specs.Store as store
 use Rattle.clos_world.specs.Class.{precedence_or_none, class_name}
 
 -- a lexical variable and its value (3.1.2.1.1)
@@ -24,7 +26,7 @@ pub record State : Type 0 where
   pub functions : List (Nam × Function)  -- by symbols, in order of definition
   pub setters : List (Nam × Function)  -- the functions (setf name), by that name
   pub globals : Variables  -- in order of definition
-  pub instances : List ℕ  -- of each its class; the first has the number 1
+  pub store : Contents  -- the instances, and the cells of shared slots
   pub written : List ℕ
   pub limits : Limits
   pub locals : List Local  -- the variables of the body that runs, the innermost first; between forms none
@@ -38,7 +40,7 @@ seen w = record {
   functions = w.functions;
   setters = w.setters;
   globals = w.globals;
-  instances = map (λ c. c.0) w.instances.items;
+  store = w.store;
   written = w.written.items;
   limits = w.limits;
   locals = [];
@@ -61,12 +63,9 @@ local_named (l ∷ ls) name = if same_name l.0 name then Some l.1 else local_nam
 abbrev pub outermost : ℕ → List Local → List Local
 outermost n ls = reverse (take n (reverse ls))
 
-abbrev pub instance_among : List ℕ → ℕ → Option ℕ
-instance_among is i = if i == 0 then None else slice_get is (i - 1)
-
 -- the class of an instance
 abbrev pub class_of_instance : State → ℕ → Option ℕ
-class_of_instance w i = instance_among w.instances i
+class_of_instance w i = option_map (λ o. o.class) (store.instance w.store i)
 
 -- the class of a value (4.3.7)
 abbrev pub class_of : State → Val → ℕ
@@ -75,7 +74,7 @@ class_of w (symbol s) = number (codes "SYMBOL")
 class_of w (string s) = number (codes "STRING")
 class_of w (list nil) = number (codes "NULL")
 class_of w (list (cons v l)) = number (codes "CONS")
-class_of w (class n) = class_of_class w.classes n
+class_of w (class n) = class_of_class w.classes.table n
 class_of w (generic n) = number (codes "STANDARD-GENERIC-FUNCTION")
 class_of w (method n) = number (codes "STANDARD-METHOD")
 class_of w (instance i) = unwrap_or (class_of_instance w i) (number (codes "STANDARD-OBJECT"))

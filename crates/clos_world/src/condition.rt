@@ -27,6 +27,9 @@ pub enum ConditionKind {
     IncompleteClass,
     LambdaListCongruence,
     NoApplicableMethod,
+    UnboundSlot,
+    MissingSlot,
+    InvalidInitarg,
     Unsupported,
     StepLimit,
     DepthLimit,
@@ -52,6 +55,9 @@ impl ConditionKind {
             ConditionKind::IncompleteClass => 11,
             ConditionKind::LambdaListCongruence => 12,
             ConditionKind::NoApplicableMethod => 14,
+            ConditionKind::UnboundSlot => 22,
+            ConditionKind::MissingSlot => 23,
+            ConditionKind::InvalidInitarg => 24,
             ConditionKind::Unsupported => 28,
             ConditionKind::StepLimit => 29,
             ConditionKind::DepthLimit => 30,
@@ -77,6 +83,9 @@ impl ConditionKind {
             ConditionKind::IncompleteClass => "INCOMPLETE-CLASS",
             ConditionKind::LambdaListCongruence => "LAMBDA-LIST-CONGRUENCE",
             ConditionKind::NoApplicableMethod => "NO-APPLICABLE-METHOD",
+            ConditionKind::UnboundSlot => "UNBOUND-SLOT",
+            ConditionKind::MissingSlot => "MISSING-SLOT",
+            ConditionKind::InvalidInitarg => "INVALID-INITARG",
             ConditionKind::Unsupported => "UNSUPPORTED",
             ConditionKind::StepLimit => "STEP-LIMIT",
             ConditionKind::DepthLimit => "DEPTH-LIMIT",
@@ -151,9 +160,22 @@ pub fn about_names(
 ) -> Result<Condition, AllocError>
     ensures { IfOk result (λ c. c ≡ record { kind = kind; items = name_value first.now ∷ name_value second.now ∷ [] }) }
 {
+    let first = value_named(first)?;
+    about_both(alloc, kind, first, value_named(second)?)
+}
+
+/// The condition of this kind that is about these two values.
+pub fn about_both(
+    alloc: Global,
+    kind: ConditionKind,
+    first: Value,
+    second: Value,
+) -> Result<Condition, AllocError>
+    ensures { IfOk result (λ c. c ≡ record { kind = kind; items = value_of first ∷ value_of second ∷ [] }) }
+{
     let mut items = Values::new(alloc);
-    items.push(value_named(first)?)?;
-    items.push(value_named(second)?)?;
+    items.push(first)?;
+    items.push(second)?;
     Ok(Condition { kind, items })
 }
 

@@ -13,7 +13,7 @@ pub mod world;
 
 pub use class_ids::ClassIds;
 pub use condition::{
-    Condition, ConditionKind, Stop, about, about_call, about_name, about_names, plain,
+    Condition, ConditionKind, Stop, about, about_both, about_call, about_name, about_names, plain,
 };
 pub use dispatch::{PrecedenceLists, ordered_methods};
 pub use functions::{Function, Functions};

@@ -82,6 +82,16 @@ impl Values {
         Ok(Values { values })
     }
 
+    /// Takes off the first value.
+    pub fn take_first(&mut self) -> Option<Value>
+        ensures { MatchOption result (self.old ≡ []) (λ v. self.old ≡ value_of v ∷ self.new) }
+    {
+        if self.values.is_empty() {
+            return None;
+        }
+        Some(self.values.remove(0))
+    }
+
     /// Takes off the last value.
     #[tactic(auto, using(crate::proofs::Lists::last_before))]
     pub fn take_last(&mut self) -> Option<Value>

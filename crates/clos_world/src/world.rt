@@ -1,19 +1,22 @@
 //! The state of a session: its tables, what was written, and its limits.
-ghost use Rattle.std.specs.Prelude.{◌≡◌, OnOk, OnErr, option_map, length, ◌++◌, ◌∷◌, []};
+ghost use Rattle.std.specs.Prelude.{◌≡◌, IfOk, option_map};
 ghost use Rattle.lisp_data.specs.ValueView.{value_of};
 ghost use Rattle.clos_precedence.specs.PrecedenceView.{numbers};
 ghost use Rattle.clos_world.specs.Class.{precedence_or_none};
+ghost use Rattle.clos_world.specs.Initial.{initial};
 ghost use Rattle.clos_world.specs.World.{seen, class_of, class_of_instance, names_of};
 
 use crate::functions::Functions;
 use crate::generic::{Generics, Method};
 use crate::globals::Globals;
 use crate::limits::Limits;
-use clos_class_core::{Classes, numbers};
+use clos_class::Classes;
+use clos_class_core::numbers;
+use clos_store::Store;
 use lisp_data::{
     ClassId, FunctionName, GenericId, InstanceId, MethodId, Name, Naming, Specializer, Value,
 };
-use std::alloc::AllocError;
+use std::alloc::{AllocError, Global};
 
 /// The tables of a session.
 #[derive(Drop)]
@@ -27,14 +30,32 @@ pub struct World {
     /// The functions `(setf name)`, by that name.
     pub setters: Functions,
     pub globals: Globals,
-    /// Of each instance its class.
-    pub instances: Vec<ClassId>,
+    /// The instances, and the cells of shared slots.
+    pub store: Store,
     /// What forms wrote.
     pub written: Vec<u8>,
     pub limits: Limits,
 }
 
 impl World {
+    /// The tables of a session that begins, under these limits.
+    pub fn new(alloc: Global, limits: Limits) -> Result<World, AllocError>
+        ensures { IfOk result (λ r. seen r ≡ initial limits) }
+    {
+        let classes = Classes::new(alloc, limits.classes)?;
+        Ok(World {
+            classes,
+            generics: Generics::new(alloc),
+            methods: Vec::new(alloc),
+            functions: Functions::new(alloc),
+            setters: Functions::new(alloc),
+            globals: Globals::new(alloc),
+            store: Store::new(alloc, limits.instances, limits.cells),
+            written: Vec::new(alloc),
+            limits,
+        })
+    }
+
     /// The class of a value (HyperSpec 4.3.7).
     pub fn class_of_value(&self, value: &Value) -> ClassId
         ensures { result.0 ≡ class_of (seen self.now) (value_of value.now) }
@@ -67,28 +88,7 @@ impl World {
     fn instance_class(&self, id: InstanceId) -> Option<ClassId>
         ensures { option_map (λ c. c.0) result ≡ class_of_instance (seen self.now) id.0 }
     {
-        if id.0 == 0 {
-            return None;
-        }
-        self.instances.get((id.0 - 1) as usize).copied()
-    }
-
-    /// How many instances were made.
-    #[tactic(auto, using(std::proofs::lemmas::Grind::common_steps))]
-    pub fn instance_count(&self) -> u64
-        ensures { result ≡ length (seen self.now).instances }
-    {
-        self.instances.len() as u64
-    }
-
-    /// One more instance, of this class.
-    #[tactic(auto, using(std::proofs::lemmas::Grind::common_steps))]
-    pub fn add_instance(&mut self, class: ClassId) -> Result<(), AllocError>
-        ensures ok { OnOk result (seen self.new ≡ record (seen self.old) { instances = (seen self.old).instances ++ class.0 ∷ [] }) }
-        ensures err { OnErr result (seen self.new ≡ seen self.old) }
-    {
-        self.instances.push(class)?;
-        Ok(())
+        self.store.class_of(id)
     }
 }
 

@@ -1,8 +1,8 @@
 use Rattle.std.proofs.Common.{ap, sym, ◌∙◌, [], Some}
 use Rattle.clos_forms.specs.OperatorView.{place_of}
 use Rattle.clos_machine.specs.Machine.{at}
-use Rattle.clos_machine.specs.Meaning.{acted, changed_place, collect, meaning, with_amount}
-use Rattle.clos_machine.specs.declared.machine.Action.TheVariants.{Amount, Change}
+use Rattle.clos_machine.specs.Meaning.{acted, changed_by, meaning, with_amount}
+use Rattle.clos_machine.specs.declared.machine.Action.TheVariants.{Change}
 use Rattle.clos_control.proofs.assignment.change_named.Goals as goal
 
 pub returns-in_ok-copy-in-Variable-clause-leads : goal.returns-in_ok-copy-in-Variable-clause-leads
@@ -12,17 +12,5 @@ returns-in_ok-copy-in-Variable-clause-leads c = λ run w h.
     (acted (meaning c.args.machine.now.room) c.args.machine.now.context (Change c.args.primitive c.in_ok-copy-in-Variable.field-0)) (at c.args.machine.now w) t) c.new.ensures
     ∙ ap (λ n. with_amount (meaning c.args.machine.now.room) c.args.machine.now.context c.args.amount.now []
     (acted (meaning c.args.machine.now.room) c.args.machine.now.context (Change c.args.primitive n)) (at c.args.machine.now w) t) c.in_ok-copy-in-Variable.ensures
-    ∙ sym (ap (λ q. changed_place (meaning c.args.machine.now.room) c.args.machine.now.context c.args.primitive (Some (place_of q)) c.args.parts.now c.args.amount.now
+    ∙ sym (ap (λ q. changed_by (meaning c.args.machine.now.room) c.args.machine.now.context c.args.primitive (Some (place_of q)) c.args.parts.now c.args.amount.now
     (at c.args.machine.now w) t) c.in-Variable.is) ∙ h t)
-
-pub returns-in_ok-copy-in-Call-2-clause-leads : goal.returns-in_ok-copy-in-Call-2-clause-leads
-returns-in_ok-copy-in-Call-2-clause-leads c = λ run w h.
-    c.collect_next.ensures.leads run w (λ t.
-    ap (λ vs. collect (meaning c.args.machine.now.room) c.args.machine.now.context c.args.parts.now vs
-    (acted (meaning c.args.machine.now.room) c.args.machine.now.context (Amount c.args.primitive c.in_ok-copy-in-Call.field-0 c.in_ok-copy-in-Call-2.field-0)) (at c.args.machine.now w) t) c.new-in-Call.ensures
-    ∙ ap (λ n. collect (meaning c.args.machine.now.room) c.args.machine.now.context c.args.parts.now []
-    (acted (meaning c.args.machine.now.room) c.args.machine.now.context (Amount c.args.primitive n c.in_ok-copy-in-Call-2.field-0)) (at c.args.machine.now w) t) c.in_ok-copy-in-Call.ensures
-    ∙ ap (λ fs. collect (meaning c.args.machine.now.room) c.args.machine.now.context c.args.parts.now []
-    (acted (meaning c.args.machine.now.room) c.args.machine.now.context (Amount c.args.primitive c.in-Call.name fs)) (at c.args.machine.now w) t) c.in_ok-copy-in-Call-2.ensures
-    ∙ sym (ap (λ q. changed_place (meaning c.args.machine.now.room) c.args.machine.now.context c.args.primitive (Some (place_of q)) c.args.parts.now c.args.amount.now
-    (at c.args.machine.now w) t) c.in-Call.is) ∙ h t)

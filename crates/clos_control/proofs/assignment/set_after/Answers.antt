@@ -9,8 +9,6 @@ use Rattle.clos_control.proofs.assignment.set_after.Goals as goal
 pub returns-clause-leads : goal.returns-clause-leads
 returns-clause-leads c = λ run w h.
     c.set_by.ensures.leads run w (λ t.
-    ap (λ x. then_do (collected (meaning c.args.machine.now.room) c.args.machine.now.context (cons c.args.first.now c.args.rest.now) (NewValue x c.in_ok-form.form) (at c.args.machine.now w) t)
-    (λ u. setf (meaning c.args.machine.now.room) c.args.machine.now.context c.args.others.now u)) c.in_ok-name.ensures
-    ∙ ap (λ x. then_do (collected (meaning c.args.machine.now.room) c.args.machine.now.context (cons c.args.first.now c.args.rest.now) (NewValue c.args.name.now x) (at c.args.machine.now w) t)
+    ap (λ x. then_do (collected (meaning c.args.machine.now.room) c.args.machine.now.context (cons c.args.first.now c.args.rest.now) (NewValue c.args.target x) (at c.args.machine.now w) t)
     (λ u. setf (meaning c.args.machine.now.room) c.args.machine.now.context c.args.others.now u)) c.in_ok-form.ensures
     ∙ h t)

@@ -10,11 +10,11 @@ pub returns-clause-leads : goal.returns-clause-leads
 returns-clause-leads c = λ run w h.
     c.begin_under.ensures.leads run w refl refl (λ t.
     ap (λ x. then_do (then_do (meaning c.args.machine.now.room c.args.machine.now.context (Plain x) (at c.args.machine.now w) t)
-    (λ v. collect (meaning c.args.machine.now.room) c.args.machine.now.context c.in_ok-rest.rest (c.new.result ++ v ∷ []) (acted (meaning c.args.machine.now.room) c.args.machine.now.context (NewValue c.args.name c.args.form)))) (λ u. setf (meaning c.args.machine.now.room) c.args.machine.now.context c.in_ok-others.others u)) c.in_ok-next.ensures
+    (λ v. collect (meaning c.args.machine.now.room) c.args.machine.now.context c.in_ok-rest.rest (c.new.result ++ v ∷ []) (acted (meaning c.args.machine.now.room) c.args.machine.now.context (NewValue c.args.target c.args.form)))) (λ u. setf (meaning c.args.machine.now.room) c.args.machine.now.context c.in_ok-others.others u)) c.in_ok-next.ensures
     ∙ ap (λ x. then_do (then_do (meaning c.args.machine.now.room c.args.machine.now.context (Plain c.args.first.now) (at c.args.machine.now w) t)
-    (λ v. collect (meaning c.args.machine.now.room) c.args.machine.now.context x (c.new.result ++ v ∷ []) (acted (meaning c.args.machine.now.room) c.args.machine.now.context (NewValue c.args.name c.args.form)))) (λ u. setf (meaning c.args.machine.now.room) c.args.machine.now.context c.in_ok-others.others u)) c.in_ok-rest.ensures
+    (λ v. collect (meaning c.args.machine.now.room) c.args.machine.now.context x (c.new.result ++ v ∷ []) (acted (meaning c.args.machine.now.room) c.args.machine.now.context (NewValue c.args.target c.args.form)))) (λ u. setf (meaning c.args.machine.now.room) c.args.machine.now.context c.in_ok-others.others u)) c.in_ok-rest.ensures
     ∙ ap (λ x. then_do (then_do (meaning c.args.machine.now.room c.args.machine.now.context (Plain c.args.first.now) (at c.args.machine.now w) t)
-    (λ v. collect (meaning c.args.machine.now.room) c.args.machine.now.context c.args.rest.now (x ++ v ∷ []) (acted (meaning c.args.machine.now.room) c.args.machine.now.context (NewValue c.args.name c.args.form)))) (λ u. setf (meaning c.args.machine.now.room) c.args.machine.now.context c.in_ok-others.others u)) c.new.ensures
+    (λ v. collect (meaning c.args.machine.now.room) c.args.machine.now.context c.args.rest.now (x ++ v ∷ []) (acted (meaning c.args.machine.now.room) c.args.machine.now.context (NewValue c.args.target c.args.form)))) (λ u. setf (meaning c.args.machine.now.room) c.args.machine.now.context c.in_ok-others.others u)) c.new.ensures
     ∙ ap (λ x. then_do (then_do (meaning c.args.machine.now.room c.args.machine.now.context (Plain c.args.first.now) (at c.args.machine.now w) t)
-    (λ v. collect (meaning c.args.machine.now.room) c.args.machine.now.context c.args.rest.now ([] ++ v ∷ []) (acted (meaning c.args.machine.now.room) c.args.machine.now.context (NewValue c.args.name c.args.form)))) (λ u. setf (meaning c.args.machine.now.room) c.args.machine.now.context x u)) c.in_ok-others.ensures
+    (λ v. collect (meaning c.args.machine.now.room) c.args.machine.now.context c.args.rest.now ([] ++ v ∷ []) (acted (meaning c.args.machine.now.room) c.args.machine.now.context (NewValue c.args.target c.args.form)))) (λ u. setf (meaning c.args.machine.now.room) c.args.machine.now.context x u)) c.in_ok-others.ensures
     ∙ h t)

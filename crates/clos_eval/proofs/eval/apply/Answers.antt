@@ -2,9 +2,10 @@ use Rattle.std.proofs.Common.{sym, subst, ◌∙◌}
 use Rattle.lisp_prims.specs.Primitive.{answer}
 use Rattle.clos_world.specs.Generic.{function_named}
 use Rattle.clos_world.specs.World.{class_of, seen}
-use Rattle.clos_machine.specs.Calls.{applied, called_function}
+use Rattle.clos_machine.specs.Calls.{called_function}
 use Rattle.clos_machine.specs.ClassFunctions.{class_answer, comes_to}
 use Rattle.clos_machine.specs.Fault.{answered}
+use Rattle.clos_machine.specs.Functions.{applied}
 use Rattle.clos_machine.specs.Meaning.{meaning}
 use Rattle.clos_machine.specs.Machine.{Turns, inside}
 use Rattle.clos_machine.proofs.Running.{turns_of_leads}

@@ -65,3 +65,8 @@ pub returns-in-Changed-clause-leads : goal.returns-in-Changed-clause-leads
 returns-in-Changed-clause-leads c =
     subst (λ f. Leads (given_to c.args.machine.now f (value_of c.args.value)) (seen c.args.world.now) c.change_from.result c.change_from.new.machine) (sym c.in-Changed.is)
     (c.change_from.ensures.leads (seen c.args.world.now))
+
+pub returns-in-Default-clause-leads : goal.returns-in-Default-clause-leads
+returns-in-Default-clause-leads c =
+    subst (λ f. Leads (given_to c.args.machine.now f (value_of c.args.value)) (seen c.args.world.now) c.next_default.result c.next_default.new.machine) (sym c.in-Default.is)
+    (c.next_default.ensures.leads (seen c.args.world.now))

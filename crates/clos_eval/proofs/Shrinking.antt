@@ -1,0 +1,28 @@
+-- What adds less than an action weighs makes a turn.
+use Rattle.std.proofs.Common.{ℕ, ◌+◌, ◌≤◌, List, Result, Ok, Err, arith}
+use Rattle.clos_world.specs.declared.condition.Stop.{Stop}
+use Rattle.clos_machine.specs.Machine.{Grows, Shrinks}
+use Rattle.clos_machine.specs.declared.machine.Doing.{Doing}
+use Rattle.clos_machine.specs.declared.machine.Level.{Level}
+use Rattle.clos_machine.specs.declared.machine.Machine.{Machine}
+
+module _ (s s' : ℕ) (old : List Level) (m : Machine) where
+  pub grows_2 : (r : Result Doing Stop) → Grows 2 old r m → s' ≤ s → Shrinks 8 s s' old r m
+  grows_2 (Ok d) g h = omega (arith, g, h)
+  grows_2 (Err e) g h = tt
+
+  pub grows_4 : (r : Result Doing Stop) → Grows 4 old r m → s' ≤ s → Shrinks 8 s s' old r m
+  grows_4 (Ok d) g h = omega (arith, g, h)
+  grows_4 (Err e) g h = tt
+
+  pub grows_6 : (r : Result Doing Stop) → Grows 6 old r m → s' ≤ s → Shrinks 8 s s' old r m
+  grows_6 (Ok d) g h = omega (arith, g, h)
+  grows_6 (Err e) g h = tt
+
+  pub grows_12 : (r : Result Doing Stop) → Grows 12 old r m → s' ≤ s → Shrinks 13 s s' old r m
+  grows_12 (Ok d) g h = omega (arith, g, h)
+  grows_12 (Err e) g h = tt
+
+  pub grows_14 : (r : Result Doing Stop) → Grows 14 old r m → s' ≤ s → Shrinks 15 s s' old r m
+  grows_14 (Ok d) g h = omega (arith, g, h)
+  grows_14 (Err e) g h = tt

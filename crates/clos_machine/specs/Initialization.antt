@@ -1,0 +1,92 @@
+-- The making of instances and their initialization (HyperSpec 7.1): make-instance, and the system's methods that it calls.
+use Rattle.std.specs.Prelude.{ℕ, ◌+◌, Bool, ◌||◌, List, [], ◌∷◌, ◌++◌, Option, Some, None, is_some, Result, Ok, Err, if◌then◌else◌, length}
+use Rattle.std.specs.List.{list_any}
+use Rattle.lisp_data.specs.Name.{Nam}
+use Rattle.lisp_data.specs.Value.{Val, instance}
+use Rattle.clos_forms.specs.Quotation.{name_value}
+use Rattle.clos_syntax.specs.declared.class.DefaultInitarg.{DefaultInitarg}
+use Rattle.clos_class.specs.Slots.{Effective}
+use Rattle.clos_class.specs.declared.effective_slots.EffectiveSlot.{EffectiveSlot}
+use Rattle.clos_store.specs.Store.{allocated, has_room, with_instance}
+use Rattle.clos_world.specs.Class.{class_name, effective}
+use Rattle.clos_world.specs.World.{State}
+use Rattle.clos_world.specs.declared.condition.Condition.{Condition}
+use Rattle.clos_world.specs.declared.condition.ConditionKind.TheVariants.{ProgramError, InvalidInitarg, TableLimit}
+use Rattle.clos_machine.specs.Calls.{known, scoped}
+use Rattle.clos_machine.specs.Objects.{designated}
+use Rattle.clos_machine.specs.Outcome.{Stopped, Run, Eval, then_do, gave, stopped, step_then}
+use Rattle.clos_machine.specs.Parameters.{are_pairs, argument_named, is_allow_other_keys, is_allowing, is_symbol_named}
+use Rattle.clos_machine.specs.declared.arguments.Context.{Context}
+use Rattle.clos_machine.specs.declared.machine.Filling.{Filling}
+use Rattle.clos_machine.specs.declared.machine.SystemCall.TheVariants.{Initialize}
+use Rattle.clos_machine.specs.declared.machine.Task.TheVariants.{Plain, System}
+
+-- ---- the validity of initargs (7.1.2): each names a slot, or is :ALLOW-OTHER-KEYS
+
+abbrev pub fills : List EffectiveSlot → Val → Bool
+fills slots v = list_any (λ s. list_any (λ n. is_symbol_named n v) s.initargs) slots
+
+abbrev pub is_valid : List EffectiveSlot → Val → Bool
+is_valid slots v = is_allow_other_keys v || fills slots v
+
+-- the leftmost name that is not valid
+abbrev pub first_invalid : List EffectiveSlot → List Val → Option Val
+first_invalid slots [] = None
+first_invalid slots (k ∷ []) = None
+first_invalid slots (k ∷ (v ∷ vs)) = if is_valid slots k then first_invalid slots vs else Some k
+
+-- a true :ALLOW-OTHER-KEYS allows all
+abbrev pub invalid_initarg : List EffectiveSlot → List Val → Option Val
+invalid_initarg slots vs = if is_allowing vs then None else first_invalid slots vs
+
+abbrev pub invalid_for : Val → Option Nam → Condition
+invalid_for k None = record { kind = InvalidInitarg; items = k ∷ [] }
+invalid_for k (Some name) = record { kind = InvalidInitarg; items = k ∷ name_value name ∷ [] }
+
+-- ---- initialize-instance is called with an instance of a class that has these slots, and gives the instance
+
+abbrev pub filling_of : ℕ → Effective → List Val → ℕ → Filling
+filling_of c e vs i = record { instance = record { 0 = i }; class = record { 0 = c }; initargs = vs; effective = e; place = 0 }
+
+abbrev pub initialized : Eval → Context → ℕ → Effective → List Val → ℕ → Option Val → Run
+initialized ev env c e vs i (Some k) w s = Stopped (invalid_for k (class_name w.classes c)) w s
+initialized ev env c e vs i None w s = then_do (ev env (System (Initialize (filling_of c e vs i))) w s) (λ v. gave (instance i))
+
+-- ---- the instance is made, in one step, and then initialized
+
+abbrev pub made : Eval → Context → ℕ → Effective → List Val → Run
+made ev env c e vs w s =
+    initialized ev env c e vs (length w.store.instances + 1) (invalid_initarg e.slots vs) (record w { store = with_instance (allocated c e.layout) w.store }) s
+
+abbrev pub allocate : Eval → Context → ℕ → Effective → List Val → Run
+allocate ev env c e vs w s = if has_room w.store then step_then (made ev env c e vs) w s else stopped TableLimit [] w s
+
+-- ---- default initargs (7.1.3): those whose names were not given follow the others
+
+abbrev pub is_given : List Val → DefaultInitarg → Bool
+is_given vs d = is_some (argument_named d.name vs)
+
+abbrev pub defaulted : Eval → Context → ℕ → Effective → List DefaultInitarg → List Val → Run
+defaulted ev env c e [] vs w s = allocate ev env c e vs w s
+defaulted ev env c e (d ∷ ds) vs w s =
+    if is_given vs d then defaulted ev env c e ds vs w s
+    else then_do (ev env (Plain d.form) w s) (λ v. defaulted ev env c e ds (vs ++ name_value d.name ∷ v ∷ []))
+
+-- the value of the first of these is there
+abbrev pub default_given : Eval → Context → ℕ → Effective → List DefaultInitarg → List Val → Val → Run
+default_given ev env c e [] vs v w s = stopped ProgramError [] w s
+default_given ev env c e (d ∷ ds) vs v w s = defaulted ev env c e ds (vs ++ name_value d.name ∷ v ∷ []) w s
+
+-- ---- make-instance (7.7), whose forms are evaluated with no variables
+
+abbrev pub making_of : Eval → List Val → ℕ → Option Effective → Run
+making_of ev vs c None w s = stopped ProgramError [] w s
+making_of ev vs c (Some e) w s = scoped (defaulted ev (known []) c e e.defaults vs) [] w s
+
+abbrev pub making : Eval → List Val → Result ℕ Condition → Run
+making ev vs (Err c) w s = Stopped c w s
+making ev vs (Ok c) w s = making_of ev vs c (effective w.classes c) w s
+
+abbrev pub instance_made : Eval → List Val → Run
+instance_made ev [] w s = stopped ProgramError [] w s
+instance_made ev (v ∷ vs) w s = if are_pairs vs then making ev vs (designated w.classes v) w s else stopped ProgramError [] w s

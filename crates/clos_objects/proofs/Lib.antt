@@ -1,0 +1,4 @@
+pub mod Telling
+pub mod Placing
+pub mod Passing
+pub mod Making

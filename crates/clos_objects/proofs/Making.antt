@@ -1,0 +1,234 @@
+-- The making of an instance.
+use Rattle.std.proofs.Common.{◌≡◌, ℕ, zero, suc, ◌+◌, ◌<◌, ◌≤◌, List, [], ◌∷◌, ◌++◌, Bool, true, false, Option, Some, None, Result, Ok, Err, drop, get_or, length, arith, add-one, refl, ap, sym, subst, ◌∙◌}
+use Rattle.std.specs.Prelude.{option_map, if◌then◌else◌, is_some}
+use Rattle.std.proofs.Math.Seq.{drop-cons}
+use Rattle.lisp_data.specs.Value.{Val, instance}
+use Rattle.lisp_data.specs.declared.ids.InstanceId.{InstanceId}
+use Rattle.clos_forms.specs.Quotation.{name_value}
+use Rattle.clos_forms.specs.Form.{nil}
+use Rattle.clos_syntax.specs.declared.class.DefaultInitarg.{DefaultInitarg}
+use Rattle.clos_class.specs.Slots.{Effective}
+use Rattle.clos_class.specs.Table.{Table}
+use Rattle.clos_store.specs.Store.{allocated, has_room, next_instance, with_instance}
+use Rattle.clos_world.specs.Class.{class_name, effective}
+use Rattle.clos_world.specs.World.{State, bound_as, unbound}
+use Rattle.clos_world.specs.declared.condition.Condition.{Condition}
+use Rattle.clos_world.specs.declared.condition.ConditionKind.TheVariants.{ProgramError, TableLimit, StepLimit}
+use Rattle.clos_world.specs.declared.condition.Stop.{Stop}
+use Rattle.clos_world.specs.declared.condition.Stop.TheVariants.{Refused, Storage}
+use Rattle.clos_machine.specs.Calls.{known, restoring}
+use Rattle.clos_machine.specs.Initialization.{allocate, default_given, defaulted, instance_made, making, initialized, invalid_for, invalid_initarg, is_given, made, making_of}
+use Rattle.clos_machine.specs.Machine.{Designates, Leads, Turns, at, inside, resume}
+use Rattle.clos_machine.specs.Meaning.{closed, meaning}
+use Rattle.clos_machine.specs.Objects.{designated}
+use Rattle.clos_machine.specs.Parameters.{are_pairs}
+use Rattle.clos_machine.specs.Outcome.{Run, Eval, Gave, Stopped, then_do, step_then, stopped}
+use Rattle.clos_machine.specs.declared.arguments.Context.{Context}
+use Rattle.clos_machine.specs.declared.machine.Doing.{Doing}
+use Rattle.clos_machine.specs.declared.machine.Frame.TheVariants.{Body}
+use Rattle.clos_machine.specs.declared.machine.Machine.{Machine}
+use Rattle.clos_machine.proofs.Running.{turns_of_leads}
+use Rattle.clos_machine.proofs.Turns.{leads_same, stopped_through}
+use Rattle.clos_objects.specs.Objects.{Enters, TellsInvalid, default_first, ungiven}
+use Rattle.clos_objects.proofs.Placing.{stops_at_once, turns_same}
+
+-- ---- default initargs
+
+module _ (vs : List Val) where
+  given_goes : (d : DefaultInitarg) (ds : List DefaultInitarg) → true ≡ is_given vs d → ungiven vs ds ≡ ungiven vs (d ∷ ds)
+  given_goes d ds e = ap (λ b. if b then ungiven vs ds else d ∷ ds) e
+
+  given_stays : (d : DefaultInitarg) (ds : List DefaultInitarg) → false ≡ is_given vs d → d ∷ ds ≡ ungiven vs (d ∷ ds)
+  given_stays d ds e = ap (λ b. if b then ungiven vs ds else d ∷ ds) e
+
+  pub ungiven_goes : (ds : List DefaultInitarg) (k : ℕ) (d : DefaultInitarg) → k < length ds → d ≡ get_or ds k d → true ≡ is_given vs d
+      → ungiven vs (drop (k + 1) ds) ≡ ungiven vs (drop k ds)
+  ungiven_goes ds k d p e h =
+      ap (λ n. ungiven vs (drop n ds)) (add-one k) ∙ given_goes d (drop (suc k) ds) h ∙ ap (λ x. ungiven vs (x ∷ drop (suc k) ds)) e ∙ ap (ungiven vs) (sym (drop-cons ds k d p))
+
+  pub ungiven_stays : (ds : List DefaultInitarg) (k : ℕ) (d : DefaultInitarg) → k < length ds → d ≡ get_or ds k d → false ≡ is_given vs d → ungiven vs (drop k ds) ≡ drop k ds
+  ungiven_stays ds k d p e h =
+      let at_k : drop k ds ≡ d ∷ drop (suc k) ds = drop-cons ds k d p ∙ ap (λ x. x ∷ drop (suc k) ds) (sym e) in
+      ap (ungiven vs) at_k ∙ sym (given_stays d (drop (suc k) ds) h) ∙ sym at_k
+
+  module _ (ev : Eval) (env : Context) (c : ℕ) (e : Effective) (w : State) (t : ℕ) where
+    -- what is done with those that are left
+    abbrev expanded : List DefaultInitarg → Run
+    expanded [] u k = allocate ev env c e vs u k
+    expanded (d ∷ ds) u k = default_first ev env c e (d ∷ ds) vs u k
+
+    by : (b : Bool) (d : DefaultInitarg) (ds : List DefaultInitarg) → b ≡ is_given vs d → defaulted ev env c e ds vs w t ≡ expanded (ungiven vs ds) w t
+        → defaulted ev env c e (d ∷ ds) vs w t ≡ expanded (ungiven vs (d ∷ ds)) w t
+    by true d ds h r =
+        ap (λ b. if b then defaulted ev env c e ds vs w t else default_first ev env c e (d ∷ ds) vs w t) (sym h) ∙ r ∙ ap (λ l. expanded l w t) (given_goes d ds h)
+    by false d ds h r =
+        ap (λ b. if b then defaulted ev env c e ds vs w t else default_first ev env c e (d ∷ ds) vs w t) (sym h) ∙ ap (λ l. expanded l w t) (given_stays d ds h)
+
+    defaulted_ungiven : (ds : List DefaultInitarg) → defaulted ev env c e ds vs w t ≡ expanded (ungiven vs ds) w t
+    defaulted_ungiven [] = refl
+    defaulted_ungiven (d ∷ ds) = by (is_given vs d) d ds refl (defaulted_ungiven ds)
+
+    pub defaulted_none : (ds : List DefaultInitarg) → ungiven vs ds ≡ [] → allocate ev env c e vs w t ≡ defaulted ev env c e ds vs w t
+    defaulted_none ds h = sym (defaulted_ungiven ds ∙ ap (λ l. expanded l w t) h)
+
+    expanded_first : (all : List DefaultInitarg) (k : ℕ) → k < length all → expanded (drop k all) w t ≡ default_first ev env c e (drop k all) vs w t
+    expanded_first [] k p = absurd (omega (arith, p))
+    expanded_first (d ∷ all) zero p = refl
+    expanded_first (d ∷ all) (suc k) p = expanded_first all k (omega (arith, p))
+
+    pub defaulted_first : (ds all : List DefaultInitarg) (k : ℕ) → k < length all → ungiven vs ds ≡ drop k all
+        → default_first ev env c e (drop k all) vs w t ≡ defaulted ev env c e ds vs w t
+    defaulted_first ds all k p h = sym (defaulted_ungiven ds ∙ ap (λ l. expanded l w t) h ∙ expanded_first all k p)
+
+-- ---- an instance is made
+
+one_more : (t : ℕ) → 1 + t ≡ suc t
+one_more t = omega arith
+
+no_room : (b : Bool) (n : ℕ) → None ≡ (if b then Some n else None) → false ≡ b
+no_room true n e = absurd (cc e)
+no_room false n e = refl
+
+some_room : (b : Bool) (n i : ℕ) → Some i ≡ (if b then Some n else None) → (true ≡ b) × (i ≡ n)
+some_room true n i e = (refl, cc e)
+some_room false n i e = absurd (cc e)
+
+module _ (m : Machine) (c : ℕ) (e : Effective) (vs : List Val) where
+  abbrev pub allocating : Run
+  allocating = allocate (meaning m.room) m.context c e vs
+
+  pub allocate_full : (n : Machine) (d : Condition) (w : State) (s : ℕ) → None ≡ next_instance w.store → d ≡ record { kind = TableLimit; items = [] }
+      → Turns (inside m allocating) w s (Err (Refused d)) n w s
+  allocate_full n d w s h k =
+      stops_at_once m n allocating w s d
+      (ap (λ b. if b then step_then (made (meaning m.room) m.context c e vs) (at m w) s else stopped TableLimit [] (at m w) s) (sym (no_room (has_room w.store) _ h))
+      ∙ ap (λ x. Stopped x (at m w) s) (sym k))
+
+  has_room_then : (i : InstanceId) (w : State) (s : ℕ) → Some i.0 ≡ next_instance w.store → allocating (at m w) s ≡ step_then (made (meaning m.room) m.context c e vs) (at m w) s
+  has_room_then i w s h =
+      ap (λ b. if b then step_then (made (meaning m.room) m.context c e vs) (at m w) s else stopped TableLimit [] (at m w) s) (sym (some_room (has_room w.store) _ i.0 h).0)
+
+  pub allocate_no_step : (n : Machine) (i : InstanceId) (d : Condition) (w : State) (s : ℕ) → Some i.0 ≡ next_instance w.store → s ≡ 0 → d ≡ record { kind = StepLimit; items = [] }
+      → Turns (inside m allocating) w s (Err (Refused d)) n w s
+  allocate_no_step n i d w s h z k =
+      stops_at_once m n allocating w s d
+      (has_room_then i w s h ∙ ap (step_then (made (meaning m.room) m.context c e vs) (at m w)) z ∙ ap (λ x. Stopped x (at m w) 0) (sym k) ∙ ap (Stopped d (at m w)) (sym z))
+
+  pub room_for : (i : InstanceId) (w : State) → Some i.0 ≡ next_instance w.store → has_room w.store ≡ true
+  room_for i w h = sym (some_room (has_room w.store) _ i.0 h).0
+
+  -- the rest, with the instance made
+  abbrev pub next_of : InstanceId → Run
+  next_of i u k = initialized (meaning m.room) m.context c e vs i.0 (invalid_initarg e.slots vs) u k
+
+  after_step : (i : InstanceId) (w w' : State) (t : ℕ) → Some i.0 ≡ next_instance w.store → w' ≡ record w { store = with_instance (allocated c e.layout) w.store }
+      → inside m (next_of i) w' t ≡ inside m allocating w (1 + t)
+  after_step i w w' t h k =
+      ap (λ u. inside m (next_of i) u t) k
+      ∙ ap (λ o. closed (resume m.levels m.context o))
+      (ap (λ j. initialized (meaning m.room) m.context c e vs j (invalid_initarg e.slots vs) (record (at m w) { store = with_instance (allocated c e.layout) w.store }) t)
+      (some_room (has_room w.store) _ i.0 h).1
+      ∙ sym (has_room_then i w (1 + t) h ∙ ap (step_then (made (meaning m.room) m.context c e vs) (at m w)) (one_more t)))
+
+  pub allocate_goes : (n : Machine) (i : InstanceId) (d : Doing) (w w' : State) (s s' : ℕ) → Some i.0 ≡ next_instance w.store → s ≡ 1 + s'
+      → w' ≡ record w { store = with_instance (allocated c e.layout) w.store } → Leads (inside m (next_of i)) w' (Ok d) n → Turns (inside m allocating) w s (Ok d) n w' s'
+  allocate_goes n i d w w' s s' h z k l = (1, z, λ t. l t ∙ after_step i w w' t h k)
+
+  pub allocate_stops : (n : Machine) (i : InstanceId) (d : Condition) (w w' : State) (s s' : ℕ) → Some i.0 ≡ next_instance w.store → s ≡ 1 + s'
+      → w' ≡ record w { store = with_instance (allocated c e.layout) w.store } → Leads (inside m (next_of i)) w' (Err (Refused d)) n
+      → Turns (inside m allocating) w s (Err (Refused d)) n w' s'
+  allocate_stops n i d w w' s s' h z k l = ap (inside m allocating w) z ∙ sym (after_step i w w' s' h k) ∙ l s'
+
+-- an initarg that is not valid
+pub refused_initarg : (m n : Machine) (ev : Eval) (env : Context) (c : ℕ) (e : Effective) (vs us : List Val) (i : ℕ) (k : Val) (cs : Table) (stop : Stop) (run : Run) (w : State)
+    → w.classes ≡ cs → Some k ≡ invalid_initarg e.slots us → us ≡ vs → TellsInvalid (invalid_for k (class_name cs c)) stop
+    → ((t : ℕ) → initialized ev env c e vs i (invalid_initarg e.slots vs) (at m w) t ≡ run (at m w) t) → Leads (inside m run) w (Err stop) n
+refused_initarg m n ev env c e vs us i k cs Storage run w a b g d h = tt
+refused_initarg m n ev env c e vs us i k cs (Refused x) run w a b g d h = λ t.
+    ap (λ o. closed (resume m.levels m.context o))
+    (sym (h t) ∙ ap (λ o. initialized ev env c e vs i o (at m w) t) (sym (b ∙ ap (invalid_initarg e.slots) g))
+    ∙ ap (λ y. Stopped (invalid_for k (class_name y c)) (at m w) t) a ∙ ap (λ y. Stopped y (at m w) t) (sym d))
+    ∙ stopped_through m.levels m.context x (at m w) t
+
+-- ---- within a body without variables
+
+module _ (m n k : Machine) (vs : List Val) (c : ℕ) (e : Effective) (w : State) (s : ℕ) (r : Result Doing Stop) where
+  pub makes_at_once : (w' : State) (s' : ℕ) → Enters m n → ungiven vs e.defaults ≡ [] → Turns (inside n (allocate (meaning n.room) n.context c e vs)) w s r k w' s'
+      → Turns (inside m (making_of (meaning m.room) vs c (Some e))) w s r k w' s'
+  makes_at_once w' s' h g l =
+      turns_same (inside (record { levels = (record { frame = Body nil m.context m.locals; room = m.room }) ∷ m.levels; context = known []; locals = []; room = m.room }) (allocate (meaning m.room) (known []) c e vs))
+      (inside m (making_of (meaning m.room) vs c (Some e))) w s r k w' s'
+      (λ t. ap (λ o. closed (resume m.levels m.context (then_do o (restoring m.locals)))) (defaulted_none vs (meaning m.room) (known []) c e (bound_as [] w) t e.defaults g))
+      (subst (λ x. Turns (inside x (allocate (meaning x.room) x.context c e vs)) w s r k w' s') h l)
+
+  pub makes_after : (p : ℕ) → Enters m n → p < length e.defaults → ungiven vs e.defaults ≡ drop p e.defaults
+      → Leads (inside n (default_first (meaning n.room) n.context c e (drop p e.defaults) vs)) w r k
+      → Turns (inside m (making_of (meaning m.room) vs c (Some e))) w s r k w s
+  makes_after p h q g l =
+      turns_of_leads (inside m (making_of (meaning m.room) vs c (Some e))) w s r k
+      (leads_to (subst (λ x. Leads (inside x (default_first (meaning x.room) x.context c e (drop p e.defaults) vs)) w r k) h l))
+    where
+      same_at : (t : ℕ) → inside (record { levels = (record { frame = Body nil m.context m.locals; room = m.room }) ∷ m.levels; context = known []; locals = []; room = m.room })
+          (default_first (meaning m.room) (known []) c e (drop p e.defaults) vs) w t ≡ inside m (making_of (meaning m.room) vs c (Some e)) w t
+      same_at t =
+          ap (λ o. closed (resume m.levels m.context (then_do o (restoring m.locals))))
+          (defaulted_first vs (meaning m.room) (known []) c e (bound_as [] w) t e.defaults e.defaults p q g)
+
+      leads_to : Leads (inside (record { levels = (record { frame = Body nil m.context m.locals; room = m.room }) ∷ m.levels; context = known []; locals = []; room = m.room })
+          (default_first (meaning m.room) (known []) c e (drop p e.defaults) vs)) w r k → Leads (inside m (making_of (meaning m.room) vs c (Some e))) w r k
+      leads_to x = leads_same (inside (record { levels = (record { frame = Body nil m.context m.locals; room = m.room }) ∷ m.levels; context = known []; locals = []; room = m.room })
+          (default_first (meaning m.room) (known []) c e (drop p e.defaults) vs)) (inside m (making_of (meaning m.room) vs c (Some e))) w r k same_at x
+
+-- ---- make-instance
+
+module _ (m n : Machine) (ev : Eval) (w : State) (s : ℕ) where
+  pub no_class : (vs : List Val) (d : Condition) → vs ≡ [] → d ≡ record { kind = ProgramError; items = [] } → Turns (inside m (instance_made ev vs)) w s (Err (Refused d)) n w s
+  no_class vs d e k =
+      stops_at_once m n (instance_made ev vs) w s d (ap (λ l. instance_made ev l (at m w) s) e ∙ ap (λ x. Stopped x (at m w) s) (sym k))
+
+  pub not_pairs : (v : Val) (vs us : List Val) (d : Condition) → false ≡ are_pairs us → us ≡ vs → d ≡ record { kind = ProgramError; items = [] }
+      → Turns (inside m (instance_made ev (v ∷ vs))) w s (Err (Refused d)) n w s
+  not_pairs v vs us d e h k =
+      stops_at_once m n (instance_made ev (v ∷ vs)) w s d
+      (ap (λ b. if b then making ev vs (designated w.classes v) (at m w) s else stopped ProgramError [] (at m w) s) (sym (e ∙ ap are_pairs h)) ∙ ap (λ x. Stopped x (at m w) s) (sym k))
+
+  pub undesignated : (v : Val) (vs us : List Val) (stop : Stop) → true ≡ are_pairs us → us ≡ vs → Designates (designated w.classes v) (Err stop)
+      → Turns (inside m (instance_made ev (v ∷ vs))) w s (Err stop) n w s
+  undesignated v vs us Storage e h d = (refl, refl)
+  undesignated v vs us (Refused c) e h d =
+      stops_at_once m n (instance_made ev (v ∷ vs)) w s c
+      (ap (λ b. if b then making ev vs (designated w.classes v) (at m w) s else stopped ProgramError [] (at m w) s) (sym (e ∙ ap are_pairs h))
+      ∙ ap (λ x. making ev vs x (at m w) s) d)
+
+  pub not_complete : (vs : List Val) (c : ℕ) (d : Condition) → None ≡ effective w.classes c → d ≡ record { kind = ProgramError; items = [] }
+      → Turns (inside m (λ u. making_of ev vs c (effective u.classes c) u)) w s (Err (Refused d)) n w s
+  not_complete vs c d e k =
+      stops_at_once m n (λ u. making_of ev vs c (effective u.classes c) u) w s d (ap (λ o. making_of ev vs c o (at m w) s) (sym e) ∙ ap (λ x. Stopped x (at m w) s) (sym k))
+
+  pub complete : (vs : List Val) (c : ℕ) (e : Effective) (r : Result Doing Stop) (w' : State) (s' : ℕ) → Some e ≡ effective w.classes c
+      → Turns (inside m (making_of ev vs c (Some e))) w s r n w' s' → Turns (inside m (λ u. making_of ev vs c (effective u.classes c) u)) w s r n w' s'
+  complete vs c e r w' s' h l =
+      turns_same (inside m (making_of ev vs c (Some e))) (inside m (λ u. making_of ev vs c (effective u.classes c) u)) w s r n w' s'
+      (λ t. ap (λ o. inside m (making_of ev vs c o) w t) h) l
+
+-- ---- the value of a default initarg
+
+two_more : (vs : List Val) (a b : Val) → (vs ++ a ∷ []) ++ b ∷ [] ≡ vs ++ a ∷ b ∷ []
+two_more [] a b = refl
+two_more (v ∷ vs) a b = ap (λ l. v ∷ l) (two_more vs a b)
+
+module _ (m n : Machine) (c : ℕ) (e : Effective) (vs : List Val) (v : Val) (w : State) where
+  pub nothing_given : (ds : List DefaultInitarg) (d : Condition) → ds ≡ [] → d ≡ record { kind = ProgramError; items = [] }
+      → Leads (inside m (default_given (meaning m.room) m.context c e ds vs v)) w (Err (Refused d)) n
+  nothing_given ds d h k = λ t.
+      ap (λ l. inside m (default_given (meaning m.room) m.context c e l vs v) w t) h
+      ∙ stopped_through m.levels m.context (record { kind = ProgramError; items = [] }) (at m w) t ∙ ap (λ x. Stopped x (unbound w) t) (sym k)
+
+  pub one_given : (ds : List DefaultInitarg) (d : DefaultInitarg) (rest : List DefaultInitarg) (us : List Val) (name : Val) (r : Result Doing Stop)
+      → ds ≡ d ∷ rest → name ≡ name_value d.name → us ≡ (vs ++ name ∷ []) ++ v ∷ [] → Leads (inside m (defaulted (meaning m.room) m.context c e rest us)) w r n
+      → Leads (inside m (default_given (meaning m.room) m.context c e ds vs v)) w r n
+  one_given ds d rest us name r h i j l =
+      leads_same (inside m (defaulted (meaning m.room) m.context c e rest us)) (inside m (default_given (meaning m.room) m.context c e ds vs v)) w r n
+      (λ t. ap (λ x. inside m (defaulted (meaning m.room) m.context c e rest x) w t) (j ∙ two_more vs name v)
+      ∙ ap (λ x. inside m (defaulted (meaning m.room) m.context c e rest (vs ++ x ∷ v ∷ [])) w t) i
+      ∙ ap (λ x. inside m (default_given (meaning m.room) m.context c e x vs v) w t) (sym h)) l

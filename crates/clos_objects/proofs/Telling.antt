@@ -1,0 +1,54 @@
+-- Answers of functions of classes.
+use Rattle.std.proofs.Common.{◌≡◌, List, Result, Ok, Err, refl, ap, sym, subst, ◌∙◌}
+use Rattle.lisp_data.specs.Name.{Nam}
+use Rattle.lisp_data.specs.Value.{Val, Vals, nil, list}
+use Rattle.lisp_data.specs.declared.ids.ClassId.{ClassId}
+use Rattle.lisp_data.specs.ValueView.{value_of}
+use Rattle.lisp_data.specs.declared.value.Value.{Value}
+use Rattle.lisp_prims.specs.Fault as prims
+use Rattle.lisp_prims.specs.Fault.{AnswersUnlessMemory, StandsFor}
+use Rattle.lisp_prims.specs.declared.fault.PrimFault.{PrimFault}
+use Rattle.lisp_prims.specs.declared.fault.PrimFault.TheVariants as fault
+use Rattle.clos_world.specs.Class.{named}
+use Rattle.clos_world.specs.Condition.{nil_name}
+use Rattle.clos_world.specs.World.{State, class_of}
+use Rattle.clos_world.specs.declared.condition.Stop.{Stop}
+use Rattle.clos_world.specs.declared.condition.Stop.TheVariants.{Refused, Storage}
+use Rattle.clos_machine.specs.ClassFunctions.{Tells, class_answer, comes_to, in_words_of_conditions}
+use Rattle.clos_machine.specs.Fault.{Signals}
+use Rattle.clos_machine.specs.Machine.{Designates, Leads, at, inside, resume}
+use Rattle.clos_machine.specs.Meaning.{closed}
+use Rattle.clos_machine.specs.Objects.{class_found, designated}
+use Rattle.clos_machine.specs.declared.callee.ClassFunction.{ClassFunction}
+use Rattle.clos_machine.specs.declared.machine.Machine.{Machine}
+use Rattle.clos_machine.proofs.Turns.{stopped_through}
+
+pub told_stops : (m m' : Machine) (f : ClassFunction) (vs us : List Val) (stop : Stop) (w : State) → us ≡ vs
+    → Tells (class_answer f w.classes (class_of w) us) (Err stop) → Leads (inside m (λ u. comes_to (class_answer f u.classes (class_of u) vs) u)) w (Err stop) m'
+told_stops m m' f vs us Storage w e h = tt
+told_stops m m' f vs us (Refused c) w e h = λ t.
+    ap (λ x. closed (resume m.levels m.context (comes_to x (at m w) t))) (ap (class_answer f w.classes (class_of w)) (sym e) ∙ h)
+    ∙ stopped_through m.levels m.context c (at m w) t
+
+-- a list that can't be made
+pub not_listed : (x : Result Val prims.Condition) (f : PrimFault) (stop : Stop) → AnswersUnlessMemory {A = Value} value_of (Err f) x
+    → ((c : prims.Condition) → StandsFor f c → Signals c stop) → (f ≡ fault.Memory → stop ≡ Storage) → Tells (in_words_of_conditions x) (Err stop)
+not_listed x f Storage a h k = tt
+not_listed x fault.Memory (Refused d) a h k = absurd (cc (k refl))
+not_listed (Ok v) fault.ProgramError (Refused d) a h k = absurd a
+not_listed (Err c) fault.ProgramError (Refused d) a h k = ap Err (sym (h c a))
+not_listed (Ok v) (fault.TypeError u) (Refused d) a h k = absurd a
+not_listed (Err c) (fault.TypeError u) (Refused d) a h k = ap Err (sym (h c a))
+not_listed (Ok v) fault.IntegerRange (Refused d) a h k = absurd a
+not_listed (Err c) fault.IntegerRange (Refused d) a h k = ap Err (sym (h c a))
+not_listed (Ok v) fault.DivisionByZero (Refused d) a h k = absurd a
+not_listed (Err c) fault.DivisionByZero (Refused d) a h k = ap Err (sym (h c a))
+not_listed (Ok v) fault.Unsupported (Refused d) a h k = absurd a
+not_listed (Err c) fault.Unsupported (Refused d) a h k = ap Err (sym (h c a))
+
+-- ---- the class of NIL's name
+
+pub nil_designates : (w : State) (l : Vals) (n : Nam) (r : Result ClassId Stop) → l ≡ nil → n ≡ nil_name → Designates (class_found w.classes n (named w.classes n)) r
+    → Designates (designated w.classes (list l)) r
+nil_designates w l n r e k h =
+    subst (λ x. Designates (designated w.classes (list x)) r) (sym e) (subst (λ x. Designates (class_found w.classes x (named w.classes x)) r) k h)

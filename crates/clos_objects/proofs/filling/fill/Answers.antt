@@ -1,0 +1,30 @@
+use Rattle.std.proofs.Common.{ap, drop, refl, subst}
+use Rattle.lisp_data.specs.ValueView.{value_of}
+use Rattle.clos_world.specs.World.{seen}
+use Rattle.clos_machine.specs.Filling.{fill_with, slots_left, subject_of}
+use Rattle.clos_machine.specs.Meaning.{meaning}
+use Rattle.clos_machine.specs.Outcome.{then_do}
+use Rattle.clos_machine.specs.declared.machine.Task.TheVariants.{Plain}
+use Rattle.clos_objects.specs.Objects.{Finds, filler_in}
+use Rattle.clos_objects.proofs.Passing.{fill_ends, fill_evaluates, fill_goes}
+use Rattle.clos_objects.proofs.filling.fill.Goals as goal
+
+pub returns-in-None-clause-turns : goal.returns-in-None-clause-turns
+returns-in-None-clause-turns c =
+    fill_ends c.args.machine.now (subject_of c.args.filling) (slots_left c.args.filling) c.args.filling.instance (seen c.args.world.now) c.args.steps.now
+    (subst (Finds (seen c.args.world.now) (subject_of c.args.filling) c.args.filling.effective.slots (slots_left c.args.filling)) c.in-None.is c.in_ok-next_filler.ensures) refl
+
+pub returns-in-Value-clause-turns : goal.returns-in-Value-clause-turns
+returns-in-Value-clause-turns c =
+    let f = subst (Finds (seen c.args.world.now) (subject_of c.args.filling) c.args.filling.effective.slots (slots_left c.args.filling)) c.in-Some.is c.in_ok-next_filler.ensures in
+    fill_goes c.args.machine.now (subject_of c.args.filling) c.args.machine.now (slots_left c.args.filling) (drop c.in-Some.place c.args.filling.effective.slots) c.in-Some.found
+    (value_of c.in-Value.value) (seen c.args.world.now) c.args.steps.now c.fill_first.result (seen c.fill_first.new.world) c.fill_first.new.steps
+    (ap filler_in c.in-Value.is) f.0 f.1 c.fill_first.ensures.turns
+
+pub returns-in-Initform-clause-turns : goal.returns-in-Initform-clause-turns
+returns-in-Initform-clause-turns c =
+    let f = subst (Finds (seen c.args.world.now) (subject_of c.args.filling) c.args.filling.effective.slots (slots_left c.args.filling)) c.in-Some.is c.in_ok-next_filler.ensures in
+    fill_evaluates c.args.machine.now (subject_of c.args.filling) c.begin.new.machine (slots_left c.args.filling) (drop c.in-Some.place c.args.filling.effective.slots) c.in-Some.found
+    c.in-Initform.form (seen c.args.world.now) c.args.steps.now c.begin.result c.in-Initform.is f.0 f.1
+    (c.begin.ensures.leads (λ u k. then_do (meaning c.args.machine.now.room c.args.machine.now.context (Plain c.in-Initform.form) u k)
+    (λ v. fill_with (meaning c.args.machine.now.room) c.args.machine.now.context (subject_of c.args.filling) (drop c.in-Some.place c.args.filling.effective.slots) v)) (seen c.args.world.now) refl (λ t. refl))

@@ -1,0 +1,19 @@
+use Rattle.std.proofs.Common.{◌-◌, Some, arith, ap, drop, refl, sym, ◌∙◌}
+use Rattle.lisp_data.specs.ValueView.{value_of}
+use Rattle.clos_world.specs.World.{seen}
+use Rattle.clos_machine.specs.Filling.{slots_left, subject_of}
+use Rattle.clos_machine.specs.declared.machine.Filling.{Filling}
+use Rattle.clos_objects.proofs.Passing.{first_next, first_no_step}
+use Rattle.clos_objects.proofs.filling.fill_first.Goals as goal
+
+pub returns-then-steps-eq0-clause-turns : goal.returns-then-steps-eq0-clause-turns
+returns-then-steps-eq0-clause-turns c =
+    first_no_step c.args.machine.now (subject_of c.args.filling) c.args.machine.now (slots_left c.args.filling) c.in-Some.slot.now (drop c.in-Some.next c.args.filling.effective.slots)
+    (value_of c.args.value) c.plain.result (seen c.args.world.now) c.args.steps.now c.in-Some.ensures c.if-steps-eq0.true c.plain.ensures
+
+pub returns-clause-turns : goal.returns-clause-turns
+returns-clause-turns c =
+    let g : Filling = record c.args.filling { place = c.in-Some.next } in
+    first_next c.args.machine.now (subject_of c.args.filling) (slots_left c.args.filling) c.in-Some.slot.now (drop c.in-Some.next c.args.filling.effective.slots)
+    (value_of c.args.value) g c.new.result (seen c.args.world.now) (record (seen c.args.world.now) { store = c.set_slot.new.self }) c.args.steps.now (c.args.steps.now - 1)
+    c.in-Some.ensures refl refl (omega (arith, c.if-steps-eq0.false)) (ap (λ x. record (seen c.args.world.now) { store = x }) c.set_slot.ensures)

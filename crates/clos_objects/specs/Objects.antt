@@ -1,0 +1,107 @@
+-- What the parts of these protocols are told to do.
+use Rattle.std.specs.Prelude.{◌≡◌, ◌==◌, ℕ, drop, Bool, true, false, List, [], ◌∷◌, Option, Some, None, Result, Ok, Err, if◌then◌else◌}
+use Rattle.lisp_data.specs.Name.{Nam}
+use Rattle.lisp_data.specs.Value.{Val, instance}
+use Rattle.lisp_data.specs.ValueView.{value_of}
+use Rattle.lisp_data.specs.declared.ids.InstanceId.{InstanceId}
+use Rattle.clos_syntax.specs.declared.class.DefaultInitarg.{DefaultInitarg}
+use Rattle.clos_class.specs.declared.effective_slots.EffectiveSlot.{EffectiveSlot}
+use Rattle.clos_world.specs.World.{State}
+use Rattle.clos_world.specs.declared.condition.Condition.{Condition}
+use Rattle.clos_world.specs.declared.condition.Stop.{Stop}
+use Rattle.clos_world.specs.declared.condition.Stop.TheVariants.{Refused, Storage}
+use Rattle.clos_machine.specs.Filling.{Filler, Subject, fill, filled, filler, nothing, value, initform}
+use Rattle.clos_class.specs.Slots.{Effective}
+use Rattle.clos_forms.specs.Form.{Frm, nil}
+use Rattle.clos_machine.specs.Calls.{known}
+use Rattle.clos_machine.specs.Initialization.{default_given, is_given}
+use Rattle.clos_machine.specs.Outcome.{Gave, Run, Eval, then_do, stopped}
+use Rattle.clos_machine.specs.declared.machine.Frame.TheVariants.{Body}
+use Rattle.clos_machine.specs.declared.machine.Machine.{Machine}
+use Rattle.clos_machine.specs.declared.machine.Task.TheVariants.{Plain}
+use Rattle.clos_world.specs.declared.condition.ConditionKind.TheVariants.{ProgramError}
+use Rattle.clos_machine.specs.declared.arguments.Context.{Context}
+use Rattle.clos_objects.specs.declared.filling.Found.{Found}
+use Rattle.clos_objects.specs.declared.filling.Found.TheVariants as found
+
+-- ---- arguments by their number
+
+abbrev pub two_of : List Val → Option (Val × Val)
+two_of [] = None
+two_of (a ∷ []) = None
+two_of (a ∷ (b ∷ [])) = Some (a, b)
+two_of (a ∷ (b ∷ (c ∷ vs))) = None
+
+abbrev pub three_of : List Val → Option (Val × (Val × Val))
+three_of [] = None
+three_of (a ∷ []) = None
+three_of (a ∷ (b ∷ [])) = None
+three_of (a ∷ (b ∷ (c ∷ []))) = Some (a, (b, c))
+three_of (a ∷ (b ∷ (c ∷ (d ∷ vs)))) = None
+
+-- the instance and the slot that values designate, or why not
+abbrev pub DesignatesSlot : Result (ℕ × Nam) Condition → Result (InstanceId × Nam) Stop → Type 0
+DesignatesSlot d (Ok p) = d ≡ Ok (p.0.0, p.1)
+DesignatesSlot d (Err (Refused c)) = d ≡ Err c
+DesignatesSlot d (Err Storage) = Unit {0}
+
+-- ---- slots that are filled
+
+abbrev pub is_nothing : Filler → Bool
+is_nothing nothing = true
+is_nothing (value v) = false
+is_nothing (initform f) = false
+
+abbrev pub filler_of_form : Option Frm → Filler
+filler_of_form None = nothing
+filler_of_form (Some f) = initform f
+
+-- from the first on that is filled with something
+abbrev pub pending : State → Subject → List EffectiveSlot → List EffectiveSlot
+pending w f [] = []
+pending w f (slot ∷ slots) = if is_nothing (filler w f slot) then pending w f slots else slot ∷ slots
+
+abbrev pub filler_in : Found → Filler
+filler_in (found.Value v) = value (value_of v)
+filler_in (found.Initform f) = initform f
+
+abbrev pub filler_found : Option Found → Filler
+filler_found None = nothing
+filler_found (Some x) = filler_in x
+
+-- the first of these slots is filled with this
+abbrev pub Fills : State → Subject → List EffectiveSlot → Found → Type 0
+Fills w f [] x = ⊥
+Fills w f (slot ∷ slots) x = filler w f slot ≡ filler_in x
+
+-- the place of the next slot that is filled with something, and with what
+abbrev pub Finds : State → Subject → List EffectiveSlot → List EffectiveSlot → Option (ℕ × Found) → Type 0
+Finds w f all slots None = pending w f slots ≡ []
+Finds w f all slots (Some p) = (pending w f slots ≡ drop p.0 all) × Fills w f (drop p.0 all) p.1
+
+-- the first of these slots has this value, then the rest
+abbrev pub first_filled : Eval → Context → Subject → List EffectiveSlot → Val → Run
+first_filled ev env f [] v w s = Gave (instance f.instance) w s
+first_filled ev env f (slot ∷ slots) v w s = filled f slot (λ u k. fill ev env f slots u k) v w s
+
+-- ---- default initargs, from the first on that is not given
+
+abbrev pub ungiven : List Val → List DefaultInitarg → List DefaultInitarg
+ungiven vs [] = []
+ungiven vs (d ∷ ds) = if is_given vs d then ungiven vs ds else d ∷ ds
+
+-- the first of these is evaluated, whether it is given or not
+abbrev pub default_first : Eval → Context → ℕ → Effective → List DefaultInitarg → List Val → Run
+default_first ev env c e [] vs w s = stopped ProgramError [] w s
+default_first ev env c e (d ∷ ds) vs w s = then_do (ev env (Plain d.form) w s) (λ v. default_given ev env c e (d ∷ ds) vs v)
+
+-- ---- a body without variables
+
+-- the machine has no variables, and those from before come back
+abbrev pub Enters : Machine → Machine → Type 0
+Enters m n = n ≡ record { levels = (record { frame = Body nil m.context m.locals; room = m.room }) ∷ m.levels; context = known []; locals = []; room = m.room }
+
+-- this condition is told, unless memory ran out
+abbrev pub TellsInvalid : Condition → Stop → Type 0
+TellsInvalid d (Refused c) = c ≡ d
+TellsInvalid d Storage = Unit {0}

@@ -1,0 +1,336 @@
+//! The making of instances (HyperSpec 7.1.3, 7.1.7, 7.7 `make-instance`).
+ghost use Rattle.std.specs.Prelude.{◌≡◌, ℕ, ◌+◌, ◌≤◌, ◌<◌, ◌∷◌, [], true, OnOk, OnErr, IfOk, IfSome, MatchOption, drop, length, map, Some};
+ghost use Rattle.lisp_data.specs.ValueView.{value_of};
+ghost use Rattle.clos_store.specs.Store.{allocated, has_room, with_instance};
+ghost use Rattle.clos_world.specs.Class.{class_name, effective};
+ghost use Rattle.clos_world.specs.World.{State, seen};
+ghost use Rattle.clos_machine.specs.Initialization.{allocate, default_given, defaulted, initialized, instance_made, invalid_for, invalid_initarg, making_of};
+ghost use Rattle.clos_machine.specs.Machine.{Grows, Leads, Turns, at, inside};
+ghost use Rattle.clos_machine.specs.Meaning.{meaning};
+ghost use Rattle.clos_machine.specs.Outcome.{Run};
+ghost use Rattle.clos_objects.specs.Objects.{Enters, TellsInvalid, default_first, ungiven};
+
+use crate::classes::designate;
+use crate::initargs::{invalid_initarg, is_given};
+use clos_control::control::begin;
+use clos_forms::{Forms, value_named};
+use clos_machine::arguments::{Arguments, Context};
+use clos_machine::finalized::Finalized;
+use clos_machine::locals::Locals;
+use clos_machine::machine::{Action, Doing, Filling, Frame, Level, Machine, SystemCall, Task};
+use clos_machine::parameters::are_pairs;
+use clos_syntax::DefaultInitarg;
+use clos_world::{Condition, ConditionKind, Stop, Values, World, about, about_both, plain};
+use lisp_data::{ClassId, InstanceId, Value};
+use std::alloc::{AllocError, Global};
+use std::mem;
+
+/// A call of `make-instance`.
+pub fn make_instance(
+    alloc: Global,
+    machine: &mut Machine,
+    world: &mut World,
+    mut values: Values,
+    steps: &mut u64,
+) -> Result<Doing, Stop>
+    ensures turns { Turns (inside machine.old (instance_made (meaning machine.old.room) values)) (seen world.old) steps.old result machine.new (seen world.new) steps.new }
+    ensures small { Grows 6 machine.old.levels result machine.new }
+    ensures fewer { steps.new ≤ steps.old }
+{
+    match values.take_first() {
+        None => Err(Stop::Refused(plain(alloc, ConditionKind::ProgramError))),
+        Some(class) => make(alloc, machine, world, class, values, steps),
+    }
+}
+
+/// Makes an instance of the class that a value designates, with these initargs.
+fn make(
+    alloc: Global,
+    machine: &mut Machine,
+    world: &mut World,
+    class: Value,
+    initargs: Values,
+    steps: &mut u64,
+) -> Result<Doing, Stop>
+    ensures turns { Turns (inside machine.old (instance_made (meaning machine.old.room) (value_of class ∷ initargs))) (seen world.old) steps.old result machine.new (seen world.new) steps.new }
+    ensures small { Grows 6 machine.old.levels result machine.new }
+    ensures fewer { steps.new ≤ steps.old }
+{
+    if !are_pairs(initargs.as_slice()) {
+        drop(class);
+        return Err(Stop::Refused(plain(alloc, ConditionKind::ProgramError)));
+    }
+    match designate(alloc, world, class) {
+        Ok(class) => make_of(alloc, machine, world, class, initargs, steps),
+        Err(stop) => Err(stop),
+    }
+}
+
+fn make_of(
+    alloc: Global,
+    machine: &mut Machine,
+    world: &mut World,
+    class: ClassId,
+    initargs: Values,
+    steps: &mut u64,
+) -> Result<Doing, Stop>
+    ensures turns { Turns (inside machine.old (λ w. making_of (meaning machine.old.room) initargs class.0 (effective w.classes class.0) w)) (seen world.old) steps.old result machine.new (seen world.new) steps.new }
+    ensures small { Grows 6 machine.old.levels result machine.new }
+    ensures fewer { steps.new ≤ steps.old }
+{
+    match Finalized::find(world, class)? {
+        None => Err(Stop::Refused(plain(alloc, ConditionKind::ProgramError))),
+        Some(effective) => make_within(alloc, machine, world, class, effective, initargs, steps),
+    }
+}
+
+/// The machine has no variables and no arguments for the forms that follow; those from before come back after them.
+fn enter(alloc: Global, machine: &mut Machine) -> Result<(), AllocError>
+    ensures { IfOk result (λ u. Enters machine.old machine.new) }
+{
+    let arguments = Arguments::new(alloc, Values::new(alloc))?;
+    let saved = mem::replace(&mut machine.context, Context { arguments });
+    let outer = mem::replace(&mut machine.locals, Locals::new(alloc));
+    let frame = Frame::Body(Forms::new(), saved, outer);
+    let room = machine.room;
+    machine.levels.push(Level { frame, room })
+}
+
+fn make_within(
+    alloc: Global,
+    machine: &mut Machine,
+    world: &mut World,
+    class: ClassId,
+    effective: Finalized,
+    initargs: Values,
+    steps: &mut u64,
+) -> Result<Doing, Stop>
+    ensures turns { Turns (inside machine.old (making_of (meaning machine.old.room) initargs class.0 (Some effective))) (seen world.old) steps.old result machine.new (seen world.new) steps.new }
+    ensures small { Grows 6 machine.old.levels result machine.new }
+    ensures fewer { steps.new ≤ steps.old }
+{
+    enter(alloc, machine)?;
+    match next_ungiven(&effective, 0, initargs.as_slice()) {
+        None => allocate(alloc, machine, world, class, effective, initargs, steps),
+        Some(place) => evaluate_default(machine, class, effective, place, initargs),
+    }
+}
+
+/// The place of the first default initarg from this one on that is not given.
+fn next_ungiven(effective: &Finalized, from: usize, initargs: &[Value]) -> Option<usize>
+    ensures value { MatchOption result (ungiven (map value_of initargs.now) (drop from effective.now.defaults) ≡ [])
+        (λ p. ungiven (map value_of initargs.now) (drop from effective.now.defaults) ≡ drop p effective.now.defaults) }
+    ensures within { IfSome result (λ p. p < length effective.now.defaults) }
+{
+    let defaults = effective.defaults();
+    let mut place = from;
+    while place < defaults.len() {
+        if !is_given(initargs, &defaults[place]) {
+            return Some(place);
+        }
+        place += 1;
+    }
+    None
+}
+
+/// The default initarg at this place is evaluated.
+fn evaluate_default(
+    machine: &mut Machine,
+    class: ClassId,
+    effective: Finalized,
+    place: usize,
+    initargs: Values,
+) -> Result<Doing, Stop>
+    requires { place < length effective.defaults }
+    ensures leads { (run : Run) (w : State)
+        → ((t : ℕ) → default_first (meaning machine.old.room) machine.old.context class.0 effective (drop place effective.defaults) initargs (at machine.old w) t ≡ run (at machine.old w) t)
+        → Leads (inside machine.old run) w result machine.new }
+    ensures small { Grows 5 machine.old.levels result machine.new }
+{
+    let form = effective.defaults()[place].form.copy()?;
+    begin(
+        machine,
+        Task::Plain(form),
+        Frame::Default(class, effective, place, initargs),
+    )
+}
+
+/// The value of a default initarg is there: it follows the others with its name.
+pub fn next_default(
+    alloc: Global,
+    machine: &mut Machine,
+    class: ClassId,
+    effective: Finalized,
+    place: usize,
+    mut initargs: Values,
+    value: Value,
+) -> Result<Doing, Stop>
+    ensures leads { (w : State) → Leads (inside machine.old (default_given (meaning machine.old.room) machine.old.context class.0 effective (drop place effective.defaults) initargs (value_of value))) w result machine.new }
+    ensures small { Grows 8 machine.old.levels result machine.new }
+{
+    let Some((default, next)) = default_at(&effective, place) else {
+        drop(value);
+        return Err(Stop::Refused(plain(alloc, ConditionKind::ProgramError)));
+    };
+    let Ok(name) = value_named(&default.name) else {
+        drop(value);
+        return Err(Stop::Storage);
+    };
+    let Ok(()) = initargs.push(name) else {
+        drop(value);
+        return Err(Stop::Storage);
+    };
+    initargs.push(value)?;
+    go_on(machine, class, effective, next, initargs)
+}
+
+/// The default initarg at this place, and the next place.
+fn default_at(effective: &Finalized, place: usize) -> Option<(&DefaultInitarg, usize)>
+    ensures { MatchOption result (drop place effective.now.defaults ≡ []) (λ p. drop place effective.now.defaults ≡ p.0.now ∷ drop p.1 effective.now.defaults) }
+{
+    let defaults = effective.defaults();
+    if place >= defaults.len() {
+        return None;
+    }
+    Some((&defaults[place], place + 1))
+}
+
+/// The next default initarg from this place on is evaluated, or the instance is allocated.
+fn go_on(
+    machine: &mut Machine,
+    class: ClassId,
+    effective: Finalized,
+    from: usize,
+    initargs: Values,
+) -> Result<Doing, Stop>
+    ensures leads { (w : State) → Leads (inside machine.old (defaulted (meaning machine.old.room) machine.old.context class.0 effective (drop from effective.defaults) initargs)) w result machine.new }
+    ensures small { Grows 8 machine.old.levels result machine.new }
+{
+    match next_ungiven(&effective, from, initargs.as_slice()) {
+        None => Ok(Doing::Act(Action::Allocate(class, effective), initargs)),
+        Some(place) => evaluate_default(machine, class, effective, place, initargs),
+    }
+}
+
+/// An instance is made, in one step, and then initialized.
+pub fn allocate(
+    alloc: Global,
+    machine: &mut Machine,
+    world: &mut World,
+    class: ClassId,
+    effective: Finalized,
+    initargs: Values,
+    steps: &mut u64,
+) -> Result<Doing, Stop>
+    ensures turns { Turns (inside machine.old (allocate (meaning machine.old.room) machine.old.context class.0 effective initargs)) (seen world.old) steps.old result machine.new (seen world.new) steps.new }
+    ensures small { Grows 2 machine.old.levels result machine.new }
+    ensures fewer { steps.new ≤ steps.old }
+{
+    let Some(id) = world.store.next_instance() else {
+        return Err(Stop::Refused(plain(alloc, ConditionKind::TableLimit)));
+    };
+    if *steps == 0 {
+        return Err(Stop::Refused(plain(alloc, ConditionKind::StepLimit)));
+    }
+    match initialize(alloc, machine, world, class, &effective, initargs, id) {
+        Err(Stop::Storage) => Err(Stop::Storage),
+        Err(Stop::Refused(condition)) => {
+            let Ok(()) = add_instance(alloc, world, class, &effective, steps) else {
+                drop(condition);
+                return Err(Stop::Storage);
+            };
+            Err(Stop::Refused(condition))
+        }
+        Ok(doing) => {
+            let Ok(()) = add_instance(alloc, world, class, &effective, steps) else {
+                drop(doing);
+                return Err(Stop::Storage);
+            };
+            Ok(doing)
+        }
+    }
+}
+
+/// The instance is made, in one step.
+fn add_instance(
+    alloc: Global,
+    world: &mut World,
+    class: ClassId,
+    effective: &Finalized,
+    steps: &mut u64,
+) -> Result<(), AllocError>
+    requires room { has_room (seen world.old).store ≡ true }
+    requires step { 0 < steps.old }
+    ensures ok { OnOk result ((steps.old ≡ 1 + steps.new) × (seen world.new ≡ record (seen world.old) { store = with_instance (allocated class.0 effective.now.layout) (seen world.old).store })) }
+    ensures err { OnErr result ((seen world.new ≡ seen world.old) × (steps.new ≡ steps.old)) }
+{
+    let Ok(_) = world.store.allocate(alloc, class, effective.layout()) else {
+        return Err(AllocError);
+    };
+    *steps -= 1;
+    Ok(())
+}
+
+/// The instance of this number, which is about to be made, is initialized, or an initarg is not valid.
+fn initialize(
+    alloc: Global,
+    machine: &mut Machine,
+    world: &World,
+    class: ClassId,
+    effective: &Finalized,
+    initargs: Values,
+    id: InstanceId,
+) -> Result<Doing, Stop>
+    ensures leads { (run : Run) (w : State) → w.classes ≡ (seen world.now).classes
+        → ((t : ℕ) → initialized (meaning machine.old.room) machine.old.context class.0 effective.now initargs id.0 (invalid_initarg effective.now.slots initargs) (at machine.old w) t ≡ run (at machine.old w) t)
+        → Leads (inside machine.old run) w result machine.new }
+    ensures small { Grows 2 machine.old.levels result machine.new }
+{
+    if let Some(name) = invalid_initarg(effective.slots(), initargs.as_slice()) {
+        return Err(refuse(alloc, world, class, name));
+    }
+    let filling = Filling {
+        instance: id,
+        class,
+        initargs: Arguments::new(alloc, initargs)?,
+        effective: effective.copy()?,
+        place: 0,
+    };
+    let next = Task::System(SystemCall::Initialize(filling));
+    begin(
+        machine,
+        next,
+        Frame::Keep(Forms::new(), Value::Instance(id)),
+    )
+}
+
+/// Why no instance of a class is initialized with this initarg.
+fn refuse(alloc: Global, world: &World, class: ClassId, name: &Value) -> Stop
+    ensures { TellsInvalid (invalid_for (value_of name.now) (class_name (seen world.now).classes class.0)) result }
+{
+    match invalid(alloc, world, class, name) {
+        Ok(condition) => Stop::Refused(condition),
+        Err(_) => Stop::Storage,
+    }
+}
+
+fn invalid(
+    alloc: Global,
+    world: &World,
+    class: ClassId,
+    name: &Value,
+) -> Result<Condition, AllocError>
+    ensures { IfOk result (λ c. c ≡ invalid_for (value_of name.now) (class_name (seen world.now).classes class.0)) }
+{
+    let name = name.copy()?;
+    match world.classes.name(class) {
+        None => about(alloc, ConditionKind::InvalidInitarg, name),
+        Some(class) => {
+            let Ok(class) = value_named(class) else {
+                drop(name);
+                return Err(AllocError);
+            };
+            about_both(alloc, ConditionKind::InvalidInitarg, name, class)
+        }
+    }
+}

@@ -1,0 +1,203 @@
+//! The slots of instances by their names (HyperSpec 7.5.2, 7.7 `slot-value`, `slot-boundp`, `slot-makunbound`,
+//! `slot-exists-p`).
+ghost use Rattle.std.specs.Prelude.{◌≡◌, ℕ, ◌≤◌, ◌∷◌, [], Option, option_map, map};
+ghost use Rattle.lisp_data.specs.Value.{instance};
+ghost use Rattle.lisp_data.specs.ValueView.{value_of};
+ghost use Rattle.lisp_prims.specs.Primitive.{truth};
+ghost use Rattle.clos_store.specs.Store.{slot_found};
+ghost use Rattle.clos_world.specs.World.{State, class_of_instance, seen};
+ghost use Rattle.clos_machine.specs.Machine.{Grows, Leads, Turns, at, inside};
+ghost use Rattle.clos_machine.specs.Meaning.{meaning};
+ghost use Rattle.clos_machine.specs.Outcome.{Gave, Run};
+ghost use Rattle.clos_machine.specs.Slots.{has_slot, slot_answer, slot_called, slot_changed, slot_designated, slot_read, slot_set, slot_tested};
+ghost use Rattle.clos_objects.specs.Objects.{DesignatesSlot, three_of, two_of};
+
+use crate::class_functions::{symbol_in, truth, wrong_type};
+use clos_control::control::turn_to;
+use clos_machine::callee::SlotFunction;
+use clos_machine::machine::{Doing, Machine, SystemCall, Task};
+use clos_world::{ConditionKind, Stop, Values, World, plain};
+use lisp_data::{InstanceId, Name, Value};
+use std::alloc::Global;
+
+/// The values, where they are two.
+fn two(values: &[Value]) -> Option<(&Value, &Value)>
+    ensures { option_map (λ p. (value_of p.0.now, value_of p.1.now)) result ≡ two_of (map value_of values.now) }
+{
+    match values {
+        [first, second] => Some((first, second)),
+        _ => None,
+    }
+}
+
+/// The values, where they are three.
+fn three(values: &[Value]) -> Option<(&Value, &Value, &Value)>
+    ensures { option_map (λ p. (value_of p.0.now, (value_of p.1.now, value_of p.2.now))) result ≡ three_of (map value_of values.now) }
+{
+    match values {
+        [first, second, third] => Some((first, second, third)),
+        _ => None,
+    }
+}
+
+/// The instance and the name of a slot that two values are.
+fn designate(alloc: Global, object: &Value, name: &Value) -> Result<(InstanceId, Name), Stop>
+    ensures { DesignatesSlot (slot_designated (value_of object.now) (value_of name.now)) result }
+{
+    match object {
+        Value::Instance(id) => match symbol_in(name)? {
+            None => Err(Stop::Refused(wrong_type(alloc, name)?)),
+            Some(symbol) => Ok((*id, symbol)),
+        },
+        _ => Err(Stop::Refused(wrong_type(alloc, object)?)),
+    }
+}
+
+/// A call of a function of slots.
+pub fn call_slot_function(
+    alloc: Global,
+    machine: &mut Machine,
+    world: &mut World,
+    function: SlotFunction,
+    values: &Values,
+    steps: &mut u64,
+) -> Result<Doing, Stop>
+    ensures turns { Turns (inside machine.old (slot_called (meaning machine.old.room) machine.old.context function values.now)) (seen world.old) steps.old result machine.new (seen world.new) steps.new }
+    ensures small { Grows 6 machine.old.levels result machine.new }
+    ensures fewer { steps.new ≤ steps.old }
+{
+    match two(values.as_slice()) {
+        None => Err(Stop::Refused(plain(alloc, ConditionKind::ProgramError))),
+        Some((object, name)) => match designate(alloc, object, name) {
+            Ok((id, name)) => answer(alloc, machine, world, function, id, name, steps),
+            Err(stop) => Err(stop),
+        },
+    }
+}
+
+#[tactic(auto, using(clos_machine::proofs::Running::turns_of_leads))]
+fn answer(
+    alloc: Global,
+    machine: &mut Machine,
+    world: &mut World,
+    function: SlotFunction,
+    id: InstanceId,
+    name: Name,
+    steps: &mut u64,
+) -> Result<Doing, Stop>
+    ensures turns { Turns (inside machine.old (slot_answer (meaning machine.old.room) machine.old.context function id.0 name)) (seen world.old) steps.old result machine.new (seen world.new) steps.new }
+    ensures small { Grows 6 machine.old.levels result machine.new }
+    ensures fewer { steps.new ≤ steps.old }
+{
+    match function {
+        SlotFunction::SlotValue => read(machine, world, id, name),
+        SlotFunction::SlotBoundp => test(machine, world, id, name),
+        SlotFunction::SlotMakunbound => {
+            change(
+                alloc,
+                machine,
+                world,
+                id,
+                name,
+                None,
+                Value::Instance(id),
+                steps,
+            )
+        }
+        SlotFunction::SlotExistsP => Ok(exists(machine, world, id, &name)),
+    }
+}
+
+/// The value of a slot, or what is called in its place.
+fn read(machine: &Machine, world: &World, id: InstanceId, name: Name) -> Result<Doing, Stop>
+    ensures leads { Leads (inside machine.now (λ w. slot_read (meaning machine.now.room) machine.now.context id.0 name (slot_found w.store id.0 name) w)) (seen world.now) result machine.now }
+    ensures small { Grows 6 machine.now.levels result machine.now }
+{
+    match world.store.slot(id, &name) {
+        None => Ok(turn_to(machine, Task::System(SystemCall::SignalMissing(name, id)))),
+        Some(slot) => match slot.value() {
+            None => Ok(turn_to(machine, Task::System(SystemCall::SignalUnbound(name, id)))),
+            Some(value) => Ok(Doing::Give(value.copy()?)),
+        },
+    }
+}
+
+/// Whether a slot has a value.
+fn test(machine: &Machine, world: &World, id: InstanceId, name: Name) -> Result<Doing, Stop>
+    ensures leads { Leads (inside machine.now (λ w. slot_tested (meaning machine.now.room) machine.now.context id.0 name (slot_found w.store id.0 name) w)) (seen world.now) result machine.now }
+    ensures small { Grows 6 machine.now.levels result machine.now }
+{
+    match world.store.slot(id, &name) {
+        None => Ok(turn_to(machine, Task::System(SystemCall::SignalMissing(name, id)))),
+        Some(slot) => Ok(Doing::Give(truth(slot.value().is_some()))),
+    }
+}
+
+/// Whether the class of an instance has such a slot.
+fn exists(machine: &Machine, world: &World, id: InstanceId, name: &Name) -> Doing
+    ensures leads { Leads (inside machine.now (λ w s. Gave (truth (has_slot w.classes (class_of_instance w id.0) name.now)) w s)) (seen world.now) (Ok result) machine.now }
+    ensures small { Grows 6 machine.now.levels (Ok result) machine.now }
+{
+    let _ = machine;
+    Doing::Give(truth(has_slot(world, id, name)))
+}
+
+fn has_slot(world: &World, id: InstanceId, name: &Name) -> bool
+    ensures { result ≡ has_slot (seen world.now).classes (class_of_instance (seen world.now) id.0) name.now }
+{
+    match world.store.class_of(id) {
+        None => false,
+        Some(class) => world.classes.slot(class, name).is_some(),
+    }
+}
+
+/// A slot gets this value, or none, which takes a step; then this other one is given.
+fn change(
+    alloc: Global,
+    machine: &Machine,
+    world: &mut World,
+    id: InstanceId,
+    name: Name,
+    value: Option<Value>,
+    given: Value,
+    steps: &mut u64,
+) -> Result<Doing, Stop>
+    ensures turns { Turns (inside machine.now (λ w. slot_changed (meaning machine.now.room) machine.now.context id.0 name (option_map value_of value) (value_of given) (slot_found w.store id.0 name) w)) (seen world.old) steps.old result machine.now (seen world.new) steps.new }
+    ensures small { Grows 6 machine.now.levels result machine.now }
+    ensures fewer { steps.new ≤ steps.old }
+{
+    if world.store.slot(id, &name).is_none() {
+        return Ok(turn_to(machine, Task::System(SystemCall::SignalMissing(name, id))));
+    }
+    if *steps == 0 {
+        return Err(Stop::Refused(plain(alloc, ConditionKind::StepLimit)));
+    }
+    world.store.set_slot(id, &name, value);
+    *steps -= 1;
+    Ok(Doing::Give(given))
+}
+
+/// A slot as a place gets a value: an instance, a name and the value are there.
+pub fn set_slot_value(
+    alloc: Global,
+    machine: &Machine,
+    world: &mut World,
+    values: &Values,
+    steps: &mut u64,
+) -> Result<Doing, Stop>
+    ensures turns { Turns (inside machine.now (slot_set (meaning machine.now.room) machine.now.context values.now)) (seen world.old) steps.old result machine.now (seen world.new) steps.new }
+    ensures small { Grows 6 machine.now.levels result machine.now }
+    ensures fewer { steps.new ≤ steps.old }
+{
+    match three(values.as_slice()) {
+        None => Err(Stop::Refused(plain(alloc, ConditionKind::ProgramError))),
+        Some((object, name, value)) => match designate(alloc, object, name) {
+            Ok((id, name)) => {
+                let stored = value.copy()?;
+                let given = value.copy()?;
+                change(alloc, machine, world, id, name, Some(stored), given, steps)
+            }
+            Err(stop) => Err(stop),
+        },
+    }
+}
