@@ -22,11 +22,4 @@ pub const SCRIPT: &str = r#"
 (progn (princ "then ") (speak 5 "loud"))
 (progn (print '(quote "quoted")) (car (undefined (princ 1))))
 (multiple-value-prog1 (scaled 4 'from 6) (setq *cells* (scaled (reverse '("a" 2)))))
-(defclass point () ((x :initarg :x :initform (list 0 "x")) (y :initarg :y) place) (:default-initargs :y (list 1 2)))
-(defclass marked (point) ((mark :initarg :mark :initform (add 1)) (x :initarg :ex)))
-(defvar *point* (make-instance 'marked :ex (list 3)))
-(list (slot-value *point* 'x) (slot-value *point* 'y) (slot-boundp *point* 'place) (slot-exists-p *point* 'mark))
-(progn (setf (slot-value *point* 'place) (list 'at "place")) (setf (slot-value *point* 'x) 4) (incf (slot-value *point* 'x) 5))
-(list (slot-value (slot-makunbound *point* 'y) 'mark) (slot-value *point* 'z))
-(make-instance 'point :x "then " :y 1 :z (princ 2))
 "#;
