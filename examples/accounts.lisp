@@ -1,42 +1,42 @@
-; Accounts: slots with initargs, initforms and defaults, and methods that change them.
+; Accounts: slots with initargs, initforms, defaults and accessors, and methods that change them.
 
 (defclass account ()
-  ((owner :initarg :owner)
-   (balance :initarg :balance :initform 0)
-   (history :initform '()))
+  ((owner :initarg :owner :reader owner)
+   (balance :initarg :balance :initform 0 :accessor balance)
+   (history :initform '() :accessor history))
   (:default-initargs :owner "nobody"))
 
 ; A savings account has what an account has, and a rate; it begins with 10.
 (defclass savings (account)
-  ((rate :initarg :rate :initform 2)
+  ((rate :initarg :rate :initform 2 :reader rate)
    (balance :initform 10)))
 
 (defmethod note ((a account) entry)
-  (setf (slot-value a 'history) (cons entry (slot-value a 'history))))
+  (setf (history a) (cons entry (history a))))
 
 (defmethod deposit ((a account) amount)
   (note a (list 'in amount))
-  (incf (slot-value a 'balance) amount))
+  (incf (balance a) amount))
 
 (defmethod withdraw ((a account) amount)
-  (if (> amount (slot-value a 'balance))
+  (if (> amount (balance a))
       'refused
       (progn
         (note a (list 'out amount))
-        (decf (slot-value a 'balance) amount))))
+        (decf (balance a) amount))))
 
 (defmethod end-year ((a account))
   'nothing)
 
 (defmethod end-year ((a savings))
-  (deposit a (floor (* (slot-value a 'balance) (slot-value a 'rate)) 100)))
+  (deposit a (floor (* (balance a) (rate a)) 100)))
 
 (defun report (a)
-  (princ (slot-value a 'owner))
+  (princ (owner a))
   (princ " has ")
-  (princ (slot-value a 'balance))
+  (princ (balance a))
   (princ ", after ")
-  (princ (reverse (slot-value a 'history)))
+  (princ (reverse (history a)))
   (terpri))
 
 (defvar *ada* (make-instance 'account :owner "Ada" :balance 100))
@@ -55,6 +55,7 @@
 ; What an account does not know
 (princ (list (slot-exists-p *ada* 'rate) (slot-exists-p *bob* 'rate)))
 (slot-value *ada* 'rate)
+(rate *ada*)
 (slot-makunbound *ada* 'owner)
 (report *ada*)
 (make-instance 'account :name "Eve")

@@ -1,6 +1,9 @@
 //! Predefined classes by their numbers: those that values are of, and those that code names (HyperSpec 4.3.7).
 use lisp_data::ClassId;
 
+/// The class that all others are below.
+pub const T: ClassId = ClassId(0);
+
 /// The class that all classes made by programs are below.
 pub const STANDARD_OBJECT: ClassId = ClassId(1);
 

@@ -26,3 +26,8 @@ module _ (s s' : ℕ) (old : List Level) (m : Machine) where
   pub grows_14 : (r : Result Doing Stop) → Grows 14 old r m → s' ≤ s → Shrinks 15 s s' old r m
   grows_14 (Ok d) g h = omega (arith, g, h)
   grows_14 (Err e) g h = tt
+
+-- what adds little adds no more than something larger
+pub grows_6_9 : (old : List Level) (r : Result Doing Stop) (m : Machine) → Grows 6 old r m → Grows 9 old r m
+grows_6_9 old (Ok d) m h = omega (arith, h)
+grows_6_9 old (Err e) m h = tt

@@ -6,10 +6,11 @@ ghost use Rattle.lisp_data.specs.ValueView.{value_of};
 ghost use Rattle.lisp_prims.specs.Primitive.{answer};
 ghost use Rattle.clos_forms.specs.OperatorView.{called_of};
 ghost use Rattle.clos_forms.specs.Quotation.{name_value};
+ghost use Rattle.clos_world.specs.FunctionName.{setter_value};
 ghost use Rattle.clos_world.specs.Functions.{function_in};
 ghost use Rattle.clos_world.specs.Generic.{function_named, ordered};
 ghost use Rattle.clos_world.specs.World.{State, seen, bound_as, lists_of};
-ghost use Rattle.clos_machine.specs.Calls.{known, restoring, scoped, parameters_run, body_run, applied_to, called_defined, dispatched, called_generic, called_function, method_run, combined, system, called_setter, setter_value};
+ghost use Rattle.clos_machine.specs.Calls.{known, restoring, scoped, parameters_run, body_run, applied_to, called_defined, dispatched, called_generic, called_function, method_run, method_body_run, none_applicable, combined, system, called_setter};
 ghost use Rattle.clos_machine.specs.Control.{sequence};
 ghost use Rattle.clos_machine.specs.Fault.{answered};
 ghost use Rattle.clos_machine.specs.Functions.{place_set};
@@ -30,11 +31,12 @@ use clos_machine::locals::{Locals, bind, settle};
 use clos_machine::machine::{Action, Doing, Frame, Level, Machine, SystemCall, Target, Task};
 use clos_machine::parameters::{ParameterPlan, fits, plan_for, requires_only};
 use clos_machine::truth::nil;
+use clos_objects::slots::call_reader;
 use clos_world::{
-    ConditionKind, Function, Generic, Method, PrecedenceLists, Stop, Values, World, about,
-    about_both, about_call, about_name, method_numbered, ordered_methods, plain,
+    ConditionKind, Function, Generic, MethodBody, PrecedenceLists, Stop, Values, World, about,
+    about_both, about_call, about_name, method_numbered, ordered_methods, plain, setter_value,
 };
-use lisp_data::{Items, MethodId, Name, Value};
+use lisp_data::{GenericId, MethodId, Name, Value};
 use lisp_prims::Primitive;
 use std::alloc::{AllocError, Global};
 use std::mem;
@@ -128,10 +130,25 @@ pub fn call(
 {
     match world.generics.named(name) {
         None => call_named(alloc, machine, world, name, values),
-        Some(id) => match world.generics.get(id) {
-            None => Err(Stop::Refused(plain(alloc, ConditionKind::ProgramError))),
-            Some(generic) => call_generic(alloc, machine, world, generic, values),
-        },
+        Some(id) => call_numbered(alloc, machine, world, id, values),
+    }
+}
+
+/// A call of the generic function of this number.
+#[tactic(auto, using(clos_machine::proofs::Turns::stopped_through))]
+fn call_numbered(
+    alloc: Global,
+    machine: &mut Machine,
+    world: &World,
+    id: GenericId,
+    values: Values,
+) -> Result<Doing, Stop>
+    ensures leads { Leads (inside machine.old (λ w. called_generic (meaning machine.old.room) values id.0 (slice_get w.generics id.0) w)) (seen world.now) result machine.new }
+    ensures small { Grows 6 machine.old.levels result machine.new }
+{
+    match world.generics.get(id) {
+        None => Err(Stop::Refused(plain(alloc, ConditionKind::ProgramError))),
+        Some(generic) => call_generic(alloc, machine, world, id, generic, values),
     }
 }
 
@@ -168,29 +185,32 @@ pub fn call_setter(
     ensures leads { Leads (inside machine.old (called_setter (meaning machine.old.room) name.now values)) (seen world.now) result machine.new }
     ensures small { Grows 6 machine.old.levels result machine.new }
 {
+    values.put_last_first()?;
+    match world.generics.setter(name) {
+        None => call_set_function(alloc, machine, world, name, values),
+        Some(id) => call_numbered(alloc, machine, world, id, values),
+    }
+}
+
+/// A call of the function that a `defun` gave the name `(setf name)`.
+#[tactic(auto, using(clos_machine::proofs::Turns::stopped_through))]
+fn call_set_function(
+    alloc: Global,
+    machine: &mut Machine,
+    world: &World,
+    name: &Name,
+    values: Values,
+) -> Result<Doing, Stop>
+    ensures leads { Leads (inside machine.old (λ w. called_defined (meaning machine.old.room) values (setter_value name.now) (function_in w.setters name.now) w)) (seen world.now) result machine.new }
+    ensures small { Grows 6 machine.old.levels result machine.new }
+{
     match world.setters.get(name) {
         None => {
             let kind = ConditionKind::UndefinedFunction;
             Err(Stop::Refused(about(alloc, kind, setter_value(alloc, name)?)?))
         }
-        Some(function) => {
-            values.put_last_first()?;
-            call_function(alloc, machine, world, function, values)
-        }
+        Some(function) => call_function(alloc, machine, world, function, values),
     }
-}
-
-/// The list of SETF and this name.
-pub fn setter_value(alloc: Global, name: &Name) -> Result<Value, AllocError>
-    ensures { IfOk result (λ r. value_of r ≡ setter_value name.now) }
-{
-    let Ok(names) = Items::cons(alloc, value_named(name)?, Items::new()) else {
-        return Err(AllocError);
-    };
-    let Ok(names) = Items::cons(alloc, value_named(&Name::fixed(&"SETF"))?, names) else {
-        return Err(AllocError);
-    };
-    Ok(Value::List(names))
 }
 
 /// A call of a function of the program's.
@@ -302,16 +322,17 @@ fn call_generic(
     alloc: Global,
     machine: &mut Machine,
     world: &World,
+    id: GenericId,
     generic: &Generic,
     values: Values,
 ) -> Result<Doing, Stop>
-    ensures leads { Leads (inside machine.old (called_generic (meaning machine.old.room) values (Some generic.now))) (seen world.now) result machine.new }
+    ensures leads { Leads (inside machine.old (called_generic (meaning machine.old.room) values id.0 (Some generic.now))) (seen world.now) result machine.new }
     ensures small { Grows 6 machine.old.levels result machine.new }
 {
     if values.len() as u64 != generic.required {
         return Err(Stop::Refused(plain(alloc, ConditionKind::ProgramError)));
     }
-    call_applicable(alloc, machine, world, generic, values)
+    call_applicable(alloc, machine, world, id, generic, values)
 }
 
 /// The applicable methods of a generic function are called, or no-applicable-method.
@@ -319,16 +340,17 @@ fn call_applicable(
     alloc: Global,
     machine: &mut Machine,
     world: &World,
+    id: GenericId,
     generic: &Generic,
     values: Values,
 ) -> Result<Doing, Stop>
     ensures leads { (run : Run)
-        → ((t : ℕ) → meaning machine.old.room (known values) (dispatched generic.now.name values (ordered (seen world.now).methods (lists_of (seen world.now) values) generic.now.methods)) (at machine.old (seen world.now)) t ≡ run (at machine.old (seen world.now)) t)
+        → ((t : ℕ) → meaning machine.old.room (known values) (dispatched id.0 values (ordered (seen world.now).methods (lists_of (seen world.now) values) generic.now.methods)) (at machine.old (seen world.now)) t ≡ run (at machine.old (seen world.now)) t)
         → Leads (inside machine.old run) (seen world.now) result machine.new }
     ensures small { Grows 6 machine.old.levels result machine.new }
 {
     let arguments = Arguments::new(alloc, values)?;
-    let next = dispatch(alloc, world, generic, &arguments)?;
+    let next = dispatch(alloc, world, id, generic, &arguments)?;
     let context = Context { arguments };
     enter_effect(machine, context, next)
 }
@@ -337,17 +359,17 @@ fn call_applicable(
 fn dispatch(
     alloc: Global,
     world: &World,
+    id: GenericId,
     generic: &Generic,
     arguments: &Arguments,
 ) -> Result<Task, AllocError>
-    ensures { IfOk result (λ r. r ≡ dispatched generic.now.name arguments.now (ordered (seen world.now).methods (lists_of (seen world.now) arguments.now) generic.now.methods)) }
+    ensures { IfOk result (λ r. r ≡ dispatched id.0 arguments.now (ordered (seen world.now).methods (lists_of (seen world.now) arguments.now) generic.now.methods)) }
 {
     let lists = PrecedenceLists::new(world, arguments.as_slice());
     let mut order = ordered_methods(alloc, &world.methods, &lists, &generic.methods)?;
     if order.len() == 0 {
-        let name = generic.name.copy()?;
         let arguments = arguments.copy()?;
-        return Ok(Task::System(SystemCall::SignalNoApplicable(name, arguments)));
+        return Ok(Task::System(SystemCall::SignalNoApplicable(id, arguments)));
     }
     let method = order.get(0);
     order.remove(0);
@@ -381,7 +403,7 @@ pub fn start_effective(
     form: &EffectiveForm,
 ) -> Result<Doing, Stop>
     ensures leads { Leads (inside machine.old (combined (meaning machine.old.room) machine.old.context form.now)) (seen world.now) result machine.new }
-    ensures small { Grows 6 machine.old.levels result machine.new }
+    ensures small { Grows 9 machine.old.levels result machine.new }
 {
     match form.node() {
         EffectiveNode::CallMethod(method, _next) => run_method(alloc, machine, world, *method),
@@ -404,21 +426,50 @@ fn run_method(
     world: &World,
     id: MethodId,
 ) -> Result<Doing, Stop>
-    ensures leads { Leads (inside machine.old (method_run (meaning machine.old.room) machine.old.context.arguments (slice_get (seen world.now).methods id.0))) (seen world.now) result machine.new }
-    ensures small { Grows 6 machine.old.levels result machine.new }
+    ensures leads { Leads (inside machine.old (method_run (meaning machine.old.room) machine.old.context (slice_get (seen world.now).methods id.0))) (seen world.now) result machine.new }
+    ensures small { Grows 9 machine.old.levels result machine.new }
 {
     match method_numbered(&world.methods, id) {
         None => Err(Stop::Refused(plain(alloc, ConditionKind::ProgramError))),
-        Some(method) => {
+        Some(method) => run_method_body(alloc, machine, world, &method.body),
+    }
+}
+
+/// A method's body does what it does with the arguments of the effective form.
+#[tactic(auto, using(crate::proofs::Shrinking::grows_6_9))]
+fn run_method_body(
+    alloc: Global,
+    machine: &mut Machine,
+    world: &World,
+    body: &MethodBody,
+) -> Result<Doing, Stop>
+    ensures leads { Leads (inside machine.old (method_body_run (meaning machine.old.room) machine.old.context body.now)) (seen world.now) result machine.new }
+    ensures small { Grows 9 machine.old.levels result machine.new }
+{
+    match body {
+        MethodBody::Forms(parameters, forms) => {
             let arguments = machine.context.arguments.copy()?;
             run_body(
                 alloc,
                 machine,
                 world,
                 arguments,
-                method.parameters.as_slice(),
-                &method.body,
+                parameters.as_slice(),
+                forms,
             )
+        }
+        MethodBody::Reader(slot) => {
+            call_reader(
+                alloc,
+                machine,
+                world,
+                slot,
+                machine.context.arguments.as_slice(),
+            )
+        }
+        MethodBody::Writer(slot) => {
+            let values = machine.context.arguments.to_values(alloc)?;
+            Ok(Doing::Act(Action::Write(slot.copy()?), values))
         }
     }
 }
@@ -518,8 +569,31 @@ pub fn next_of_body(
     }
 }
 
+/// A generic function has no method for these arguments.
+#[tactic(auto, using(clos_machine::proofs::Turns::stopped_through))]
+fn signal_none_applicable(
+    alloc: Global,
+    machine: &Machine,
+    world: &World,
+    id: GenericId,
+    arguments: &Arguments,
+) -> Result<Doing, Stop>
+    ensures leads { Leads (inside machine.now (λ w. none_applicable arguments.now (slice_get w.generics id.0) w)) (seen world.now) result machine.now }
+    ensures small { Grows 6 machine.now.levels result machine.now }
+{
+    let _ = machine;
+    match world.generics.get(id) {
+        None => Err(Stop::Refused(plain(alloc, ConditionKind::ProgramError))),
+        Some(generic) => {
+            let kind = ConditionKind::NoApplicableMethod;
+            let condition = about_call(alloc, kind, &generic.name, arguments.as_slice())?;
+            Err(Stop::Refused(condition))
+        }
+    }
+}
+
 /// The effective form of a system generic function begins.
-#[tactic(auto, using(clos_machine::proofs::Turns::stopped_through, clos_machine::proofs::Turns::then_gave))]
+#[tactic(auto, using(clos_machine::proofs::Turns::stopped_through, clos_machine::proofs::Turns::then_gave, crate::proofs::Shrinking::grows_6_9))]
 pub fn start_system(
     alloc: Global,
     machine: &mut Machine,
@@ -531,10 +605,8 @@ pub fn start_system(
 {
     let _ = world;
     match call {
-        SystemCall::SignalNoApplicable(name, arguments) => {
-            let kind = ConditionKind::NoApplicableMethod;
-            let condition = about_call(alloc, kind, &name, arguments.as_slice())?;
-            Err(Stop::Refused(condition))
+        SystemCall::SignalNoApplicable(id, arguments) => {
+            signal_none_applicable(alloc, machine, world, id, &arguments)
         }
         SystemCall::SignalUnbound(name, id) => {
             let name = value_named(&name)?;
@@ -586,8 +658,13 @@ pub fn function_named(
             }
         },
         FunctionName::Setf(name) => {
-            let known = world.setters.get(name).is_some();
-            no_object(alloc, machine, world, known, setter_value(alloc, name)?)
+            match world.generics.setter(name) {
+                Some(id) => Ok(Doing::Give(Value::Generic(id))),
+                None => {
+                    let known = world.setters.get(name).is_some();
+                    no_object(alloc, machine, world, known, setter_value(alloc, name)?)
+                }
+            }
         }
     }
 }

@@ -33,7 +33,7 @@ use clos_machine::truth::{nil, t};
 use clos_objects::class_functions::call_class_function;
 use clos_objects::creation::{allocate, make_instance, next_default};
 use clos_objects::filling::{fill, fill_with};
-use clos_objects::slots::{call_slot_function, set_slot_value};
+use clos_objects::slots::{call_slot_function, call_writer, set_slot_value};
 use clos_world::{ConditionKind, Stop, Values, World, plain};
 use lisp_data::{Name, Value};
 use lisp_prims::Primitive;
@@ -282,6 +282,7 @@ fn act(
         Action::FillWith(filling, value) => {
             fill_with(alloc, machine, world, filling, value, steps)
         }
+        Action::Write(slot) => call_writer(alloc, machine, world, slot, &values, steps),
     }
 }
 

@@ -5,5 +5,4 @@ mod calls;
 pub mod eval;
 mod output;
 
-pub use calls::setter_value;
 pub use eval::evaluate;

@@ -16,8 +16,9 @@ use Rattle.clos_forms.specs.Operator as of
 use Rattle.clos_forms.specs.Operator.{Opr, Bound, Plc, variable_place, slot_value_place, call_place}
 use Rattle.clos_forms.specs.Quotation.{name_value}
 use Rattle.clos_world.specs.Definitions.{Same}
+use Rattle.clos_world.specs.FunctionName.{setter_value}
 use Rattle.clos_world.specs.Functions.{function_in}
-use Rattle.clos_world.specs.Generic.{function_named, ordered}
+use Rattle.clos_world.specs.Generic.{function_named, ordered, setter_named}
 use Rattle.clos_world.specs.Globals.{is_global, any_global}
 use Rattle.clos_world.specs.Values.{only_value, last_first}
 use Rattle.clos_world.specs.World.{State, Local, bound_as, unbound, local_named, names_of, class_of, class_of_instance, lists_of}
@@ -26,20 +27,23 @@ use Rattle.clos_world.specs.declared.condition.ConditionKind.TheVariants.{DepthL
 use Rattle.clos_world.specs.declared.functions.Function.{Function}
 use Rattle.clos_world.specs.declared.generic.Generic.{Generic}
 use Rattle.clos_world.specs.declared.generic.Method.{Method}
+use Rattle.clos_world.specs.declared.generic.MethodBody.{MethodBody}
+use Rattle.clos_world.specs.declared.generic.MethodBody.TheVariants.{Forms, Reader, Writer}
+use Rattle.clos_machine.specs.Accessors.{read_by, read_of, written_by, written_of}
 use Rattle.clos_machine.specs.Assignment.{stored, stored_globally, stored_only, made_of, changed_only, global_set}
 use Rattle.clos_machine.specs.Callee.{callee_of}
 use Rattle.clos_machine.specs.ClassFunctions.{Answer, class_answer, comes_to}
-use Rattle.clos_machine.specs.Calls.{known, restoring, parameters_run, body_run, applied_to, called_defined, called_setter, setter_value, dispatched, called_generic, called_function, method_run, combined, system}
+use Rattle.clos_machine.specs.Calls.{known, restoring, parameters_run, body_run, applied_to, called_defined, called_setter, called_setter_by, dispatched, called_generic, called_function, method_run, method_body_run, none_applicable, combined, system}
 use Rattle.clos_machine.specs.Control.{keeping, sequence, while_true, until_true, branch, followed, going, tested, clause, clauses}
 use Rattle.clos_machine.specs.Effective.{Effective, call_method, progn, prog1}
 use Rattle.clos_machine.specs.Fault.{answered}
-use Rattle.clos_machine.specs.Meaning.{acted, collect, collected, alone, setq, setf, assigned, place_in, with_amount, set_place, changed_from, changed_place, changing, changed_by, other_function, is_plain_function, symbol_function, function_value, operated, begun, meaning, closed, evaluation}
+use Rattle.clos_machine.specs.Meaning.{acted, collect, collected, alone, setq, setf, assigned, place_in, with_amount, set_place, changed_from, changed_place, changing, changed_by, other_function, is_plain_function, symbol_function, setter_function, function_value, operated, begun, meaning, closed, evaluation}
 use Rattle.clos_machine.specs.Objects.{designated}
 use Rattle.clos_machine.specs.Filling.{Filler, nothing, initform, filler, filled, filled_with, filled_by, fill, fill_with, is_the_class, slots_left, Subject, subject_of}
 use Rattle.clos_machine.specs.Filling as filler
 use Rattle.clos_machine.specs.Functions.{applied, called, place_read, place_set}
 use Rattle.clos_machine.specs.Initialization.{allocate, filling_of, initialized, invalid_initarg, is_given, made, defaulted, default_given, making_of, making, instance_made}
-use Rattle.clos_machine.specs.Slots.{slot_designated, slot_read, slot_tested, slot_changed, slot_answer, slot_applied, slot_called, slot_given, slot_set, slot_stored}
+use Rattle.clos_machine.specs.Slots.{instance_in, slot_designated, slot_read, slot_tested, slot_changed, slot_answer, slot_applied, slot_called, slot_given, slot_set, slot_stored}
 use Rattle.clos_machine.specs.declared.callee.SlotFunction as of_slots
 use Rattle.clos_machine.specs.declared.callee.SlotFunction.TheVariants.{SlotValue, SlotBoundp, SlotMakunbound, SlotExistsP}
 use Rattle.clos_machine.specs.declared.machine.SystemCall.TheVariants.{SignalUnbound, SignalMissing}
@@ -59,7 +63,7 @@ use Rattle.clos_machine.specs.declared.callee.Callee.{Callee}
 use Rattle.clos_machine.specs.declared.callee.Callee.TheVariants.{Output, Terpri, Primitive, MakeInstance, ClassFunction, SlotFunction, Defined}
 use Rattle.clos_machine.specs.declared.callee.Output as output
 use Rattle.clos_machine.specs.declared.machine.Action.{Action}
-use Rattle.clos_machine.specs.declared.machine.Action.TheVariants.{Call, Set, Store, Change, NewValue, Amount, ChangePlace, Allocate, Fill, FillWith}
+use Rattle.clos_machine.specs.declared.machine.Action.TheVariants.{Call, Set, Store, Change, NewValue, Amount, ChangePlace, Allocate, Fill, FillWith, Write}
 use Rattle.clos_machine.specs.declared.machine.Control.{Control}
 use Rattle.clos_machine.specs.declared.machine.Control.TheVariants.{Progn, Prog1, If, When, Unless, And, Or}
 use Rattle.clos_machine.specs.declared.machine.SystemCall.{SystemCall}
@@ -166,12 +170,12 @@ collect_kept ev h env (cons f fs) vs go g w k =
     then_kept w (ev env (Plain f) w k) (λ v. collect ev env fs (vs ++ v ∷ []) go) (h env (Plain f) w k)
     (λ v u j. collect_kept ev h env fs (vs ++ v ∷ []) go g u j)
 
-generic_kept : (ev : Eval) → Keeps ev → (vs : List Val) (o : Option Generic) (w : State) (k : ℕ) → Kept w (called_generic ev vs o w k)
-generic_kept ev h vs None w k = same w
-generic_kept ev h vs (Some g) w k =
+generic_kept : (ev : Eval) → Keeps ev → (vs : List Val) (n : ℕ) (o : Option Generic) (w : State) (k : ℕ) → Kept w (called_generic ev vs n o w k)
+generic_kept ev h vs n None w k = same w
+generic_kept ev h vs n (Some g) w k =
     elim (length vs == g.required)
-    as (λ b. Kept w (if b then ev (known vs) (dispatched g.name vs (ordered w.methods (lists_of w vs) g.methods)) w k else called_generic ev vs None w k))
-    [ true ↦ h (known vs) (dispatched g.name vs (ordered w.methods (lists_of w vs) g.methods)) w k | false ↦ same w ]
+    as (λ b. Kept w (if b then ev (known vs) (dispatched n vs (ordered w.methods (lists_of w vs) g.methods)) w k else called_generic ev vs n None w k))
+    [ true ↦ h (known vs) (dispatched n vs (ordered w.methods (lists_of w vs) g.methods)) w k | false ↦ same w ]
 
 restored : (l : List Local) (w : State) (o : Out) → Kept w o → Kept w (then_do o (restoring l))
 restored l w (Gave v u k) h = h
@@ -200,16 +204,7 @@ defined_kept ev h vs name (Some f) w k =
 
 function_kept : (ev : Eval) → Keeps ev → (name : Nam) (vs : List Val) (o : Option ℕ) (w : State) (k : ℕ) → Kept w (called_function ev name vs o w k)
 function_kept ev h name vs None w k = defined_kept ev h vs (name_value name) (function_in w.functions name) w k
-function_kept ev h name vs (Some g) w k = generic_kept ev h vs (slice_get w.generics g) w k
-
-method_kept : (ev : Eval) → Keeps ev → (vs : List Val) (o : Option Method) (w : State) (k : ℕ) → Kept w (method_run ev vs o w k)
-method_kept ev h vs None w k = same w
-method_kept ev h vs (Some m) w k = body_kept ev h vs (required_sources m.parameters vs) m.body w k
-
-combined_kept : (ev : Eval) → Keeps ev → (env : Context) (e : Effective) (w : State) (k : ℕ) → Kept w (combined ev env e w k)
-combined_kept ev h env (call_method m ns) w k = method_kept ev h env.arguments (slice_get w.methods m) w k
-combined_kept ev h env (progn e) w k = h env (Effect e) w k
-combined_kept ev h env (prog1 e) w k = h env (Effect e) w k
+function_kept ev h name vs (Some g) w k = generic_kept ev h vs g (slice_get w.generics g) w k
 
 -- ---- slots
 
@@ -253,6 +248,41 @@ slot_set_kept ev h env (v ∷ []) w k = same w
 slot_set_kept ev h env (v ∷ (x ∷ [])) w k = same w
 slot_set_kept ev h env (v ∷ (x ∷ (y ∷ []))) w k = slot_given_kept ev h env y (slot_designated v x) w k
 slot_set_kept ev h env (v ∷ (x ∷ (y ∷ (z ∷ vs)))) w k = same w
+
+-- ---- methods
+
+read_kept_of : (ev : Eval) → Keeps ev → (env : Context) (slot : Nam) (d : Result ℕ Condition) (w : State) (k : ℕ) → Kept w (read_of ev env slot d w k)
+read_kept_of ev h env slot (Err c) w k = same w
+read_kept_of ev h env slot (Ok i) w k = slot_read_kept ev h env i slot (slot_found w.store i slot) w k
+
+reader_kept : (ev : Eval) → Keeps ev → (env : Context) (slot : Nam) (vs : List Val) (w : State) (k : ℕ) → Kept w (read_by ev env slot vs w k)
+reader_kept ev h env slot [] w k = same w
+reader_kept ev h env slot (v ∷ []) w k = read_kept_of ev h env slot (instance_in v) w k
+reader_kept ev h env slot (v ∷ (x ∷ vs)) w k = same w
+
+written_kept_of : (ev : Eval) → Keeps ev → (env : Context) (slot : Nam) (x : Val) (d : Result ℕ Condition) (w : State) (k : ℕ) → Kept w (written_of ev env slot x d w k)
+written_kept_of ev h env slot x (Err c) w k = same w
+written_kept_of ev h env slot x (Ok i) w k = slot_changed_kept ev h env i slot (Some x) x (slot_found w.store i slot) w k
+
+writer_kept : (ev : Eval) → Keeps ev → (env : Context) (slot : Nam) (vs : List Val) (w : State) (k : ℕ) → Kept w (written_by ev env slot vs w k)
+writer_kept ev h env slot [] w k = same w
+writer_kept ev h env slot (x ∷ []) w k = same w
+writer_kept ev h env slot (x ∷ (v ∷ [])) w k = written_kept_of ev h env slot x (instance_in v) w k
+writer_kept ev h env slot (x ∷ (v ∷ (y ∷ vs))) w k = same w
+
+method_body_kept : (ev : Eval) → Keeps ev → (env : Context) (b : MethodBody) (w : State) (k : ℕ) → Kept w (method_body_run ev env b w k)
+method_body_kept ev h env (Forms ps fs) w k = body_kept ev h env.arguments (required_sources ps env.arguments) fs w k
+method_body_kept ev h env (Reader slot) w k = reader_kept ev h env slot env.arguments w k
+method_body_kept ev h env (Writer slot) w k = writer_kept ev h env slot env.arguments w k
+
+method_kept : (ev : Eval) → Keeps ev → (env : Context) (o : Option Method) (w : State) (k : ℕ) → Kept w (method_run ev env o w k)
+method_kept ev h env None w k = same w
+method_kept ev h env (Some m) w k = method_body_kept ev h env m.body w k
+
+combined_kept : (ev : Eval) → Keeps ev → (env : Context) (e : Effective) (w : State) (k : ℕ) → Kept w (combined ev env e w k)
+combined_kept ev h env (call_method m ns) w k = method_kept ev h env (slice_get w.methods m) w k
+combined_kept ev h env (progn e) w k = h env (Effect e) w k
+combined_kept ev h env (prog1 e) w k = h env (Effect e) w k
 
 -- ---- the making of instances
 
@@ -422,8 +452,12 @@ changed_kept p name None w k = same w
 changed_kept p name (Some amount) w k =
     then_kept w (made_of p name amount w k) (λ v. stored name v) (made_of_kept p name amount w k) (λ v u j. stored_kept name v u j)
 
+setter_kept_by : (ev : Eval) → Keeps ev → (name : Nam) (vs : List Val) (o : Option ℕ) (w : State) (k : ℕ) → Kept w (called_setter_by ev name vs o w k)
+setter_kept_by ev h name vs None w k = defined_kept ev h vs (setter_value name) (function_in w.setters name) w k
+setter_kept_by ev h name vs (Some g) w k = generic_kept ev h vs g (slice_get w.generics g) w k
+
 setter_kept : (ev : Eval) → Keeps ev → (name : Nam) (vs : List Val) (w : State) (k : ℕ) → Kept w (called_setter ev name vs w k)
-setter_kept ev h name vs w k = defined_kept ev h (last_first vs) (setter_value name) (function_in w.setters name) w k
+setter_kept ev h name vs w k = setter_kept_by ev h name (last_first vs) (setter_named w.generics name) w k
 
 read_kept : (ev : Eval) → Keeps ev → (env : Context) (t : Target) (vs : List Val) (w : State) (k : ℕ) → Kept w (place_read ev env t vs w k)
 read_kept ev h env (target.Call name) vs w k = applied_kept ev h env (callee_of name) name vs w k
@@ -464,6 +498,7 @@ acted_kept ev h env (ChangePlace p t) vs w k = changed_place_kept ev h env p t (
 acted_kept ev h env (Allocate c e) vs w k = allocate_kept ev h env c.0 e vs w k
 acted_kept ev h env (Fill f) vs w k = fill_kept ev h env (subject_of f) (slots_left f) w k
 acted_kept ev h env (FillWith f v) vs w k = fill_with_kept ev h env (subject_of f) (slots_left f) (value_of v) w k
+acted_kept ev h env (Write slot) vs w k = writer_kept ev h env slot vs w k
 
 collected_kept : (ev : Eval) → Keeps ev → (env : Context) (fs : Frms) (a : Action) (w : State) (k : ℕ) → Kept w (collected ev env fs a w k)
 collected_kept ev h env fs a w k = collect_kept ev h env fs [] (acted ev env a) (λ us u j. acted_kept ev h env a us u j) w k
@@ -510,9 +545,13 @@ symbol_kept : (name : Nam) (o : Option ℕ) (w : State) (k : ℕ) → Kept w (sy
 symbol_kept name None w k = other_kept (is_plain_function w name) (name_value name) w k
 symbol_kept name (Some g) w k = same w
 
+setter_value_kept : (name : Nam) (o : Option ℕ) (w : State) (k : ℕ) → Kept w (setter_function name o w k)
+setter_value_kept name None w k = other_kept (is_some (function_in w.setters name)) (setter_value name) w k
+setter_value_kept name (Some g) w k = same w
+
 value_kept : (c : Called) (w : State) (k : ℕ) → Kept w (function_value c w k)
 value_kept (by_symbol name) w k = symbol_kept name (function_named w.generics name) w k
-value_kept (by_setf name) w k = other_kept (is_some (function_in w.setters name)) (setter_value name) w k
+value_kept (by_setf name) w k = setter_value_kept name (setter_named w.generics name) w k
 
 operated_kept : (ev : Eval) → Keeps ev → (env : Context) (o : Opr) (ps : Frms) (w : State) (k : ℕ) → Kept w (operated ev env o ps w k)
 operated_kept ev h env (of.constant v) ps w k = same w
@@ -543,8 +582,12 @@ operated_kept ev h env of.call_next_method ps w k = same w
 operated_kept ev h env of.next_method_p ps w k = same w
 operated_kept ev h env (of.call name) ps w k = collected_kept ev h env ps (Call name) w k
 
+applicable_kept : (vs : List Val) (o : Option Generic) (w : State) (k : ℕ) → Kept w (none_applicable vs o w k)
+applicable_kept vs None w k = same w
+applicable_kept vs (Some g) w k = same w
+
 system_kept : (ev : Eval) → Keeps ev → (env : Context) (c : SystemCall) (w : State) (k : ℕ) → Kept w (system ev env c w k)
-system_kept ev h env (SignalNoApplicable name vs) w k = same w
+system_kept ev h env (SignalNoApplicable n vs) w k = applicable_kept vs (slice_get w.generics n.0) w k
 system_kept ev h env (SignalUnbound name i) w k = same w
 system_kept ev h env (SignalMissing name i) w k = same w
 system_kept ev h env (Initialize f) w k = h env (System (InitializeShared f)) w k

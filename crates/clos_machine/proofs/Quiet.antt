@@ -11,8 +11,9 @@ use Rattle.lisp_prims.specs.declared.primitive.Primitive as of_values
 use Rattle.clos_forms.specs.Form.{Frm, Frms, nil, cons, operator_in, parts_in}
 use Rattle.clos_forms.specs.Quotation.{name_value}
 use Rattle.clos_forms.specs.Operator.{Bound, Plc, variable_place, slot_value_place, call_place}
+use Rattle.clos_world.specs.FunctionName.{setter_value}
 use Rattle.clos_world.specs.Functions.{function_in}
-use Rattle.clos_world.specs.Generic.{function_named, ordered}
+use Rattle.clos_world.specs.Generic.{function_named, ordered, setter_named}
 use Rattle.clos_world.specs.Globals.{is_global, any_global}
 use Rattle.clos_world.specs.Values.{only_value, last_first}
 use Rattle.clos_world.specs.World.{State, Local, unbound, bound_as, local_named, class_of, class_of_instance, lists_of}
@@ -20,10 +21,11 @@ use Rattle.clos_world.specs.declared.condition.Condition.{Condition}
 use Rattle.clos_world.specs.declared.condition.ConditionKind.TheVariants.{StepLimit}
 use Rattle.clos_world.specs.declared.functions.Function.{Function}
 use Rattle.clos_world.specs.declared.generic.Generic.{Generic}
+use Rattle.clos_machine.specs.Accessors.{written_by, written_of}
 use Rattle.clos_machine.specs.Assignment.{stored, stored_globally, stored_only, made_of, changed_only, with_local}
 use Rattle.clos_machine.specs.Callee.{callee_of}
 use Rattle.clos_machine.specs.ClassFunctions.{Answer, class_answer, comes_to}
-use Rattle.clos_machine.specs.Calls.{known, restoring, parameters_run, body_run, applied_to, called_defined, called_setter, setter_value, dispatched, called_generic, called_function}
+use Rattle.clos_machine.specs.Calls.{known, restoring, parameters_run, body_run, applied_to, called_defined, called_setter, called_setter_by, dispatched, called_generic, called_function}
 use Rattle.clos_machine.specs.Control.{keeping, sequence, while_true, until_true, branch, followed, tested, clause, clauses}
 use Rattle.clos_machine.specs.Fault.{answered}
 use Rattle.clos_machine.specs.Machine.{at, below, after, resume, leaves, denote, loop_of, targets}
@@ -33,7 +35,7 @@ use Rattle.clos_machine.specs.Filling.{Filler, nothing, initform, filler, filled
 use Rattle.clos_machine.specs.Filling as filler
 use Rattle.clos_machine.specs.Functions.{applied, called, place_read, place_set}
 use Rattle.clos_machine.specs.Initialization.{allocate, is_given, defaulted, default_given, making_of, making, instance_made}
-use Rattle.clos_machine.specs.Slots.{slot_designated, slot_read, slot_tested, slot_changed, slot_answer, slot_applied, slot_called, slot_given, slot_set}
+use Rattle.clos_machine.specs.Slots.{instance_in, slot_designated, slot_read, slot_tested, slot_changed, slot_answer, slot_applied, slot_called, slot_given, slot_set}
 use Rattle.clos_machine.specs.declared.callee.SlotFunction as of_slots
 use Rattle.clos_machine.specs.declared.callee.SlotFunction.TheVariants.{SlotValue, SlotBoundp, SlotMakunbound, SlotExistsP}
 use Rattle.clos_machine.specs.declared.machine.SystemCall.TheVariants.{SignalUnbound, SignalMissing}
@@ -53,7 +55,7 @@ use Rattle.clos_machine.specs.declared.callee.Callee.{Callee}
 use Rattle.clos_machine.specs.declared.callee.Callee.TheVariants.{Output, Terpri, Primitive, MakeInstance, ClassFunction, SlotFunction, Defined}
 use Rattle.clos_machine.specs.declared.callee.Output as output
 use Rattle.clos_machine.specs.declared.machine.Action.{Action}
-use Rattle.clos_machine.specs.declared.machine.Action.TheVariants.{Call, Set, Store, Change, NewValue, Amount, ChangePlace, Allocate, Fill, FillWith}
+use Rattle.clos_machine.specs.declared.machine.Action.TheVariants.{Call, Set, Store, Change, NewValue, Amount, ChangePlace, Allocate, Fill, FillWith, Write}
 use Rattle.clos_machine.specs.declared.machine.Control.{Control}
 use Rattle.clos_machine.specs.declared.machine.Control.TheVariants.{Progn, Prog1, If, When, Unless, And, Or}
 use Rattle.clos_machine.specs.declared.machine.Doing.TheVariants.{Start, Act}
@@ -107,11 +109,11 @@ follows_quiet (Stopped c u k) go w h g = h
 follows_quiet (Gave v u k) go w h g =
     subst (λ x. leaves (closed (go v u k)) x 0) h.0 (subst (λ j. leaves (closed (go v u j)) (unbound u) 0) (sym h.1) (g v u))
 
-generic_quiet : (n : ℕ) (vs : List Val) (o : Option Generic) (w : State) → leaves (closed (called_generic (meaning n) vs o w 0)) (unbound w) 0
-generic_quiet n vs None w = (refl, refl)
-generic_quiet n vs (Some g) w =
-    choice_quiet (length vs == g.required) (meaning n (known vs) (dispatched g.name vs (ordered w.methods (lists_of w vs) g.methods)) w 0) _ w
-    (task_quiet n (known vs) (dispatched g.name vs (ordered w.methods (lists_of w vs) g.methods)) w) (refl, refl)
+generic_quiet : (n : ℕ) (vs : List Val) (i : ℕ) (o : Option Generic) (w : State) → leaves (closed (called_generic (meaning n) vs i o w 0)) (unbound w) 0
+generic_quiet n vs i None w = (refl, refl)
+generic_quiet n vs i (Some g) w =
+    choice_quiet (length vs == g.required) (meaning n (known vs) (dispatched i vs (ordered w.methods (lists_of w vs) g.methods)) w 0) _ w
+    (task_quiet n (known vs) (dispatched i vs (ordered w.methods (lists_of w vs) g.methods)) w) (refl, refl)
 
 sequence_quiet : (n : ℕ) (env : Context) (fs : Frms) (v : Val) (w : State) → Quiet (sequence (meaning n) env fs v w 0) w
 sequence_quiet n env nil v w = (refl, refl)
@@ -142,7 +144,7 @@ defined_quiet n vs name (Some f) w =
 
 function_quiet : (n : ℕ) (name : Nam) (vs : List Val) (o : Option ℕ) (w : State) → Quiet (called_function (meaning n) name vs o w 0) w
 function_quiet n name vs None w = defined_quiet n vs (name_value name) (function_in w.functions name) w
-function_quiet n name vs (Some g) w = generic_quiet n vs (slice_get w.generics g) w
+function_quiet n name vs (Some g) w = generic_quiet n vs g (slice_get w.generics g) w
 
 output_quiet : (o : output.Output) (x : Option Val) (w : State) → leaves (closed (output_of o x w 0)) (unbound w) 0
 output_quiet o None w = (refl, refl)
@@ -202,6 +204,16 @@ slot_set_quiet n env (v ∷ []) w = (refl, refl)
 slot_set_quiet n env (v ∷ (x ∷ [])) w = (refl, refl)
 slot_set_quiet n env (v ∷ (x ∷ (y ∷ []))) w = slot_given_quiet n env y (slot_designated v x) w
 slot_set_quiet n env (v ∷ (x ∷ (y ∷ (z ∷ vs)))) w = (refl, refl)
+
+written_quiet_of : (n : ℕ) (env : Context) (slot : Nam) (x : Val) (d : Result ℕ Condition) (w : State) → Quiet (written_of (meaning n) env slot x d w 0) w
+written_quiet_of n env slot x (Err c) w = (refl, refl)
+written_quiet_of n env slot x (Ok i) w = slot_changed_quiet n env i slot (Some x) x (slot_found w.store i slot) w
+
+written_quiet : (n : ℕ) (env : Context) (slot : Nam) (vs : List Val) (w : State) → Quiet (written_by (meaning n) env slot vs w 0) w
+written_quiet n env slot [] w = (refl, refl)
+written_quiet n env slot (x ∷ []) w = (refl, refl)
+written_quiet n env slot (x ∷ (v ∷ [])) w = written_quiet_of n env slot x (instance_in v) w
+written_quiet n env slot (x ∷ (v ∷ (y ∷ vs))) w = (refl, refl)
 
 -- ---- the making of instances
 
@@ -284,8 +296,12 @@ changed_quiet p name (Some amount) w =
 
 -- ---- a call that is changed
 
+setter_quiet_by : (n : ℕ) (name : Nam) (vs : List Val) (o : Option ℕ) (w : State) → Quiet (called_setter_by (meaning n) name vs o w 0) w
+setter_quiet_by n name vs None w = defined_quiet n vs (setter_value name) (function_in w.setters name) w
+setter_quiet_by n name vs (Some g) w = generic_quiet n vs g (slice_get w.generics g) w
+
 setter_quiet : (n : ℕ) (name : Nam) (vs : List Val) (w : State) → Quiet (called_setter (meaning n) name vs w 0) w
-setter_quiet n name vs w = defined_quiet n (last_first vs) (setter_value name) (function_in w.setters name) w
+setter_quiet n name vs w = setter_quiet_by n name (last_first vs) (setter_named w.generics name) w
 
 read_quiet : (n : ℕ) (env : Context) (t : Target) (vs : List Val) (w : State) → Quiet (place_read (meaning n) env t vs w 0) w
 read_quiet n env (target.Call name) vs w = applied_quiet n env (callee_of name) name vs w
@@ -328,6 +344,7 @@ acted_quiet n env (ChangePlace p t) vs w = change_place_quiet n env p t (last_fi
 acted_quiet n env (Allocate c e) vs w = allocate_quiet n env c.0 e vs w
 acted_quiet n env (Fill f) vs w = fill_quiet n env (subject_of f) (slots_left f) w
 acted_quiet n env (FillWith f v) vs w = fill_with_quiet n env (subject_of f) (slots_left f) (value_of v) w
+acted_quiet n env (Write slot) vs w = written_quiet n env slot vs w
 
 collect_quiet : (n : ℕ) (env : Context) (fs : Frms) (vs : List Val) (a : Action) (w : State) → Quiet (collect (meaning n) env fs vs (acted (meaning n) env a) w 0) w
 collect_quiet n env nil vs a w = acted_quiet n env a vs w

@@ -31,10 +31,10 @@ then_gave (Gave v w s) = refl
 then_gave (Stopped c w s) = refl
 
 -- there is no such method
-pub no_method : (m : Machine) (ev : Eval) (vs : List Val) (o : Option Method) (c : Condition) (w : State) (t : ℕ) → None ≡ o → c ≡ record { kind = ProgramError; items = [] }
-    → inside m (method_run ev vs o) w t ≡ Stopped c (unbound w) t
-no_method m ev vs None c w t e k = stopped_through m.levels m.context (record { kind = ProgramError; items = [] }) (at m w) t ∙ ap (λ x. Stopped x (unbound w) t) (sym k)
-no_method m ev vs (Some x) c w t e k = cc
+pub no_method : (m : Machine) (ev : Eval) (env : Context) (o : Option Method) (c : Condition) (w : State) (t : ℕ) → None ≡ o → c ≡ record { kind = ProgramError; items = [] }
+    → inside m (method_run ev env o) w t ≡ Stopped c (unbound w) t
+no_method m ev env None c w t e k = stopped_through m.levels m.context (record { kind = ProgramError; items = [] }) (at m w) t ∙ ap (λ x. Stopped x (unbound w) t) (sym k)
+no_method m ev env (Some x) c w t e k = cc
 
 -- what adds little adds no more than something larger
 pub grows_6_16 : (old : List Level) (r : Result Doing Stop) (m : Machine) → Grows 6 old r m → Grows 16 old r m

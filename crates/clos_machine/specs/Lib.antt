@@ -17,6 +17,7 @@ pub mod ClassFunctions
 pub mod Parameters
 pub mod ParametersCode
 pub mod ParametersView
+pub mod Accessors
 pub mod Calls
 pub mod Functions
 pub mod Meaning

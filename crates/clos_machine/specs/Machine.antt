@@ -24,7 +24,7 @@ use Rattle.clos_machine.specs.Parameters.{Sources, argument, refused, init}
 use Rattle.clos_machine.specs.Variables.{Loop, found_value, in_order, binding, within, aside, repeated, turns}
 use Rattle.clos_machine.specs.declared.arguments.Context.{Context}
 use Rattle.clos_machine.specs.declared.machine.Action.{Action}
-use Rattle.clos_machine.specs.declared.machine.Action.TheVariants.{Call, Set, Store, Change, NewValue, Amount, ChangePlace, Allocate, Fill, FillWith}
+use Rattle.clos_machine.specs.declared.machine.Action.TheVariants.{Call, Set, Store, Change, NewValue, Amount, ChangePlace, Allocate, Fill, FillWith, Write}
 use Rattle.clos_machine.specs.declared.machine.Doing.{Doing}
 use Rattle.clos_machine.specs.declared.machine.Doing.TheVariants.{Start, Act, Give}
 use Rattle.clos_machine.specs.declared.machine.Doing.TheVariants as doing
@@ -159,6 +159,7 @@ lift (ChangePlace p t) = 5
 lift (Allocate c e) = 0
 lift (Fill f) = 0
 lift (FillWith f v) = 0
+lift (Write slot) = 0
 
 -- What is left to do, which each turn makes smaller: a frame that may lead to an action weighs more, an action yet more.
 abbrev pub weight_of : Frame → ℕ

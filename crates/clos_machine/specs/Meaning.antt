@@ -14,13 +14,15 @@ use Rattle.clos_forms.specs.Names.{is_one_of, functions, system_functions}
 use Rattle.clos_forms.specs.Operator.{Opr, Plc, variable_place, slot_value_place, call_place}
 use Rattle.clos_forms.specs.Operator as of
 use Rattle.clos_forms.specs.Quotation.{name_value}
+use Rattle.clos_world.specs.FunctionName.{setter_value}
 use Rattle.clos_world.specs.Functions.{function_in}
-use Rattle.clos_world.specs.Generic.{function_named}
+use Rattle.clos_world.specs.Generic.{function_named, setter_named}
 use Rattle.clos_world.specs.Values.{only_value, last_first}
 use Rattle.clos_world.specs.World.{State, unbound}
 use Rattle.clos_world.specs.declared.condition.ConditionKind.TheVariants.{ProgramError, UndefinedFunction, Unsupported, DepthLimit}
+use Rattle.clos_machine.specs.Accessors.{written_by}
 use Rattle.clos_machine.specs.Assignment.{stored_only, changed_only}
-use Rattle.clos_machine.specs.Calls.{known, setter_value, combined, system}
+use Rattle.clos_machine.specs.Calls.{known, combined, system}
 use Rattle.clos_machine.specs.Control.{going, clauses}
 use Rattle.clos_machine.specs.Fault.{answered}
 use Rattle.clos_machine.specs.Filling.{fill, fill_with, slots_left, subject_of}
@@ -30,7 +32,7 @@ use Rattle.clos_machine.specs.Outcome.{Out, Gave, Stopped, Run, Eval, then_do, s
 use Rattle.clos_machine.specs.Variables.{found_value, variable_value, in_order, aside, dotimes}
 use Rattle.clos_machine.specs.declared.arguments.Context.{Context}
 use Rattle.clos_machine.specs.declared.machine.Action.{Action}
-use Rattle.clos_machine.specs.declared.machine.Action.TheVariants.{Call, Set, Store, Change, NewValue, Amount, ChangePlace, Allocate, Fill, FillWith}
+use Rattle.clos_machine.specs.declared.machine.Action.TheVariants.{Call, Set, Store, Change, NewValue, Amount, ChangePlace, Allocate, Fill, FillWith, Write}
 use Rattle.clos_machine.specs.declared.machine.Control.TheVariants.{Progn, Prog1, If, When, Unless, And, Or}
 use Rattle.clos_machine.specs.declared.machine.Target.{Target}
 use Rattle.clos_machine.specs.declared.machine.Target.TheVariants as target
@@ -75,6 +77,7 @@ acted ev env (ChangePlace p t) vs w s = changed_place ev env p t (last_first vs)
 acted ev env (Allocate c e) vs w s = allocate ev env c.0 e vs w s
 acted ev env (Fill f) vs w s = fill ev env (subject_of f) (slots_left f) w s
 acted ev env (FillWith f v) vs w s = fill_with ev env (subject_of f) (slots_left f) (value_of v) w s
+acted ev env (Write slot) vs w s = written_by ev env slot vs w s
 
 -- these forms, and then what is done with their values
 abbrev pub collected : Eval → Context → Frms → Action → Run
@@ -128,9 +131,13 @@ abbrev pub symbol_function : Nam → Option ℕ → Run
 symbol_function name None w s = other_function (is_plain_function w name) (name_value name) w s
 symbol_function name (Some g) w s = Gave (generic g) w s
 
+abbrev pub setter_function : Nam → Option ℕ → Run
+setter_function name None w s = other_function (is_some (function_in w.setters name)) (setter_value name) w s
+setter_function name (Some g) w s = Gave (generic g) w s
+
 abbrev pub function_value : Called → Run
 function_value (by_symbol name) w s = symbol_function name (function_named w.generics name) w s
-function_value (by_setf name) w s = other_function (is_some (function_in w.setters name)) (setter_value name) w s
+function_value (by_setf name) w s = setter_function name (setter_named w.generics name) w s
 
 -- ---- forms
 

@@ -22,13 +22,20 @@ use Rattle.clos_machine.specs.declared.machine.Task.TheVariants.{System}
 
 -- ---- an instance and the name of a slot
 
+abbrev pub instance_in : Val → Result ℕ Condition
+instance_in (instance i) = Ok i
+instance_in v = Err (wrong_type v)
+
 abbrev pub slot_by : ℕ → Val → Option Nam → Result (ℕ × Nam) Condition
 slot_by i v None = Err (wrong_type v)
 slot_by i v (Some name) = Ok (i, name)
 
+abbrev pub slot_of : Result ℕ Condition → Val → Result (ℕ × Nam) Condition
+slot_of (Err c) name = Err c
+slot_of (Ok i) name = slot_by i name (symbol_in name)
+
 abbrev pub slot_designated : Val → Val → Result (ℕ × Nam) Condition
-slot_designated (instance i) name = slot_by i name (symbol_in name)
-slot_designated v name = Err (wrong_type v)
+slot_designated v name = slot_of (instance_in v) name
 
 -- ---- what is done with a slot: where there is none, slot-missing is called, and where one that is read is unbound, slot-unbound
 

@@ -50,6 +50,13 @@ impl Arguments {
     {
         self.shared.as_slice()
     }
+
+    /// The same values, for who changes them.
+    pub fn to_values(&self, alloc: Global) -> Result<Values, AllocError>
+        ensures { IfOk result (λ r. r ≡ self.now) }
+    {
+        self.shared.copy(alloc)
+    }
 }
 
 /// What a running body or an effective form knows, and can't change.

@@ -9,7 +9,7 @@ use crate::locals::{Locals, Plan};
 use crate::parameters::ParameterPlan;
 use clos_forms::{Form, Forms};
 use clos_world::Values;
-use lisp_data::{ClassId, InstanceId, Name, Value};
+use lisp_data::{ClassId, GenericId, InstanceId, Name, Value};
 use lisp_prims::Primitive;
 use std::alloc::{AllocError, Global};
 use std::marker::Model;
@@ -25,8 +25,8 @@ pub enum Task {
 /// The effective form of a call of a system generic function, whose one method is the system's.
 #[derive(Drop)]
 pub enum SystemCall {
-    /// The function no-applicable-method, of the generic function of this name and its arguments.
-    SignalNoApplicable(Name, Arguments),
+    /// The function no-applicable-method, of the generic function of this number and its arguments.
+    SignalNoApplicable(GenericId, Arguments),
     /// The function slot-unbound, of the slot of this name and an instance.
     SignalUnbound(Name, InstanceId),
     /// The function slot-missing, of a name and an instance that has no such slot.
@@ -81,6 +81,8 @@ pub enum Action {
     Fill(Filling),
     /// The next slot is filled with this value, that of its initform.
     FillWith(Filling, Value),
+    /// They are a new value and an instance, whose slot of this name gets it.
+    Write(Name),
 }
 
 /// A loop of `dotimes`: how many variables are outside it, its own, whether it has a result form, and that form, where

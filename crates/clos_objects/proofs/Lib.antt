@@ -1,4 +1,5 @@
 pub mod Telling
 pub mod Placing
+pub mod Accessing
 pub mod Passing
 pub mod Making

@@ -45,6 +45,12 @@ DesignatesSlot d (Ok p) = d ≡ Ok (p.0.0, p.1)
 DesignatesSlot d (Err (Refused c)) = d ≡ Err c
 DesignatesSlot d (Err Storage) = Unit {0}
 
+-- the instance that a value is, or why not
+abbrev pub DesignatesInstance : Result ℕ Condition → Result InstanceId Stop → Type 0
+DesignatesInstance d (Ok i) = d ≡ Ok i.0
+DesignatesInstance d (Err (Refused c)) = d ≡ Err c
+DesignatesInstance d (Err Storage) = Unit {0}
+
 -- ---- slots that are filled
 
 abbrev pub is_nothing : Filler → Bool

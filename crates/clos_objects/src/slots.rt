@@ -5,12 +5,14 @@ ghost use Rattle.lisp_data.specs.Value.{instance};
 ghost use Rattle.lisp_data.specs.ValueView.{value_of};
 ghost use Rattle.lisp_prims.specs.Primitive.{truth};
 ghost use Rattle.clos_store.specs.Store.{slot_found};
+ghost use Rattle.clos_world.specs.Values.{only_value};
 ghost use Rattle.clos_world.specs.World.{State, class_of_instance, seen};
+ghost use Rattle.clos_machine.specs.Accessors.{read_by, written_by};
 ghost use Rattle.clos_machine.specs.Machine.{Grows, Leads, Turns, at, inside};
 ghost use Rattle.clos_machine.specs.Meaning.{meaning};
 ghost use Rattle.clos_machine.specs.Outcome.{Gave, Run};
-ghost use Rattle.clos_machine.specs.Slots.{has_slot, slot_answer, slot_called, slot_changed, slot_designated, slot_read, slot_set, slot_tested};
-ghost use Rattle.clos_objects.specs.Objects.{DesignatesSlot, three_of, two_of};
+ghost use Rattle.clos_machine.specs.Slots.{has_slot, instance_in, slot_answer, slot_called, slot_changed, slot_designated, slot_read, slot_set, slot_tested};
+ghost use Rattle.clos_objects.specs.Objects.{DesignatesInstance, DesignatesSlot, three_of, two_of};
 
 use crate::class_functions::{symbol_in, truth, wrong_type};
 use clos_control::control::turn_to;
@@ -19,6 +21,16 @@ use clos_machine::machine::{Doing, Machine, SystemCall, Task};
 use clos_world::{ConditionKind, Stop, Values, World, plain};
 use lisp_data::{InstanceId, Name, Value};
 use std::alloc::Global;
+
+/// The value, where there is one.
+fn only(values: &[Value]) -> Option<&Value>
+    ensures { option_map (λ v. value_of v.now) result ≡ only_value (map value_of values.now) }
+{
+    match values {
+        [value] => Some(value),
+        _ => None,
+    }
+}
 
 /// The values, where they are two.
 fn two(values: &[Value]) -> Option<(&Value, &Value)>
@@ -40,16 +52,72 @@ fn three(values: &[Value]) -> Option<(&Value, &Value, &Value)>
     }
 }
 
+/// The instance that a value is.
+fn instance_in(alloc: Global, object: &Value) -> Result<InstanceId, Stop>
+    ensures { DesignatesInstance (instance_in (value_of object.now)) result }
+{
+    match object {
+        Value::Instance(id) => Ok(*id),
+        _ => Err(Stop::Refused(wrong_type(alloc, object)?)),
+    }
+}
+
 /// The instance and the name of a slot that two values are.
 fn designate(alloc: Global, object: &Value, name: &Value) -> Result<(InstanceId, Name), Stop>
     ensures { DesignatesSlot (slot_designated (value_of object.now) (value_of name.now)) result }
 {
-    match object {
-        Value::Instance(id) => match symbol_in(name)? {
+    match instance_in(alloc, object) {
+        Err(stop) => Err(stop),
+        Ok(id) => match symbol_in(name)? {
             None => Err(Stop::Refused(wrong_type(alloc, name)?)),
-            Some(symbol) => Ok((*id, symbol)),
+            Some(symbol) => Ok((id, symbol)),
         },
-        _ => Err(Stop::Refused(wrong_type(alloc, object)?)),
+    }
+}
+
+/// A reader of the slot of this name is called.
+pub fn call_reader(
+    alloc: Global,
+    machine: &Machine,
+    world: &World,
+    slot: &Name,
+    values: &[Value],
+) -> Result<Doing, Stop>
+    ensures leads { Leads (inside machine.now (read_by (meaning machine.now.room) machine.now.context slot.now (map value_of values.now))) (seen world.now) result machine.now }
+    ensures small { Grows 6 machine.now.levels result machine.now }
+{
+    match only(values) {
+        None => Err(Stop::Refused(plain(alloc, ConditionKind::ProgramError))),
+        Some(object) => match instance_in(alloc, object) {
+            Ok(id) => read(machine, world, id, slot),
+            Err(stop) => Err(stop),
+        },
+    }
+}
+
+/// A writer of the slot of this name is called.
+pub fn call_writer(
+    alloc: Global,
+    machine: &Machine,
+    world: &mut World,
+    slot: Name,
+    values: &Values,
+    steps: &mut u64,
+) -> Result<Doing, Stop>
+    ensures turns { Turns (inside machine.now (written_by (meaning machine.now.room) machine.now.context slot values.now)) (seen world.old) steps.old result machine.now (seen world.new) steps.new }
+    ensures small { Grows 6 machine.now.levels result machine.now }
+    ensures fewer { steps.new ≤ steps.old }
+{
+    match two(values.as_slice()) {
+        None => Err(Stop::Refused(plain(alloc, ConditionKind::ProgramError))),
+        Some((new, object)) => match instance_in(alloc, object) {
+            Ok(id) => {
+                let stored = new.copy()?;
+                let given = new.copy()?;
+                change(alloc, machine, world, id, slot, Some(stored), given, steps)
+            }
+            Err(stop) => Err(stop),
+        },
     }
 }
 
@@ -90,7 +158,7 @@ fn answer(
     ensures fewer { steps.new ≤ steps.old }
 {
     match function {
-        SlotFunction::SlotValue => read(machine, world, id, name),
+        SlotFunction::SlotValue => read(machine, world, id, &name),
         SlotFunction::SlotBoundp => test(machine, world, id, name),
         SlotFunction::SlotMakunbound => {
             change(
@@ -109,14 +177,20 @@ fn answer(
 }
 
 /// The value of a slot, or what is called in its place.
-fn read(machine: &Machine, world: &World, id: InstanceId, name: Name) -> Result<Doing, Stop>
-    ensures leads { Leads (inside machine.now (λ w. slot_read (meaning machine.now.room) machine.now.context id.0 name (slot_found w.store id.0 name) w)) (seen world.now) result machine.now }
+fn read(machine: &Machine, world: &World, id: InstanceId, name: &Name) -> Result<Doing, Stop>
+    ensures leads { Leads (inside machine.now (λ w. slot_read (meaning machine.now.room) machine.now.context id.0 name.now (slot_found w.store id.0 name.now) w)) (seen world.now) result machine.now }
     ensures small { Grows 6 machine.now.levels result machine.now }
 {
-    match world.store.slot(id, &name) {
-        None => Ok(turn_to(machine, Task::System(SystemCall::SignalMissing(name, id)))),
+    match world.store.slot(id, name) {
+        None => {
+            let name = name.copy()?;
+            Ok(turn_to(machine, Task::System(SystemCall::SignalMissing(name, id))))
+        }
         Some(slot) => match slot.value() {
-            None => Ok(turn_to(machine, Task::System(SystemCall::SignalUnbound(name, id)))),
+            None => {
+                let name = name.copy()?;
+                Ok(turn_to(machine, Task::System(SystemCall::SignalUnbound(name, id))))
+            }
             Some(value) => Ok(Doing::Give(value.copy()?)),
         },
     }

@@ -8,7 +8,9 @@ use Rattle.clos_syntax.specs.Top.{top_of}
 use Rattle.clos_syntax.specs.declared.top.Top.{Top}
 use Rattle.clos_world.specs.Class.{named}
 use Rattle.clos_world.specs.Definitions.{Same}
-use Rattle.clos_world.specs.Generic.{function_named}
+use Rattle.clos_world.specs.Generic.{function_named, setter_named}
+use Rattle.clos_forms.specs.declared.operator.FunctionName.{FunctionName}
+use Rattle.clos_world.specs.declared.generic.MethodBody.TheVariants.{Forms}
 use Rattle.clos_world.specs.World.{State}
 use Rattle.clos_machine.specs.Meaning.{evaluation}
 use Rattle.clos_machine.specs.Outcome.{Out, Gave, Stopped, Run, then_do, step_then, stopped}
@@ -18,21 +20,22 @@ use Rattle.clos_world.specs.Globals.{is_global}
 use Rattle.clos_world.specs.declared.functions.Function.{Function}
 use Rattle.clos_forms.specs.OperatorView.{called_of}
 use Rattle.lisp_data.specs.Print.{Called, by_symbol, by_setf}
-use Rattle.lisp_data.specs.Value.{Val}
+use Rattle.lisp_data.specs.Value.{Val, class, method}
 use Rattle.clos_syntax.specs.declared.variable.VariableDefinition.{VariableDefinition}
 use Rattle.clos_system.specs.Function.{has_room, function_defined, setter_defined, define_function}
 use Rattle.clos_system.specs.Variable.{room_below, keeps_value, named as defined_name, declared, value_given, new_value, variable_defined}
 use Rattle.clos_world.specs.declared.condition.Condition.{Condition}
-use Rattle.clos_world.specs.declared.generic.Generic.{Generic}
 use Rattle.clos_machine.proofs.Kept.{same, same_then, Kept, evaluation_kept}
 use Rattle.clos_system.specs.Definitions.{DefinesNothing}
 use Rattle.clos_system.specs.Served.{is_combination, served_of}
 use Rattle.clos_system.specs.Session.{Replies}
 use Rattle.clos_class_core.specs.Table.{Refusal}
-use Rattle.clos_class.specs.Table.{refusal}
+use Rattle.clos_class.specs.Table.{number, refusal}
 use Rattle.clos_syntax.specs.declared.class.ClassDefinition.{ClassDefinition}
-use Rattle.clos_system.specs.Class.{class_defined, define_class, unless_refused}
-use Rattle.clos_system.specs.Step.{checked, define_method, function_added, method_added, new_method, on_function, performed, room_of, served_run, specializer_numbers, step}
+use Rattle.clos_system.specs.Class.{accessors_added, define_class, unless_refused, with_class}
+use Rattle.clos_system.specs.Effect.{is_taken, is_within_limits, method_added, takes_effect}
+use Rattle.clos_system.specs.Method.{define_method, define_specialized, specializer_numbers}
+use Rattle.clos_system.specs.Step.{checked, performed, room_of, served_run, step}
 use Rattle.clos_system.specs.declared.served.Served.{Served}
 use Rattle.clos_system.specs.declared.served.Served.TheVariants.{DefineClass, DefineMethod, DefineFunction, DefineVariable, Nothing, Expression}
 use Rattle.clos_system.specs.declared.session.Reply.{Reply}
@@ -60,32 +63,27 @@ step_refuses : (run : Run) (w : State) (k : ℕ) → ((j : ℕ) → Refuses w (r
 step_refuses run w zero h = same w
 step_refuses run w (suc k) h = h k
 
+effect_refuses : (v : Val) (f : State → State) (r : Result State Condition) (w : State) (k : ℕ) → Refuses w (takes_effect v f r w k)
+effect_refuses v f (Err c) w k = same w
+effect_refuses v f (Ok u) w k =
+    choice_refuses (is_within_limits u) w (step_then (λ x j. Gave v (f u) j) w k) _ (step_refuses (λ x j. Gave v (f u) j) w k (λ j. tt)) (same w)
+
 new_class_refuses : (d : ClassDefinition) (o : Option Refusal) (w : State) (k : ℕ) → Refuses w (unless_refused d o w k)
-new_class_refuses d None w k = step_refuses (class_defined d) w k (λ j. tt)
+new_class_refuses d None w k = effect_refuses (class (number w.classes.table d)) (with_class d) (accessors_added (number w.classes.table d) d.slots w) w k
 new_class_refuses d (Some r) w k = same w
 
 class_refuses : (d : ClassDefinition) (o : Option ℕ) (w : State) (k : ℕ) → Refuses w (define_class d o w k)
 class_refuses d None w k = new_class_refuses d (refusal w.classes.table d) w k
 class_refuses d (Some n) w k = same w
 
-new_method_refuses : (name : Nam) (g : ℕ) (o : Option Generic) (parameters : List Nam) (specializers : List ℕ) (body : Frms) (w : State) (k : ℕ) → Refuses w (new_method name g o parameters specializers body w k)
-new_method_refuses name g None parameters specializers body w k = same w
-new_method_refuses name g (Some old) parameters specializers body w k =
-    choice_refuses (old.required == length parameters) w _ _
-    (choice_refuses (nat_lt (length w.methods) w.limits.methods) w (step_then (method_added g old parameters specializers body) w k) _
-    (step_refuses (method_added g old parameters specializers body) w k (λ j. tt)) (same w))
-    (same w)
+specialized_refuses : (name : FunctionName) (parameters : List Nam) (body : Frms) (r : Result (List ℕ) Condition) (w : State) (k : ℕ) → Refuses w (define_specialized name parameters body r w k)
+specialized_refuses name parameters body (Err c) w k = same w
+specialized_refuses name parameters body (Ok specializers) w k =
+    effect_refuses (method (length w.methods)) (λ u. u) (method_added name (length parameters) specializers (Forms parameters body) w) w k
 
-function_refuses : (name : Nam) (o : Option ℕ) (parameters : List Nam) (specializers : List ℕ) (body : Frms) (w : State) (k : ℕ) → Refuses w (on_function name o parameters specializers body w k)
-function_refuses name None parameters specializers body w k =
-    choice_refuses (nat_lt (length w.generics) w.limits.generics && nat_lt (length w.methods) w.limits.methods) w
-    (step_then (function_added name parameters specializers body) w k) _ (step_refuses (function_added name parameters specializers body) w k (λ j. tt)) (same w)
-function_refuses name (Some g) parameters specializers body w k =
-    new_method_refuses name g (slice_get w.generics g) parameters specializers body w k
-
-method_refuses : (name : Nam) (parameters : List Nam) (body : Frms) (r : Result (List ℕ) Condition) (w : State) (k : ℕ) → Refuses w (define_method name parameters body r w k)
-method_refuses name parameters body (Err c) w k = same w
-method_refuses name parameters body (Ok specializers) w k = function_refuses name (function_named w.generics name) parameters specializers body w k
+method_refuses : (name : FunctionName) (parameters classes : List Nam) (body : Frms) (w : State) (k : ℕ) → Refuses w (define_method name parameters classes body w k)
+method_refuses name parameters classes body w k =
+    choice_refuses (is_taken w name) w _ _ (same w) (specialized_refuses name parameters body (specializer_numbers w classes) w k)
 
 defun_refuses : (c : Called) (f : Function) (w : State) (k : ℕ) → Refuses w (define_function c f w k)
 defun_refuses (by_symbol name) f w k =
@@ -93,8 +91,9 @@ defun_refuses (by_symbol name) f w k =
     (choice_refuses (is_some (function_in w.functions name) || has_room w) w (step_then (function_defined name f) w k) _
     (step_refuses (function_defined name f) w k (λ j. tt)) (same w))
 defun_refuses (by_setf name) f w k =
-    choice_refuses (is_some (function_in w.setters name) || has_room w) w (step_then (setter_defined name f) w k) _
-    (step_refuses (setter_defined name f) w k (λ j. tt)) (same w)
+    choice_refuses (is_some (setter_named w.generics name)) w _ _ (same w)
+    (choice_refuses (is_some (function_in w.setters name) || has_room w) w (step_then (setter_defined name f) w k) _
+    (step_refuses (setter_defined name f) w k (λ j. tt)) (same w))
 
 -- an evaluation, and then a step
 then_step_refuses : (w : State) (o : Out) (go : Val → Run) → Kept w o → ((v : Val) (u : State) (j : ℕ) → Refuses u (go v u j)) → Refuses w (then_do o (λ v. step_then (go v)))
@@ -115,8 +114,7 @@ variable_refuses d w k =
 
 performed_refuses : (served : Served) (w : State) (k : ℕ) → Refuses w (performed served w k)
 performed_refuses (DefineClass d) w k = class_refuses d (named w.classes d.name) w k
-performed_refuses (DefineMethod name parameters classes body) w k =
-    choice_refuses (is_some (function_in w.functions name)) w _ _ (same w) (method_refuses name parameters body (specializer_numbers w classes) w k)
+performed_refuses (DefineMethod name parameters classes body) w k = method_refuses name parameters classes body w k
 performed_refuses (DefineFunction name function) w k = defun_refuses (called_of name) function w k
 performed_refuses (DefineVariable d) w k = variable_refuses d w k
 performed_refuses Nothing w k = tt

@@ -1,4 +1,5 @@
 pub mod Definitions
+pub mod Effects
 pub mod Steps
 pub mod StepQuiet
 pub mod Runs

@@ -5,7 +5,9 @@ use Rattle.lisp_data.specs.Name.{Nam}
 use Rattle.lisp_data.specs.Datum.{Dat}
 use Rattle.clos_forms.specs.Form.{Frm, Frms}
 use Rattle.clos_world.specs.Class.{named}
-use Rattle.clos_world.specs.Generic.{function_named}
+use Rattle.clos_world.specs.Generic.{function_named, setter_named}
+use Rattle.clos_forms.specs.declared.operator.FunctionName.{FunctionName}
+use Rattle.clos_world.specs.declared.generic.MethodBody.TheVariants.{Forms}
 use Rattle.clos_world.specs.World.{State, seen}
 use Rattle.clos_world.specs.declared.world.World.{World}
 use Rattle.clos_machine.specs.Calls.{known}
@@ -16,7 +18,7 @@ use Rattle.clos_world.specs.Globals.{is_global}
 use Rattle.clos_world.specs.declared.functions.Function.{Function}
 use Rattle.clos_forms.specs.OperatorView.{called_of}
 use Rattle.lisp_data.specs.Print.{Called, by_symbol, by_setf}
-use Rattle.lisp_data.specs.Value.{Val}
+use Rattle.lisp_data.specs.Value.{Val, class, method}
 use Rattle.clos_syntax.specs.declared.variable.VariableDefinition.{VariableDefinition}
 use Rattle.clos_system.specs.Function.{has_room, define_function}
 use Rattle.clos_system.specs.Variable.{room_below, keeps_value, value_given, new_value, variable_defined}
@@ -24,15 +26,16 @@ use Rattle.clos_machine.specs.Machine.{Answers, leaves}
 use Rattle.clos_world.specs.declared.condition.Stop.{Stop}
 use Rattle.clos_world.specs.declared.condition.Stop.TheVariants.{Refused, Storage}
 use Rattle.clos_class_core.specs.Table.{Refusal}
-use Rattle.clos_class.specs.Table.{refusal}
+use Rattle.clos_class.specs.Table.{number, refusal}
 use Rattle.clos_syntax.specs.declared.class.ClassDefinition.{ClassDefinition}
-use Rattle.clos_system.specs.Class.{define_class, new_class, unless_refused}
-use Rattle.clos_system.specs.Step.{define_method, on_function, new_method, specializer_numbers, performed, served_run, checked, step, room_of}
+use Rattle.clos_system.specs.Class.{accessors_added, define_class, new_class, unless_refused, with_class}
+use Rattle.clos_system.specs.Effect.{is_taken, is_within_limits, method_added, takes_effect}
+use Rattle.clos_system.specs.Method.{define_method, define_specialized, specializer_numbers}
+use Rattle.clos_system.specs.Step.{performed, served_run, checked, step, room_of}
 use Rattle.clos_syntax.specs.Top.{top_of}
 use Rattle.clos_syntax.specs.declared.top.Top.{Top}
 use Rattle.clos_system.specs.Served.{is_combination, served_of}
 use Rattle.clos_world.specs.declared.condition.Condition.{Condition}
-use Rattle.clos_world.specs.declared.generic.Generic.{Generic}
 use Rattle.clos_machine.specs.declared.machine.Task.TheVariants.{Plain}
 use Rattle.clos_system.specs.declared.served.Served.{Served}
 use Rattle.clos_system.specs.declared.served.Served.TheVariants.{DefineClass, DefineMethod, DefineFunction, DefineVariable, Nothing, Expression}
@@ -42,8 +45,12 @@ either : (b : Bool) (x y : Out) (w : State) → leaves x w 0 → leaves y w 0 �
 either true x y w p q = p
 either false x y w p q = q
 
+effect_quiet : (v : Val) (f : State → State) (r : Result State Condition) (w : State) → leaves (takes_effect v f r w 0) w 0
+effect_quiet v f (Err c) w = (refl, refl)
+effect_quiet v f (Ok u) w = either (is_within_limits u) _ _ w (refl, refl) (refl, refl)
+
 class_quiet : (d : ClassDefinition) (o : Option Refusal) (w : State) → leaves (unless_refused d o w 0) w 0
-class_quiet d None w = (refl, refl)
+class_quiet d None w = effect_quiet (class (number w.classes.table d)) (with_class d) (accessors_added (number w.classes.table d) d.slots w) w
 class_quiet d (Some r) w = (refl, refl)
 
 pub new_class_quiet : (d : ClassDefinition) (w : State) → leaves (new_class d w 0) w 0
@@ -53,25 +60,20 @@ define_class_quiet : (d : ClassDefinition) (o : Option ℕ) (w : State) → leav
 define_class_quiet d None w = new_class_quiet d w
 define_class_quiet d (Some n) w = (refl, refl)
 
-method_quiet : (name : Nam) (g : ℕ) (o : Option Generic) (ps : List Nam) (ss : List ℕ) (body : Frms) (w : State) → leaves (new_method name g o ps ss body w 0) w 0
-method_quiet name g None ps ss body w = (refl, refl)
-method_quiet name g (Some old) ps ss body w =
-    either (old.required == length ps) _ _ w (either (nat_lt (length w.methods) w.limits.methods) _ _ w (refl, refl) (refl, refl)) (refl, refl)
+pub specialized_quiet : (name : FunctionName) (ps : List Nam) (body : Frms) (r : Result (List ℕ) Condition) (w : State) → leaves (define_specialized name ps body r w 0) w 0
+specialized_quiet name ps body (Err c) w = (refl, refl)
+specialized_quiet name ps body (Ok ss) w = effect_quiet (method (length w.methods)) (λ u. u) (method_added name (length ps) ss (Forms ps body) w) w
 
-function_quiet : (name : Nam) (o : Option ℕ) (ps : List Nam) (ss : List ℕ) (body : Frms) (w : State) → leaves (on_function name o ps ss body w 0) w 0
-function_quiet name None ps ss body w =
-    either (nat_lt (length w.generics) w.limits.generics && nat_lt (length w.methods) w.limits.methods) _ _ w (refl, refl) (refl, refl)
-function_quiet name (Some g) ps ss body w = method_quiet name g (slice_get w.generics g) ps ss body w
-
-define_method_quiet : (name : Nam) (ps : List Nam) (body : Frms) (r : Result (List ℕ) Condition) (w : State) → leaves (define_method name ps body r w 0) w 0
-define_method_quiet name ps body (Err c) w = (refl, refl)
-define_method_quiet name ps body (Ok ss) w = function_quiet name (function_named w.generics name) ps ss body w
+pub define_method_quiet : (name : FunctionName) (ps cs : List Nam) (body : Frms) (w : State) → leaves (define_method name ps cs body w 0) w 0
+define_method_quiet name ps cs body w = either (is_taken w name) _ _ w (refl, refl) (specialized_quiet name ps body (specializer_numbers w cs) w)
 
 function_defined_quiet : (c : Called) (f : Function) (w : State) → leaves (define_function c f w 0) w 0
 function_defined_quiet (by_symbol name) f w =
     either (is_some (function_named w.generics name)) _ _ w (refl, refl)
     (either (is_some (function_in w.functions name) || has_room w) _ _ w (refl, refl) (refl, refl))
-function_defined_quiet (by_setf name) f w = either (is_some (function_in w.setters name) || has_room w) _ _ w (refl, refl) (refl, refl)
+function_defined_quiet (by_setf name) f w =
+    either (is_some (setter_named w.generics name)) _ _ w (refl, refl)
+    (either (is_some (function_in w.setters name) || has_room w) _ _ w (refl, refl) (refl, refl))
 
 -- an evaluation with no step left, and then a step
 then_step_quiet : (o : Out) (go : Val → Run) (w : State) → leaves o w 0 → leaves (then_do o (λ v. step_then (go v))) w 0
@@ -93,7 +95,7 @@ variable_quiet d w =
 performed_quiet : (served : Served) (w : World) → leaves (performed served (seen w) 0) (seen w) 0
 performed_quiet (DefineClass d) w = define_class_quiet d (named (seen w).classes d.name) (seen w)
 performed_quiet (DefineMethod name ps cs body) w =
-    either (is_some (function_in (seen w).functions name)) _ _ (seen w) (refl, refl) (define_method_quiet name ps body (specializer_numbers (seen w) cs) (seen w))
+    define_method_quiet name ps cs body (seen w)
 performed_quiet (DefineFunction name function) w = function_defined_quiet (called_of name) function (seen w)
 performed_quiet (DefineVariable d) w = variable_quiet d w
 performed_quiet Nothing w = (refl, refl)

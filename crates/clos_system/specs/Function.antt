@@ -3,12 +3,12 @@ use Rattle.std.specs.Prelude.{◌+◌, ◌||◌, nat_lt, Bool, [], is_some, leng
 use Rattle.lisp_data.specs.Name.{Nam}
 use Rattle.lisp_data.specs.Print.{Called, by_symbol, by_setf}
 use Rattle.clos_forms.specs.Quotation.{name_value}
+use Rattle.clos_world.specs.FunctionName.{setter_value}
 use Rattle.clos_world.specs.Functions.{function_in, with_function}
-use Rattle.clos_world.specs.Generic.{function_named}
+use Rattle.clos_world.specs.Generic.{function_named, setter_named}
 use Rattle.clos_world.specs.World.{State}
 use Rattle.clos_world.specs.declared.condition.ConditionKind.TheVariants.{ProgramError, TableLimit}
 use Rattle.clos_world.specs.declared.functions.Function.{Function}
-use Rattle.clos_machine.specs.Calls.{setter_value}
 use Rattle.clos_machine.specs.Outcome.{Gave, Run, stopped, step_then}
 
 -- one more function may be defined
@@ -30,7 +30,9 @@ new_function_defined name f w k =
 
 abbrev pub new_setter_defined : Nam → Function → Run
 new_setter_defined name f w k =
-    if is_some (function_in w.setters name) || has_room w then step_then (setter_defined name f) w k else stopped TableLimit [] w k
+    if is_some (setter_named w.generics name) then stopped ProgramError [] w k
+    else if is_some (function_in w.setters name) || has_room w then step_then (setter_defined name f) w k
+    else stopped TableLimit [] w k
 
 abbrev pub define_function : Called → Function → Run
 define_function (by_symbol name) f w k = new_function_defined name f w k

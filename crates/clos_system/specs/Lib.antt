@@ -1,4 +1,6 @@
 pub mod Served
+pub mod Effect
+pub mod Method
 pub mod Class
 pub mod Function
 pub mod Variable

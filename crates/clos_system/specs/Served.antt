@@ -12,6 +12,8 @@ use Rattle.clos_lambda.specs.declared.lambda_list.LambdaList.{LambdaList}
 use Rattle.clos_lambda.specs.declared.lambda_list.Optional.{Optional}
 use Rattle.clos_syntax.specs.Method.{t_name}
 use Rattle.clos_syntax.specs.declared.class.ClassDefinition.{ClassDefinition}
+use Rattle.clos_syntax.specs.declared.slot.Accessor.{Accessor}
+use Rattle.clos_syntax.specs.declared.slot.Accessor.TheVariants.{Reader, Writer}
 use Rattle.clos_syntax.specs.declared.slot.SlotSpecifier.{SlotSpecifier}
 use Rattle.clos_syntax.specs.declared.function.FunctionDefinition.{FunctionDefinition}
 use Rattle.clos_syntax.specs.declared.variable.VariableDefinition.{VariableDefinition}
@@ -88,17 +90,23 @@ abbrev mutual
 
 -- ---- top-level forms
 
-abbrev pub is_empty : {A : Type 0} → List A → Bool
-is_empty [] = true
-is_empty (x ∷ xs) = false
-
 abbrev pub is_served_if_any : Option Frm → Bool
 is_served_if_any None = true
 is_served_if_any (Some f) = is_served f
 
--- a slot of each instance, without accessors, whose initform is served
+-- whether it is the name of a generic function of the system
+abbrev pub names_system : FunctionName → Bool
+names_system (Symbol n) = is_one_of system_functions n
+names_system (Setf n) = false
+
+-- whether it is a method on a generic function of the system
+abbrev pub is_system_accessor : Accessor → Bool
+is_system_accessor (Reader n) = is_one_of system_functions n
+is_system_accessor (Writer f) = names_system f
+
+-- a slot of each instance, whose accessors are the program's functions, and whose initform is served
 abbrev pub is_plain_slot : SlotSpecifier → Bool
-is_plain_slot s = not (is_shared s.allocation) && is_empty s.accessors && is_served_if_any s.initform
+is_plain_slot s = not (is_shared s.allocation) && not (list_any is_system_accessor s.accessors) && is_served_if_any s.initform
 
 -- a class whose slots are plain, and whose default initargs have forms that are served
 abbrev pub is_plain_class : ClassDefinition → Bool
@@ -113,11 +121,6 @@ is_no_data (datum.cons d l) = false
 
 abbrev pub is_plain : Dats → LambdaList → Frms → Bool
 is_plain qualifiers l body = is_no_data qualifiers && requires_only l && are_served body
-
--- a symbol that names no generic function of the system
-abbrev pub served_name : FunctionName → Option Nam
-served_name (Symbol n) = if is_one_of system_functions n then None else Some n
-served_name (Setf n) = None
 
 abbrev pub is_eql : ParameterSpecializer → Bool
 is_eql (Class n) = false
@@ -135,8 +138,8 @@ classes_named ss = if list_any is_eql ss then None else Some (map class_name ss)
 -- an unqualified method on classes, of required parameters alone, with a body that is served
 abbrev pub served_method : FunctionName → MethodDefinition → Option Served
 served_method f m =
-    if is_plain m.qualifiers m.lambda_list m.body
-    then (served_name f >>= λ n. classes_named m.specializers >>= λ cs. Some (DefineMethod n m.lambda_list.required cs m.body))
+    if not (names_system f) && is_plain m.qualifiers m.lambda_list m.body
+    then (classes_named m.specializers >>= λ cs. Some (DefineMethod f m.lambda_list.required cs m.body))
     else None
 
 -- an init form that is not served

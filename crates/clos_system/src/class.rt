@@ -1,21 +1,31 @@
 //! What a `defclass` does (HyperSpec 7.7). It takes one step for the whole of its effect; what is refused takes none.
-ghost use Rattle.std.specs.Prelude.{◌≡◌, IfOk, IfErr, Option, option_map, Some};
+ghost use Rattle.std.specs.Prelude.{◌≡◌, IfOk, IfErr, OnErr, Option, option_map, None, Some};
+ghost use Rattle.clos_class.specs.Table.{number, refusal};
 ghost use Rattle.clos_class_core.specs.Table.{Refusal};
 ghost use Rattle.clos_class_core.specs.TableView.{Refuses};
+ghost use Rattle.clos_world.specs.Adding.{all_taken_back};
 ghost use Rattle.clos_world.specs.Class.{named};
 ghost use Rattle.clos_world.specs.World.{seen};
 ghost use Rattle.clos_world.specs.declared.condition.Stop.TheVariants.{Storage};
 ghost use Rattle.clos_machine.specs.Machine.{Answers};
-ghost use Rattle.clos_system.specs.Class.{StopsFor, condition_for, define_class, new_class};
+ghost use Rattle.clos_system.specs.Class.{Defines, StopsFor, accessor_added, accessor_body, accessor_name, accessor_required, accessor_specializers, accessors_added, condition_for, define_class, new_class, slot_accessors_added};
+ghost use Rattle.clos_system.specs.Effect.{AddsAs};
 
+use crate::effect::{add_method, allow, is_taken};
 use clos_class::ClassFault;
-use clos_syntax::ClassDefinition;
-use clos_world::{Condition, ConditionKind, Stop, World, about_name, about_names, plain};
-use lisp_data::{Name, Value};
-use std::alloc::Global;
+use clos_class_core::numbers;
+use clos_forms::FunctionName;
+use clos_syntax::{Accessor, ClassDefinition, SlotSpecifier};
+use clos_world::{
+    Additions, ClassIds, Condition, ConditionKind, MethodBody, Stop, World, about_name,
+    about_names, plain, take_all_back,
+};
+use lisp_data::{ClassId, Name, Value};
+use std::alloc::{AllocError, Global};
 
-/// Defines a class of a new name. Some of its direct superclasses may not be defined yet, and none of its slots is shared.
-#[tactic(auto, using(crate::proofs::Refusing::class_refused))]
+/// Defines a class of a new name, with the methods of its accessors. Some of its direct superclasses may not be defined yet,
+/// and none of its slots is shared.
+#[tactic(auto, using(crate::proofs::Refusing::of_new_name))]
 pub fn defclass(
     alloc: Global,
     world: &mut World,
@@ -27,26 +37,190 @@ pub fn defclass(
     if world.classes.named(&definition.name).is_some() {
         return Err(Stop::Refused(plain(alloc, ConditionKind::Unsupported)));
     }
-    if *steps == 0 {
-        return Err(why_not(alloc, world, definition));
-    }
-    match world.classes.define(alloc, definition, &[]) {
+    define_new(alloc, world, definition, steps)
+}
+
+/// Defines a class of a new name.
+#[tactic(auto, using(crate::proofs::Refusing::new_class_refused, crate::proofs::Refusing::class_stands, crate::proofs::Refusing::class_falls))]
+fn define_new(
+    alloc: Global,
+    world: &mut World,
+    definition: &ClassDefinition,
+    steps: &mut u64,
+) -> Result<Value, Stop>
+    ensures { Answers (new_class definition.now) (seen world.old) steps.old result (seen world.new) steps.new }
+{
+    match world.classes.reserve(alloc, definition) {
         Err(fault) => Err(stop_for(alloc, &definition.name, fault)),
-        Ok(changed) => {
-            *steps -= 1;
-            Ok(Value::Class(changed.class))
+        Ok(reserved) => {
+            let mut additions = Additions::new(alloc);
+            match define_with_accessors(
+                alloc,
+                world,
+                &mut additions,
+                definition,
+                reserved.class,
+                steps,
+            ) {
+                Ok(()) => Ok(Value::Class(reserved.class)),
+                Err(stop) => {
+                    take_all_back(world, additions);
+                    Err(stop)
+                }
+            }
         }
     }
 }
 
-/// Why a class is not defined where no step is left: the definition is refused, or else the step.
-#[tactic(auto, using(crate::proofs::Refusing::new_class_refused))]
-fn why_not(alloc: Global, world: &mut World, definition: &ClassDefinition) -> Stop
-    ensures { Answers (new_class definition.now) (seen world.old) 0 (Err result) (seen world.new) 0 }
+/// Adds the methods of the accessors, and then the class, which has this number. What was added is told where the class is not
+/// defined.
+#[tactic(auto, using(crate::proofs::Effects::refused_effect, crate::proofs::Effects::allowed_effect, crate::proofs::Effects::no_effect))]
+fn define_with_accessors(
+    alloc: Global,
+    world: &mut World,
+    additions: &mut Additions,
+    definition: &ClassDefinition,
+    class: ClassId,
+    steps: &mut u64,
+) -> Result<(), Stop>
+    requires number { class.0 ≡ number (seen world.old).classes.table definition.now }
+    requires accepted { refusal (seen world.old).classes.table definition.now ≡ None }
+    ensures defined { Defines definition.now (seen world.old) steps.old result (seen world.new) steps.new }
+    ensures back { OnErr result ((all_taken_back additions.new (seen world.new) ≡ all_taken_back additions.old (seen world.old)) × (steps.new ≡ steps.old)) }
 {
-    match world.classes.reserve(alloc, definition) {
-        Err(fault) => stop_for(alloc, &definition.name, fault),
-        Ok(_reserved) => Stop::Refused(plain(alloc, ConditionKind::StepLimit)),
+    match add_accessors(alloc, world, additions, class, definition.slots.as_slice()) {
+        Err(stop) => Err(stop),
+        Ok(()) => match allow(alloc, world, *steps) {
+            Err(stop) => Err(stop),
+            Ok(()) => {
+                let Ok(_) = world.classes.define(alloc, definition, &[]) else {
+                    return Err(Stop::Storage);
+                };
+                *steps -= 1;
+                Ok(())
+            }
+        },
+    }
+}
+
+/// Adds the methods of the accessors of these slots.
+fn add_accessors(
+    alloc: Global,
+    world: &mut World,
+    additions: &mut Additions,
+    class: ClassId,
+    slots: &[SlotSpecifier],
+) -> Result<(), Stop>
+    ensures adds { AddsAs (accessors_added class.0 slots.now (seen world.old)) (seen world.old) result (seen world.new) }
+    ensures back { all_taken_back additions.new (seen world.new) ≡ all_taken_back additions.old (seen world.old) }
+    ensures classes { (seen world.new).classes ≡ (seen world.old).classes }
+{
+    for slot in slots {
+        match add_slot_accessors(
+            alloc,
+            world,
+            additions,
+            class,
+            &slot.name,
+            slot.accessors.as_slice(),
+        ) {
+            Ok(()) => {}
+            Err(stop) => return Err(stop),
+        }
+    }
+    Ok(())
+}
+
+/// Adds the methods of these accessors of a slot.
+fn add_slot_accessors(
+    alloc: Global,
+    world: &mut World,
+    additions: &mut Additions,
+    class: ClassId,
+    slot: &Name,
+    accessors: &[Accessor],
+) -> Result<(), Stop>
+    ensures adds { AddsAs (slot_accessors_added class.0 slot.now accessors.now (seen world.old)) (seen world.old) result (seen world.new) }
+    ensures back { all_taken_back additions.new (seen world.new) ≡ all_taken_back additions.old (seen world.old) }
+    ensures classes { (seen world.new).classes ≡ (seen world.old).classes }
+{
+    for accessor in accessors {
+        match add_accessor(alloc, world, additions, class, slot, accessor) {
+            Ok(()) => {}
+            Err(stop) => return Err(stop),
+        }
+    }
+    Ok(())
+}
+
+/// Adds the method of an accessor of a slot.
+fn add_accessor(
+    alloc: Global,
+    world: &mut World,
+    additions: &mut Additions,
+    class: ClassId,
+    slot: &Name,
+    accessor: &Accessor,
+) -> Result<(), Stop>
+    ensures adds { AddsAs (accessor_added class.0 slot.now accessor.now (seen world.old)) (seen world.old) result (seen world.new) }
+    ensures back { all_taken_back additions.new (seen world.new) ≡ all_taken_back additions.old (seen world.old) }
+    ensures classes { (seen world.new).classes ≡ (seen world.old).classes }
+{
+    let name = accessor_name(accessor)?;
+    if is_taken(world, &name) {
+        return Err(Stop::Refused(plain(alloc, ConditionKind::ProgramError)));
+    }
+    let specializers = accessor_specializers(alloc, class, accessor)?;
+    let body = accessor_body(slot, accessor)?;
+    let required = accessor_required(accessor);
+    add_method(alloc, world, additions, name, required, specializers, body)
+}
+
+/// How many required parameters the method of an accessor has.
+fn accessor_required(accessor: &Accessor) -> u64
+    ensures { result ≡ accessor_required accessor.now }
+{
+    match accessor {
+        Accessor::Reader(_) => 1,
+        Accessor::Writer(_) => 2,
+    }
+}
+
+/// The classes on which it is specialized.
+fn accessor_specializers(
+    alloc: Global,
+    class: ClassId,
+    accessor: &Accessor,
+) -> Result<ClassIds, AllocError>
+    ensures { IfOk result (λ r. r ≡ accessor_specializers class.0 accessor.now) }
+{
+    let mut specializers = ClassIds::new(alloc);
+    match accessor {
+        Accessor::Reader(_) => {}
+        Accessor::Writer(_) => specializers.push(numbers::T)?,
+    }
+    specializers.push(class)?;
+    Ok(specializers)
+}
+
+/// What it does with the slot.
+fn accessor_body(slot: &Name, accessor: &Accessor) -> Result<MethodBody, AllocError>
+    ensures { IfOk result (λ r. r ≡ accessor_body slot.now accessor.now) }
+{
+    match accessor {
+        Accessor::Reader(_) => Ok(MethodBody::Reader(slot.copy()?)),
+        Accessor::Writer(_) => Ok(MethodBody::Writer(slot.copy()?)),
+    }
+}
+
+/// The name of the function that an accessor is a method of.
+fn accessor_name(accessor: &Accessor) -> Result<FunctionName, AllocError>
+    ensures { IfOk result (λ r. r ≡ accessor_name accessor.now) }
+{
+    match accessor {
+        Accessor::Reader(name) => Ok(FunctionName::Symbol(name.copy()?)),
+        Accessor::Writer(FunctionName::Symbol(name)) => Ok(FunctionName::Symbol(name.copy()?)),
+        Accessor::Writer(FunctionName::Setf(name)) => Ok(FunctionName::Setf(name.copy()?)),
     }
 }
 

@@ -4,13 +4,11 @@ ghost use Rattle.lisp_data.specs.ValueView.{value_of};
 ghost use Rattle.clos_forms.specs.OperatorView.{called_of};
 ghost use Rattle.clos_forms.specs.Quotation.{name_value};
 ghost use Rattle.clos_world.specs.World.{seen};
-ghost use Rattle.clos_machine.specs.Calls.{setter_value};
 ghost use Rattle.clos_machine.specs.Machine.{Answers};
 ghost use Rattle.clos_system.specs.Function.{define_function, new_function_defined, new_setter_defined, has_room};
 
-use clos_eval::setter_value;
 use clos_forms::{FunctionName, value_named};
-use clos_world::{ConditionKind, Function, Stop, World, plain};
+use clos_world::{ConditionKind, Function, Stop, World, plain, setter_value};
 use lisp_data::{Name, Value};
 use std::alloc::Global;
 
@@ -78,6 +76,9 @@ fn define_setter(
 ) -> Result<Value, Stop>
     ensures { Answers (new_setter_defined name function) (seen world.old) steps.old result (seen world.new) steps.new }
 {
+    if world.generics.setter(&name).is_some() {
+        return Err(Stop::Refused(plain(alloc, ConditionKind::ProgramError)));
+    }
     if world.setters.get(&name).is_none() && !has_room(world) {
         return Err(Stop::Refused(plain(alloc, ConditionKind::TableLimit)));
     }

@@ -2,6 +2,7 @@
 #![tactic(auto)]
 
 mod class;
+mod effect;
 mod function;
 mod method;
 mod served;

@@ -7,14 +7,15 @@ ghost use Rattle.clos_forms.specs.Form.{Frm, Frms};
 ghost use Rattle.clos_forms.specs.OperatorView.{called_of, operator_of};
 ghost use Rattle.clos_lambda.specs.LambdaList.{entries_of};
 ghost use Rattle.clos_class.specs.Table.{is_shared};
-ghost use Rattle.clos_system.specs.Served.{are_served, calls, class_name, classes_named, is_combination, is_empty, is_eql, is_plain, is_plain_class, is_plain_slot, is_served, is_unserved, are_inits_served, served_class, served_function, served_method, served_name, served_of, served_variable, serves, names_served, is_served_as, is_served_if_any};
+ghost use Rattle.clos_system.specs.Served.{are_served, calls, class_name, classes_named, is_combination, is_eql, is_plain, is_plain_class, is_plain_slot, is_served, is_unserved, are_inits_served, served_class, served_function, served_method, served_of, names_system, is_system_accessor, served_variable, serves, names_served, is_served_as, is_served_if_any};
 
 use clos_forms::{Form, Forms, FunctionName, Operator, is_function, is_system_function, is_the};
 use clos_machine::callee::{Callee, callee_named};
 use clos_machine::parameters::requires_only;
 use clos_syntax::{
-    Allocation, ClassDefinition, DefaultInitarg, FunctionDefinition, Key, Keys, LambdaList,
-    MethodDefinition, Optional, ParameterSpecializer, SlotSpecifier, Top, VariableDefinition,
+    Accessor, Allocation, ClassDefinition, DefaultInitarg, FunctionDefinition, Key, Keys,
+    LambdaList, MethodDefinition, Optional, ParameterSpecializer, SlotSpecifier, Top,
+    VariableDefinition,
 };
 use clos_world::{Function, Parameters};
 use lisp_data::{Data, Datum, Name};
@@ -23,10 +24,10 @@ use std::alloc::{AllocError, Global};
 /// A top-level form that is served.
 #[derive(Drop)]
 pub enum Served {
-    /// A class, none of whose slots is shared or has accessors.
+    /// A class, none of whose slots is shared.
     DefineClass(ClassDefinition),
     /// A method of the function of this name: its parameters, the names of their classes, and its body.
-    DefineMethod(Name, Parameters, Parameters, Forms),
+    DefineMethod(FunctionName, Parameters, Parameters, Forms),
     /// A function of this name.
     DefineFunction(FunctionName, Function),
     /// A global variable.
@@ -97,11 +98,41 @@ fn are_plain_slots(slots: &[SlotSpecifier]) -> bool
     slots.iter().all(|slot| is_plain_slot(slot))
 }
 
-/// A slot of each instance, without accessors, whose initform is served.
+/// A slot of each instance, whose accessors are the program's functions, and whose initform is served.
 fn is_plain_slot(slot: &SlotSpecifier) -> bool
     ensures { result ≡ is_plain_slot slot.now }
 {
-    !is_shared(slot.allocation) && slot.accessors.len() == 0 && is_served_if_any(&slot.initform)
+    !is_shared(slot.allocation)
+        && !has_system_accessor(slot.accessors.as_slice())
+        && is_served_if_any(&slot.initform)
+}
+
+fn has_system_accessor(accessors: &[Accessor]) -> bool
+    ensures { result ≡ list_any is_system_accessor accessors.now }
+{
+    accessors
+        .iter()
+        .any(|accessor| is_system_accessor(accessor))
+}
+
+/// Whether it is a method on a generic function of the system.
+fn is_system_accessor(accessor: &Accessor) -> bool
+    ensures { result ≡ is_system_accessor accessor.now }
+{
+    match accessor {
+        Accessor::Reader(name) => is_system_function(name),
+        Accessor::Writer(name) => names_system(name),
+    }
+}
+
+/// Whether it is the name of a generic function of the system.
+fn names_system(name: &FunctionName) -> bool
+    ensures { result ≡ names_system name.now }
+{
+    match name {
+        FunctionName::Symbol(name) => is_system_function(name),
+        FunctionName::Setf(_) => false,
+    }
 }
 
 fn is_shared(allocation: Allocation) -> bool
@@ -133,12 +164,9 @@ fn serve_method(
         specializers,
         body,
     } = method;
-    if !is_plain(&qualifiers, &lambda_list, &body) {
+    if names_system(&name) || !is_plain(&qualifiers, &lambda_list, &body) {
         return Ok(None);
     }
-    let Some(name) = served_name(name) else {
-        return Ok(None);
-    };
     let Some(classes) = classes_named(alloc, specializers.as_slice())? else {
         return Ok(None);
     };
@@ -220,21 +248,6 @@ fn is_served_if_any(form: &Option<Form>) -> bool
     match form {
         None => true,
         Some(form) => is_served(form),
-    }
-}
-
-/// A symbol that names no function of the system.
-fn served_name(name: FunctionName) -> Option<Name>
-    ensures { result ≡ served_name name }
-{
-    match name {
-        FunctionName::Symbol(name) => {
-            if is_system_function(&name) {
-                return None;
-            }
-            Some(name)
-        }
-        FunctionName::Setf(_) => None,
     }
 }
 

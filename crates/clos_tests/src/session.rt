@@ -397,7 +397,7 @@ fn summary_of(
     Ok(run(alloc, &mut session, &mut source, output, echo)?)
 }
 
-/// Asserts what a text writes in a session of this setting, and that it has a condition where that is told.
+/// Asserts what a text writes in a session of this setting, and that it has the conditions that are told.
 fn writes(
     rt: &impl Abort,
     alloc: Global,
@@ -415,7 +415,7 @@ fn writes(
     );
     assert_eq!(rt;
         summary.conditions,
-        u64::from(output.contains("; ")),
+        output.split("; ").count() as u64 - 1,
         "conditions of {text}"
     );
     assert_eq!(rt; summary.storages, 0, "refused memory in {text}");

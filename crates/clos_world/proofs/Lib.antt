@@ -2,3 +2,4 @@ pub mod Lists
 pub mod Variables
 pub mod Order
 pub mod Indexed
+pub mod TakenBack

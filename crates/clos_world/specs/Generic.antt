@@ -2,12 +2,28 @@
 use Rattle.std.specs.Prelude.{ℕ, ◌==◌, List, [], ◌∷◌, Bool, true, false, ◌&&◌, if◌then◌else◌, Option, Some, None, slice_get, position}
 use Rattle.std.specs.List.{list_any}
 use Rattle.lisp_data.specs.Name.{Nam, same_name}
+use Rattle.clos_forms.specs.declared.operator.FunctionName.{FunctionName}
+use Rattle.clos_forms.specs.declared.operator.FunctionName.TheVariants.{Symbol, Setf}
 use Rattle.clos_world.specs.declared.generic.Method.{Method}
 use Rattle.clos_world.specs.declared.generic.Generic.{Generic}
 
+abbrev pub same_function : FunctionName → FunctionName → Bool
+same_function (Symbol a) (Symbol b) = same_name a b
+same_function (Symbol a) (Setf b) = false
+same_function (Setf a) (Symbol b) = false
+same_function (Setf a) (Setf b) = same_name a b
+
 -- the number of the generic function of this name
+abbrev pub generic_named : List Generic → FunctionName → Option ℕ
+generic_named generics name = position (λ g. same_function g.name name) generics
+
+-- of the one that a symbol names
 abbrev pub function_named : List Generic → Nam → Option ℕ
-function_named generics name = position (λ g. same_name g.name name) generics
+function_named generics name = generic_named generics (Symbol name)
+
+-- of the one of the name (setf name)
+abbrev pub setter_named : List Generic → Nam → Option ℕ
+setter_named generics name = generic_named generics (Setf name)
 
 -- the numbers of the classes on which a method is specialised
 abbrev pub specializers_in : Option Method → List ℕ

@@ -10,4 +10,6 @@ pub mod GlobalsView
 pub mod Functions
 pub mod World
 pub mod Initial
+pub mod FunctionName
+pub mod Adding
 pub mod Definitions

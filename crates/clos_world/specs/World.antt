@@ -2,7 +2,8 @@
 use Rattle.std.specs.Prelude.{ℕ, List, [], ◌∷◌, Option, Some, None, codes, map, reverse, take, option_map, unwrap_or, slice_get, if◌then◌else◌}
 use Rattle.lisp_data.specs.Name.{Nam, same_name}
 use Rattle.lisp_data.specs.Value.{Val, integer, symbol, string, list, class, generic, method, instance, nil, cons}
-use Rattle.lisp_data.specs.Print.{Names, MethodParts, by_symbol, on_class}
+use Rattle.lisp_data.specs.Print.{Names, MethodParts, on_class}
+use Rattle.clos_forms.specs.OperatorView.{called_of}
 use Rattle.clos_world.specs.declared.generic.Generic.{Generic}
 use Rattle.clos_world.specs.declared.generic.Method.{Method}
 use Rattle.clos_world.specs.declared.limits.Limits.{Limits}
@@ -90,7 +91,7 @@ parts_of m = record { generic = m.generic.0; qualifiers = []; specializers = map
 abbrev pub names_of : State → Names
 names_of w = record {
   class = λ n. class_name w.classes n;
-  generic = λ n. option_map (λ g. by_symbol g.name) (slice_get w.generics n);
+  generic = λ n. option_map (λ g. called_of g.name) (slice_get w.generics n);
   method = λ n. option_map parts_of (slice_get w.methods n);
   class_of = λ i. class_of_instance w i;
 }

@@ -2,12 +2,14 @@
 ghost use Rattle.std.specs.Prelude.{◌≡◌, ◌∷◌, [], IfOk, map};
 ghost use Rattle.lisp_data.specs.ValueView.{value_of};
 ghost use Rattle.clos_forms.specs.Quotation.{name_value};
+ghost use Rattle.clos_world.specs.FunctionName.{called_value};
 ghost use Rattle.clos_world.specs.Condition.{number_of, condition_name};
 ghost use Rattle.clos_world.specs.declared.condition.Condition.{Condition};
 ghost use Rattle.clos_world.specs.declared.condition.Stop.TheVariants.{Storage};
 
+use crate::function_name::called_value;
 use crate::values::Values;
-use clos_forms::value_named;
+use clos_forms::{FunctionName, value_named};
 use lisp_data::{Name, Value};
 use std::alloc::{AllocError, AllocFailed, Global};
 
@@ -179,17 +181,17 @@ pub fn about_both(
     Ok(Condition { kind, items })
 }
 
-/// The condition of this kind that is about a function's name and these arguments.
+/// The condition of this kind that is about a function of this name and these arguments.
 pub fn about_call(
     alloc: Global,
     kind: ConditionKind,
-    name: &Name,
+    name: &FunctionName,
     arguments: &[Value],
 ) -> Result<Condition, AllocError>
-    ensures { IfOk result (λ c. c ≡ record { kind = kind; items = name_value name.now ∷ map value_of arguments.now }) }
+    ensures { IfOk result (λ c. c ≡ record { kind = kind; items = called_value name.now ∷ map value_of arguments.now }) }
 {
     let mut items = Values::new(alloc);
-    items.push(value_named(name)?)?;
+    items.push(called_value(alloc, name)?)?;
     for argument in arguments {
         items.push(argument.copy()?)?;
     }

@@ -1,18 +1,20 @@
 //! Generic functions and their methods (HyperSpec 7.6.1, 7.6.2).
-ghost use Rattle.std.specs.Prelude.{◌≡◌, ◌<◌, ◌≤◌, ◌++◌, ◌∷◌, [], Some, IfOk, OnOk, OnErr, if◌then◌else◌, is_ok, option_map, option_copied, length, slice_index, slice_get, slice_set, insert, remove};
+ghost use Rattle.std.specs.Prelude.{◌≡◌, ◌<◌, ◌≤◌, ◌++◌, ◌∷◌, ◌-◌, [], Some, None, IfOk, IfSome, OnOk, OnErr, if◌then◌else◌, is_ok, option_map, option_copied, length, slice_index, slice_get, slice_set, take, insert, remove};
 ghost use Rattle.std.specs.Option.{option_or};
 ghost use Rattle.std.specs.HashMap.{get};
 ghost use Rattle.lisp_data.specs.Name.{Nam, same_name};
-ghost use Rattle.clos_world.specs.Generic.{function_named};
-ghost use Rattle.clos_world.specs.GenericsView.{noted};
+ghost use Rattle.clos_forms.specs.declared.operator.FunctionName.TheVariants.{Symbol, Setf};
+ghost use Rattle.clos_world.specs.Generic.{function_named, generic_named, setter_named};
+ghost use Rattle.clos_world.specs.GenericsView.{noted, without_number};
 ghost use Rattle.clos_world.specs.declared.generic.Generic.{Generic};
 
 use crate::class_ids::ClassIds;
-use clos_forms::Forms;
+use clos_forms::{Forms, FunctionName};
 use lisp_data::{GenericId, MethodId, Name};
 use std::alloc::{AllocError, Global};
 use std::collections::HashMap;
 use std::marker::Model;
+use std::mem;
 use std::rc::Rc;
 
 /// The numbers of some methods, in an order. Contracts see the list.
@@ -136,19 +138,29 @@ impl Parameters {
     }
 }
 
+/// What a method does with its arguments.
+#[derive(Drop)]
+pub enum MethodBody {
+    /// These parameters are bound to them, and the forms are evaluated.
+    Forms(Parameters, Forms),
+    /// Reads the slot of this name (HyperSpec 7.5.2).
+    Reader(Name),
+    /// Writes it.
+    Writer(Name),
+}
+
 /// A method (HyperSpec 7.6.2).
 #[derive(Drop)]
 pub struct Method {
     pub generic: GenericId,
     pub specializers: ClassIds,
-    pub parameters: Parameters,
-    pub body: Forms,
+    pub body: MethodBody,
 }
 
 /// A generic function (HyperSpec 7.6.1).
 #[derive(Drop)]
 pub struct Generic {
-    pub name: Name,
+    pub name: FunctionName,
     /// How many required parameters it has.
     pub required: u64,
     /// In order of addition.
@@ -160,8 +172,10 @@ pub struct Generic {
 #[derive(Drop)]
 pub struct Generics {
     functions: Vec<Generic>,
-    /// Of each name the first function that has it.
-    index: HashMap<Name, GenericId>,
+    /// Of each symbol the first function that it names.
+    symbols: HashMap<Name, GenericId>,
+    /// Of each name `(setf name)` the first function that has it, by that name.
+    setters: HashMap<Name, GenericId>,
 }
 
 impl Model for Generics {
@@ -176,22 +190,52 @@ impl Model for Generics {
 
     ghost view = { λ a. a.functions.items };
 
+    ghost use Rattle.clos_forms.specs.declared.operator.FunctionName.TheVariants.{Symbol, Setf};
     ghost use Rattle.clos_world.specs.GenericsView.{IsIndexed};
     ghost use Rattle.std.specs.HashMap.{get};
     ghost use Rattle.lisp_data.specs.Name.{same_name};
 
-    ghost invariant = { λ a. IsIndexed a.functions.items (λ n. get same_name a.index n) };
+    ghost invariant = { λ a. IsIndexed a.functions.items Symbol (λ n. get same_name a.symbols n) × IsIndexed a.functions.items Setf (λ n. get same_name a.setters n) };
 }
 
 /// Notes the number of a function under its name, unless the name has one.
+fn note_function(
+    symbols: &mut HashMap<Name, GenericId>,
+    setters: &mut HashMap<Name, GenericId>,
+    name: &FunctionName,
+    id: GenericId,
+) -> Result<(), AllocError>
+    ensures symbols { OnOk result ((n : Nam) → get same_name symbols.new n ≡ option_or (get same_name symbols.old n) (noted name.now id (Symbol n))) }
+    ensures setters { OnOk result ((n : Nam) → get same_name setters.new n ≡ option_or (get same_name setters.old n) (noted name.now id (Setf n))) }
+    ensures err_symbols { OnErr result ((n : Nam) → get same_name symbols.new n ≡ get same_name symbols.old n) }
+    ensures err_setters { OnErr result ((n : Nam) → get same_name setters.new n ≡ get same_name setters.old n) }
+{
+    match name {
+        FunctionName::Symbol(name) => note(symbols, name, id),
+        FunctionName::Setf(name) => note(setters, name, id),
+    }
+}
+
+/// Notes a number under a name, unless the name has one.
 fn note(index: &mut HashMap<Name, GenericId>, name: &Name, id: GenericId) -> Result<(), AllocError>
-    ensures ok { OnOk result ((n : Nam) → get same_name index.new n ≡ option_or (get same_name index.old n) (noted name.now id n)) }
+    ensures ok { OnOk result ((n : Nam) → get same_name index.new n ≡ option_or (get same_name index.old n) (if same_name name.now n then Some id else None)) }
     ensures err { OnErr result ((n : Nam) → get same_name index.new n ≡ get same_name index.old n) }
 {
     if !index.contains_key(name) {
         index.insert(name.copy()?, id)?;
     }
     Ok(())
+}
+
+/// Forgets this name, if it has this number.
+fn forget(index: &mut HashMap<Name, GenericId>, name: &Name, id: GenericId)
+    ensures { (n : Nam) → get same_name index.new n ≡ without_number name.now id.0 (get same_name index.old) n }
+{
+    if let Some(found) = index.get(name).copied() {
+        if found.0 == id.0 {
+            let _ = index.remove(name);
+        }
+    }
 }
 
 impl Generics {
@@ -201,7 +245,8 @@ impl Generics {
     {
         Generics {
             functions: Vec::new(alloc),
-            index: HashMap::new(alloc),
+            symbols: HashMap::new(alloc),
+            setters: HashMap::new(alloc),
         }
     }
 
@@ -219,11 +264,29 @@ impl Generics {
         self.functions.get(id.0 as usize)
     }
 
-    /// The number of the function of this name.
+    /// The number of the function that this symbol names.
     pub fn named(&self, name: &Name) -> Option<GenericId>
         ensures { option_map (λ g. g.0) result ≡ function_named self.now name.now }
     {
-        self.index.get(name).copied()
+        self.symbols.get(name).copied()
+    }
+
+    /// The number of the function `(setf name)`.
+    pub fn setter(&self, name: &Name) -> Option<GenericId>
+        ensures { option_map (λ g. g.0) result ≡ setter_named self.now name.now }
+    {
+        self.setters.get(name).copied()
+    }
+
+    /// The number of the function of this name.
+    pub fn find(&self, name: &FunctionName) -> Option<GenericId>
+        ensures found { option_map (λ g. g.0) result ≡ generic_named self.now name.now }
+        ensures within { IfSome result (λ g. g.0 < length self.now) }
+    {
+        match name {
+            FunctionName::Symbol(name) => self.named(name),
+            FunctionName::Setf(name) => self.setter(name),
+        }
     }
 
     /// One more function, which comes last.
@@ -234,18 +297,33 @@ impl Generics {
     {
         self.functions.reserve(1)?;
         let id = GenericId(self.functions.len() as u64);
-        note(&mut self.index, &function.name, id)?;
+        note_function(&mut self.symbols, &mut self.setters, &function.name, id)?;
         self.functions.push(function)?;
         Ok(())
     }
 
-    /// Gives the function of this number these methods.
-    #[tactic(auto, using(crate::proofs::Indexed::same_names))]
-    pub fn set_methods(&mut self, id: GenericId, methods: MethodIds)
-        requires { id.0 < length self.old }
-        ensures { (g : Generic) → slice_get self.old id.0 ≡ Some g → self.new ≡ slice_set self.old id.0 (record g { methods = methods }) }
+    /// Takes off the function that came last.
+    #[tactic(auto, using(crate::proofs::Indexed::one_less))]
+    pub fn pop(&mut self)
+        ensures { self.new ≡ take (length self.old - 1) self.old }
     {
-        self.functions[id.0 as usize].methods = methods;
+        if let Some(function) = self.functions.pop() {
+            let id = GenericId(self.functions.len() as u64);
+            match &function.name {
+                FunctionName::Symbol(name) => forget(&mut self.symbols, name, id),
+                FunctionName::Setf(name) => forget(&mut self.setters, name, id),
+            }
+        }
+    }
+
+    /// Gives the function of this number these methods, in place of those that are given back.
+    #[tactic(auto, using(crate::proofs::Indexed::same_names))]
+    pub fn replace_methods(&mut self, id: GenericId, methods: MethodIds) -> MethodIds
+        requires { id.0 < length self.old }
+        ensures replaced { (g : Generic) → slice_get self.old id.0 ≡ Some g → self.new ≡ slice_set self.old id.0 (record g { methods = methods }) }
+        ensures before { (g : Generic) → slice_get self.old id.0 ≡ Some g → result ≡ g.methods }
+    {
+        mem::replace(&mut self.functions[id.0 as usize].methods, methods)
     }
 }
 

@@ -1,6 +1,8 @@
 //! The state of a session: its tables, what was written, and its limits.
 ghost use Rattle.std.specs.Prelude.{◌≡◌, IfOk, option_map};
 ghost use Rattle.lisp_data.specs.ValueView.{value_of};
+ghost use Rattle.lisp_data.specs.PrintView.{called};
+ghost use Rattle.clos_forms.specs.OperatorView.{called_of};
 ghost use Rattle.clos_precedence.specs.PrecedenceView.{numbers};
 ghost use Rattle.clos_world.specs.Class.{precedence_or_none};
 ghost use Rattle.clos_world.specs.Initial.{initial};
@@ -92,6 +94,16 @@ impl World {
     }
 }
 
+/// The name of a function, as it is printed.
+fn told_name(name: &clos_forms::FunctionName) -> FunctionName<'_>
+    ensures { called result ≡ called_of name.now }
+{
+    match name {
+        clos_forms::FunctionName::Symbol(name) => FunctionName::Symbol(name),
+        clos_forms::FunctionName::Setf(name) => FunctionName::Setf(name),
+    }
+}
+
 impl Naming for World {
     ghost use Rattle.clos_world.specs.World.{seen, names_of};
 
@@ -103,7 +115,7 @@ impl Naming for World {
 
     fn generic_name(&self, id: GenericId) -> Option<FunctionName<'_>> {
         match self.generics.get(id) {
-            Some(generic) => Some(FunctionName::Symbol(&generic.name)),
+            Some(generic) => Some(told_name(&generic.name)),
             None => None,
         }
     }

@@ -1,7 +1,7 @@
 use Rattle.std.proofs.Common.{◌<◌, ◌∷◌, drop, length, suc, ap, sym, ◌∙◌, arith}
 use Rattle.std.proofs.Math.Seq.{drop-cons}
 use Rattle.clos_world.specs.World.{seen}
-use Rattle.clos_system.specs.Step.{found_after, specializer_numbers}
+use Rattle.clos_system.specs.Method.{found_after, specializer_numbers}
 use Rattle.clos_system.proofs.Steps.{found_fault}
 use Rattle.clos_system.proofs.method.specializers.Goals as goal
 

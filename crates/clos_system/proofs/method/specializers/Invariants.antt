@@ -1,6 +1,6 @@
 use Rattle.std.proofs.Common.{◌≡◌, ◌≤◌, ◌-◌, drop, length}
 use Rattle.clos_world.specs.World.{seen}
-use Rattle.clos_system.specs.Step.{found_after, specializer_numbers}
+use Rattle.clos_system.specs.Method.{found_after, specializer_numbers}
 use Rattle.clos_system.proofs.method.specializers.Given as goal
 
 abbrev pub invariant-loop-place : goal.invariant-loop-place
