@@ -136,7 +136,7 @@ const DISPATCH: &str =
 (defclass x (c b a) ()) => ; 9 (INCONSISTENT-PRECEDENCE V)~";
 
 /// A definition, the number of the condition that it ends with where no step is left for it, and where one is.
-const WITHOUT_STEPS: [(&str, u64, u64); 11] = [
+const WITHOUT_STEPS: [(&str, u64, u64); 13] = [
     ("(defclass c () ())", 29, 0),
     ("(defclass q () ())", 29, 0),
     ("(defclass c (a q) ())", 29, 0),
@@ -147,7 +147,9 @@ const WITHOUT_STEPS: [(&str, u64, u64); 11] = [
     ("(defclass c (b b) ())", 1, 1),
     ("(defclass c () ((x :initform (princ 1))))", 29, 0),
     ("(defclass c (c) (x))", 10, 10),
-    ("(defclass c () ((x :reader x)))", 28, 28),
+    ("(defclass c () ((x :accessor x)))", 29, 0),
+    ("(defclass c () ((x :reader x :writer x)))", 12, 12),
+    ("(defclass c (c) ((x :reader x :writer x)))", 10, 10),
 ];
 
 const FUNCTIONS: &str = r#"(princ (class-of 3)) => #<CLASS INTEGER>
