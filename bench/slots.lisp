@@ -1,10 +1,11 @@
-; 400,000 reads and writes of slots.
+; 400,000 reads and writes of slots, half of them by slot-value and half by an accessor.
 (defclass account ()
   ((owner :initform 'nobody)
-   (balance :initform 0)))
+   (balance :initform 0 :accessor balance)))
 
 (let ((account (make-instance 'account)))
-  (dotimes (i 200000)
-    (setf (slot-value account 'balance) (+ (slot-value account 'balance) 2)))
+  (dotimes (i 100000)
+    (setf (slot-value account 'balance) (+ (slot-value account 'balance) 2))
+    (setf (balance account) (+ (balance account) 2)))
   (princ (slot-value account 'balance))
   (terpri))
