@@ -5,6 +5,7 @@ ghost use Rattle.clos_forms.specs.Form.{cons, nil};
 ghost use Rattle.clos_world.specs.World.{State};
 ghost use Rattle.clos_world.specs.declared.condition.Stop.TheVariants.{Storage};
 ghost use Rattle.clos_machine.specs.Control.{going, followed, branch, keeping, clauses, clause, tested};
+ghost use Rattle.clos_machine.specs.GenericCalls.{invoked};
 ghost use Rattle.clos_machine.specs.Machine.{Leads, Grows, at, inside, below, after, given, lift, weight_of};
 ghost use Rattle.clos_machine.specs.Meaning.{acted, collect, meaning};
 ghost use Rattle.clos_machine.specs.Outcome.{Run, Gave, then_do};
@@ -13,7 +14,7 @@ ghost use Rattle.clos_machine.specs.declared.machine.Doing.TheVariants.{Act};
 use clos_forms::{Form, Forms};
 use clos_machine::machine::{Action, Control, Doing, Frame, Level, Levels, Machine, Task};
 use clos_machine::truth::{is_true, nil};
-use clos_world::{Stop, Values};
+use clos_world::{Stop, SystemFunction, Values};
 use lisp_data::Value;
 use std::alloc::AllocError;
 
@@ -100,6 +101,23 @@ pub fn act_under(
         return Err(give_up(action, values));
     };
     Ok(Doing::Act(action, values))
+}
+
+/// Calls this generic function of the system next, and then does what the frame does with its value.
+pub fn invoke_under(
+    machine: &mut Machine,
+    function: SystemFunction,
+    arguments: Values,
+    frame: Frame,
+) -> Result<Doing, Stop>
+    ensures leads { (run : Run) (w : State) → below machine.old.context frame ≡ machine.old.context
+        → ((t : ℕ) → then_do (invoked (meaning machine.old.room) function arguments (at machine.old w) t) (after (meaning machine.old.room) machine.old.context frame) ≡ run (at machine.old w) t)
+        → Leads (inside machine.old run) w result machine.new }
+    ensures small { Grows (weight_of frame + 3) machine.old.levels result machine.new }
+{
+    let room = machine.room;
+    machine.levels.push(Level { frame, room })?;
+    Ok(Doing::Invoke(function, arguments))
 }
 
 /// Gives this value.

@@ -15,7 +15,8 @@ use Rattle.clos_world.specs.declared.condition.Condition.{Condition}
 use Rattle.clos_world.specs.declared.condition.ConditionKind.TheVariants.{Unsupported}
 use Rattle.clos_world.specs.declared.condition.Stop.{Stop}
 use Rattle.clos_world.specs.declared.condition.Stop.TheVariants.{Refused, Storage}
-use Rattle.clos_machine.specs.Calls.{known, body_run, parameters_run, restoring, scoped}
+use Rattle.clos_machine.specs.Bodies.{body_run, parameters_run, restoring, scoped}
+use Rattle.clos_machine.specs.GenericCalls.{known}
 use Rattle.clos_machine.specs.Control.{sequence}
 use Rattle.clos_machine.specs.Machine.{Binds, Leads, Settles, at, given_to, inside, resume, settled, under}
 use Rattle.clos_machine.specs.Meaning.{closed, meaning}

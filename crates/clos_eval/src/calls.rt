@@ -10,7 +10,9 @@ ghost use Rattle.clos_world.specs.FunctionName.{setter_value};
 ghost use Rattle.clos_world.specs.Functions.{function_in};
 ghost use Rattle.clos_world.specs.Generic.{function_named, ordered};
 ghost use Rattle.clos_world.specs.World.{State, seen, bound_as, lists_of};
-ghost use Rattle.clos_machine.specs.Calls.{known, restoring, scoped, parameters_run, body_run, applied_to, called_defined, dispatched, called_generic, called_function, method_run, method_body_run, none_applicable, combined, system, called_setter};
+ghost use Rattle.clos_machine.specs.Bodies.{restoring, scoped, parameters_run, body_run};
+ghost use Rattle.clos_machine.specs.Calls.{applied_to, called_defined, called_function, method_run, method_body_run, combined, called_setter};
+ghost use Rattle.clos_machine.specs.GenericCalls.{applicable, called_generic, combination, invoked, known, takes, takes_rest, unmatched};
 ghost use Rattle.clos_machine.specs.Control.{sequence};
 ghost use Rattle.clos_machine.specs.Fault.{answered};
 ghost use Rattle.clos_machine.specs.Functions.{place_set};
@@ -28,13 +30,14 @@ use clos_machine::arguments::{Arguments, Context};
 use clos_machine::effective::{EffectiveForm, EffectiveNode, combined};
 use clos_machine::fault::of_function;
 use clos_machine::locals::{Locals, bind, settle};
-use clos_machine::machine::{Action, Doing, Frame, Level, Machine, SystemCall, Target, Task};
-use clos_machine::parameters::{ParameterPlan, fits, plan_for, requires_only};
+use clos_machine::machine::{Action, Doing, Frame, Level, Machine, Target, Task};
+use clos_machine::parameters::{ParameterPlan, are_pairs, fits, plan_for, requires_only};
 use clos_machine::truth::nil;
 use clos_objects::slots::call_reader;
+use clos_objects::system_methods::run_system_method;
 use clos_world::{
-    ConditionKind, Function, Generic, MethodBody, PrecedenceLists, Stop, Values, World, about,
-    about_both, about_call, about_name, method_numbered, ordered_methods, plain, setter_value,
+    ConditionKind, Function, Generic, MethodBody, PrecedenceLists, Rest, Stop, SystemFunction,
+    Values, World, about, about_name, method_numbered, ordered_methods, plain, setter_value,
 };
 use lisp_data::{GenericId, MethodId, Name, Value};
 use lisp_prims::Primitive;
@@ -144,7 +147,7 @@ fn call_numbered(
     values: Values,
 ) -> Result<Doing, Stop>
     ensures leads { Leads (inside machine.old (λ w. called_generic (meaning machine.old.room) values id.0 (slice_get w.generics id.0) w)) (seen world.now) result machine.new }
-    ensures small { Grows 6 machine.old.levels result machine.new }
+    ensures small { Grows 2 machine.old.levels result machine.new }
 {
     match world.generics.get(id) {
         None => Err(Stop::Refused(plain(alloc, ConditionKind::ProgramError))),
@@ -316,6 +319,29 @@ pub fn next_parameter(
     bind_parameters(alloc, machine, world, plan, body, saved, outer)
 }
 
+/// Whether a generic function takes these arguments (HyperSpec 7.6.5).
+fn takes(generic: &Generic, arguments: &[Value]) -> bool
+    ensures { result ≡ takes generic.now (map value_of arguments.now) }
+{
+    if (arguments.len() as u64) < generic.required {
+        return false;
+    }
+    takes_rest(generic.rest, generic.optional, &arguments[generic.required as usize..])
+}
+
+/// Whether these follow the arguments of required parameters.
+fn takes_rest(rest: Rest, optional: u64, arguments: &[Value]) -> bool
+    ensures { result ≡ takes_rest rest optional (map value_of arguments.now) }
+{
+    match rest {
+        Rest::Nothing => arguments.len() as u64 <= optional,
+        Rest::Anything => true,
+        Rest::Keywords => {
+            (arguments.len() as u64) < optional || are_pairs(&arguments[optional as usize..])
+        }
+    }
+}
+
 /// A call of a generic function: its applicable methods are worked out and combined (HyperSpec 7.6.6).
 #[tactic(auto, using(clos_machine::proofs::Turns::stopped_through))]
 fn call_generic(
@@ -327,53 +353,73 @@ fn call_generic(
     values: Values,
 ) -> Result<Doing, Stop>
     ensures leads { Leads (inside machine.old (called_generic (meaning machine.old.room) values id.0 (Some generic.now))) (seen world.now) result machine.new }
-    ensures small { Grows 6 machine.old.levels result machine.new }
+    ensures small { Grows 2 machine.old.levels result machine.new }
 {
-    if values.len() as u64 != generic.required {
+    if !takes(generic, values.as_slice()) {
         return Err(Stop::Refused(plain(alloc, ConditionKind::ProgramError)));
     }
-    call_applicable(alloc, machine, world, id, generic, values)
-}
-
-/// The applicable methods of a generic function are called, or no-applicable-method.
-fn call_applicable(
-    alloc: Global,
-    machine: &mut Machine,
-    world: &World,
-    id: GenericId,
-    generic: &Generic,
-    values: Values,
-) -> Result<Doing, Stop>
-    ensures leads { (run : Run)
-        → ((t : ℕ) → meaning machine.old.room (known values) (dispatched id.0 values (ordered (seen world.now).methods (lists_of (seen world.now) values) generic.now.methods)) (at machine.old (seen world.now)) t ≡ run (at machine.old (seen world.now)) t)
-        → Leads (inside machine.old run) (seen world.now) result machine.new }
-    ensures small { Grows 6 machine.old.levels result machine.new }
-{
     let arguments = Arguments::new(alloc, values)?;
-    let next = dispatch(alloc, world, id, generic, &arguments)?;
-    let context = Context { arguments };
-    enter_effect(machine, context, next)
+    match combine(alloc, world, generic, &arguments)? {
+        Some(next) => enter_effect(machine, Context { arguments }, next),
+        None => call_unmatched(alloc, machine, world, id, &arguments),
+    }
 }
 
-/// The effective form of a call, or the call of no-applicable-method.
-fn dispatch(
+/// The effective form of the applicable methods, if there are any.
+fn combine(
     alloc: Global,
     world: &World,
-    id: GenericId,
     generic: &Generic,
     arguments: &Arguments,
-) -> Result<Task, AllocError>
-    ensures { IfOk result (λ r. r ≡ dispatched id.0 arguments.now (ordered (seen world.now).methods (lists_of (seen world.now) arguments.now) generic.now.methods)) }
+) -> Result<Option<Task>, AllocError>
+    ensures { IfOk result (λ r. r ≡ combination (applicable (seen world.now) arguments.now generic.now)) }
 {
     let lists = PrecedenceLists::new(world, arguments.as_slice());
     let mut order = ordered_methods(alloc, &world.methods, &lists, &generic.methods)?;
     if order.len() == 0 {
-        let arguments = arguments.copy()?;
-        return Ok(Task::System(SystemCall::SignalNoApplicable(id, arguments)));
+        return Ok(None);
     }
     let method = order.get(0);
     order.remove(0);
-    Ok(Task::Effect(combined(alloc, method, order)?))
+    Ok(Some(Task::Effect(combined(alloc, method, order)?)))
+}
+
+/// The function no-applicable-method is called with a generic function and its arguments.
+#[tactic(auto, using(clos_machine::proofs::Turns::stopped_through))]
+fn call_unmatched(
+    alloc: Global,
+    machine: &mut Machine,
+    world: &World,
+    id: GenericId,
+    arguments: &Arguments,
+) -> Result<Doing, Stop>
+    ensures leads { Leads (inside machine.old (unmatched (meaning machine.old.room) id.0 arguments.now)) (seen world.now) result machine.new }
+    ensures small { Grows 2 machine.old.levels result machine.new }
+{
+    let mut values = arguments.to_values(alloc)?;
+    values.push_first(Value::Generic(id))?;
+    let arguments = Arguments::new(alloc, values)?;
+    match world.generics.get(SystemFunction::NoApplicableMethod.id()) {
+        None => Err(Stop::Refused(plain(alloc, ConditionKind::ProgramError))),
+        Some(generic) => match combine(alloc, world, generic, &arguments)? {
+            Some(next) => enter_effect(machine, Context { arguments }, next),
+            None => Err(Stop::Refused(plain(alloc, ConditionKind::ProgramError))),
+        },
+    }
+}
+
+/// A call of a generic function of the system.
+pub fn invoke(
+    alloc: Global,
+    machine: &mut Machine,
+    world: &World,
+    function: SystemFunction,
+    values: Values,
+) -> Result<Doing, Stop>
+    ensures leads { Leads (inside machine.old (invoked (meaning machine.old.room) function values)) (seen world.now) result machine.new }
+    ensures small { Grows 2 machine.old.levels result machine.new }
+{
+    call_numbered(alloc, machine, world, function.id(), values)
 }
 
 /// Evaluates this next in a context of its own; the machine's comes back after it.
@@ -382,7 +428,7 @@ fn enter_effect(machine: &mut Machine, context: Context, next: Task) -> Result<D
     ensures leads { (run : Run) (w : State)
         → ((t : ℕ) → meaning machine.old.room context next (at machine.old w) t ≡ run (at machine.old w) t)
         → Leads (inside machine.old run) w result machine.new }
-    ensures small { Grows 6 machine.old.levels result machine.new }
+    ensures small { Grows 2 machine.old.levels result machine.new }
 {
     let room = machine.room;
     let saved = mem::replace(&mut machine.context, context);
@@ -470,6 +516,10 @@ fn run_method_body(
         MethodBody::Writer(slot) => {
             let values = machine.context.arguments.to_values(alloc)?;
             Ok(Doing::Act(Action::Write(slot.copy()?), values))
+        }
+        MethodBody::System(function) => {
+            let arguments = machine.context.arguments.copy()?;
+            run_system_method(alloc, machine, world, *function, &arguments)
         }
     }
 }
@@ -565,75 +615,6 @@ pub fn next_of_body(
             let frame = Frame::Body(rest, saved, outer);
             machine.levels.push(Level { frame, room })?;
             Ok(Doing::Start(Task::Plain(first)))
-        }
-    }
-}
-
-/// A generic function has no method for these arguments.
-#[tactic(auto, using(clos_machine::proofs::Turns::stopped_through))]
-fn signal_none_applicable(
-    alloc: Global,
-    machine: &Machine,
-    world: &World,
-    id: GenericId,
-    arguments: &Arguments,
-) -> Result<Doing, Stop>
-    ensures leads { Leads (inside machine.now (λ w. none_applicable arguments.now (slice_get w.generics id.0) w)) (seen world.now) result machine.now }
-    ensures small { Grows 6 machine.now.levels result machine.now }
-{
-    let _ = machine;
-    match world.generics.get(id) {
-        None => Err(Stop::Refused(plain(alloc, ConditionKind::ProgramError))),
-        Some(generic) => {
-            let kind = ConditionKind::NoApplicableMethod;
-            let condition = about_call(alloc, kind, &generic.name, arguments.as_slice())?;
-            Err(Stop::Refused(condition))
-        }
-    }
-}
-
-/// The effective form of a system generic function begins.
-#[tactic(auto, using(clos_machine::proofs::Turns::stopped_through, clos_machine::proofs::Turns::then_gave, crate::proofs::Shrinking::grows_6_9))]
-pub fn start_system(
-    alloc: Global,
-    machine: &mut Machine,
-    world: &World,
-    call: SystemCall,
-) -> Result<Doing, Stop>
-    ensures leads { Leads (inside machine.old (system (meaning machine.old.room) machine.old.context call)) (seen world.now) result machine.new }
-    ensures small { Grows 9 machine.old.levels result machine.new }
-{
-    let _ = world;
-    match call {
-        SystemCall::SignalNoApplicable(id, arguments) => {
-            signal_none_applicable(alloc, machine, world, id, &arguments)
-        }
-        SystemCall::SignalUnbound(name, id) => {
-            let name = value_named(&name)?;
-            let condition = about_both(
-                alloc,
-                ConditionKind::UnboundSlot,
-                name,
-                Value::Instance(id),
-            )?;
-            Err(Stop::Refused(condition))
-        }
-        SystemCall::SignalMissing(name, id) => {
-            let name = value_named(&name)?;
-            let condition = about_both(
-                alloc,
-                ConditionKind::MissingSlot,
-                name,
-                Value::Instance(id),
-            )?;
-            Err(Stop::Refused(condition))
-        }
-        SystemCall::Initialize(filling) => {
-            let next = Task::System(SystemCall::InitializeShared(filling));
-            begin(machine, next, Frame::Passing)
-        }
-        SystemCall::InitializeShared(filling) => {
-            Ok(Doing::Act(Action::Fill(filling), Values::new(alloc)))
         }
     }
 }

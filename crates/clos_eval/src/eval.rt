@@ -11,8 +11,8 @@ ghost use Rattle.clos_machine.specs.Meaning.{acted, begun, body, changed_place, 
 ghost use Rattle.clos_machine.specs.declared.machine.Doing.TheVariants.{Start};
 
 use crate::calls::{
-    call, call_setter, compute, function_named, new_value, next_of_body, next_parameter,
-    next_value, start_call, start_effective, start_system,
+    call, call_setter, compute, function_named, invoke, new_value, next_of_body, next_parameter,
+    next_value, start_call, start_effective,
 };
 use crate::output::{end_line, print};
 use clos_control::arguments::collect_values;
@@ -29,8 +29,8 @@ use clos_machine::arguments::{Arguments, Context};
 use clos_machine::callee::{Callee, SlotFunction, callee_named};
 use clos_machine::locals::Locals;
 use clos_machine::machine::{Action, Control, Doing, Frame, Level, Levels, Machine, Target, Task};
-use clos_machine::truth::{nil, t};
-use clos_objects::class_functions::call_class_function;
+use clos_machine::truth::{is_true, nil, t};
+use clos_objects::class_functions::{call_class_function, truth};
 use clos_objects::creation::{allocate, make_instance, next_default};
 use clos_objects::filling::{fill, fill_with};
 use clos_objects::slots::{call_slot_function, call_writer, set_slot_value};
@@ -336,6 +336,7 @@ fn give(
             Action::FillWith(filling, value),
             Values::new(alloc),
         )),
+        Frame::Truth => Ok(Doing::Give(truth(is_true(&value)))),
         Frame::Known(saved) => {
             machine.context = saved;
             Ok(Doing::Give(value))
@@ -353,7 +354,6 @@ fn start(alloc: Global, machine: &mut Machine, world: &World, task: Task) -> Res
     match task {
         Task::Plain(form) => start_form(alloc, machine, world, &form),
         Task::Effect(form) => start_effective(alloc, machine, world, &form),
-        Task::System(call) => start_system(alloc, machine, world, call),
     }
 }
 
@@ -428,6 +428,12 @@ pub fn evaluate(
             }
             Doing::Act(action, values) => {
                 match act(alloc, &mut machine, world, action, values, steps) {
+                    Ok(next) => doing = next,
+                    Err(stop) => return Err(stop),
+                }
+            }
+            Doing::Invoke(function, values) => {
+                match invoke(alloc, &mut machine, world, function, values) {
                     Ok(next) => doing = next,
                     Err(stop) => return Err(stop),
                 }

@@ -1,13 +1,13 @@
 -- Evaluation defines nothing.
 use Rattle.std.proofs.Common.{◌≡◌, ℕ, zero, suc, ◌==◌, List, [], ◌∷◌, ◌++◌, map, Option, Some, None, Result, Ok, Err, Bool, true, false, length, ◌+◌, slice_get, refl, ◌∙◌}
-use Rattle.std.specs.Prelude.{pos, is_some, nat_lt, if◌then◌else◌}
+use Rattle.std.specs.Prelude.{codes, pos, is_some, nat_lt, if◌then◌else◌}
 use Rattle.lisp_data.specs.Name.{Nam}
 use Rattle.lisp_data.specs.Print.{Called, by_symbol, by_setf}
 use Rattle.lisp_data.specs.Value.{Val}
 use Rattle.lisp_data.specs.Value as value
 use Rattle.lisp_data.specs.ValueView.{value_of}
 use Rattle.lisp_prims.specs.Fault as prims
-use Rattle.lisp_prims.specs.Primitive.{answer}
+use Rattle.lisp_prims.specs.Primitive.{answer, truth}
 use Rattle.lisp_prims.specs.declared.arithmetic.Arithmetic.TheVariants.{Sum, Difference}
 use Rattle.lisp_prims.specs.declared.primitive.Primitive as of_values
 use Rattle.lisp_prims.specs.declared.primitive.Primitive.TheVariants.{Number}
@@ -20,33 +20,38 @@ use Rattle.clos_world.specs.FunctionName.{setter_value}
 use Rattle.clos_world.specs.Functions.{function_in}
 use Rattle.clos_world.specs.Generic.{function_named, ordered, setter_named}
 use Rattle.clos_world.specs.Globals.{is_global, any_global}
+use Rattle.clos_world.specs.System.{system_number}
+use Rattle.clos_world.specs.declared.system.SystemFunction.{SystemFunction}
+use Rattle.clos_world.specs.declared.system.SystemFunction.TheVariants.{InitializeInstance, ReinitializeInstance, SharedInitialize, SlotUnbound, SlotMissing, NoApplicableMethod}
 use Rattle.clos_world.specs.Values.{only_value, last_first}
 use Rattle.clos_world.specs.World.{State, Local, bound_as, unbound, local_named, names_of, class_of, class_of_instance, lists_of}
 use Rattle.clos_world.specs.declared.condition.Condition.{Condition}
-use Rattle.clos_world.specs.declared.condition.ConditionKind.TheVariants.{DepthLimit}
+use Rattle.clos_world.specs.declared.condition.ConditionKind.TheVariants.{DepthLimit, ProgramError}
 use Rattle.clos_world.specs.declared.functions.Function.{Function}
 use Rattle.clos_world.specs.declared.generic.Generic.{Generic}
 use Rattle.clos_world.specs.declared.generic.Method.{Method}
 use Rattle.clos_world.specs.declared.generic.MethodBody.{MethodBody}
-use Rattle.clos_world.specs.declared.generic.MethodBody.TheVariants.{Forms, Reader, Writer}
+use Rattle.clos_world.specs.declared.generic.MethodBody.TheVariants.{Forms, Reader, Writer, System}
 use Rattle.clos_machine.specs.Accessors.{read_by, read_of, written_by, written_of}
 use Rattle.clos_machine.specs.Assignment.{stored, stored_globally, stored_only, made_of, changed_only, global_set}
 use Rattle.clos_machine.specs.Callee.{callee_of}
 use Rattle.clos_machine.specs.ClassFunctions.{Answer, class_answer, comes_to}
-use Rattle.clos_machine.specs.Calls.{known, restoring, parameters_run, body_run, applied_to, called_defined, called_setter, called_setter_by, dispatched, called_generic, called_function, method_run, method_body_run, none_applicable, combined, system}
+use Rattle.clos_machine.specs.Bodies.{restoring, parameters_run, body_run}
+use Rattle.clos_machine.specs.Calls.{applied_to, called_defined, called_setter, called_setter_by, called_function, method_run, method_body_run, combined}
+use Rattle.clos_machine.specs.GenericCalls.{known, takes, applicable, combination, combined_or, methods_called, unmatched_by, unmatched, called_generic, invoked}
+use Rattle.clos_machine.specs.SystemMethods.{class_in, shared_initialized, initialize, if_valid, reinitialize_as, reinitialize, filled_as, initialize_slots, system_method_run}
 use Rattle.clos_machine.specs.Control.{keeping, sequence, while_true, until_true, branch, followed, going, tested, clause, clauses}
 use Rattle.clos_machine.specs.Effective.{Effective, call_method, progn, prog1}
 use Rattle.clos_machine.specs.Fault.{answered}
 use Rattle.clos_machine.specs.Meaning.{acted, collect, collected, alone, setq, setf, assigned, place_in, with_amount, set_place, changed_from, changed_place, changing, changed_by, other_function, is_plain_function, symbol_function, setter_function, function_value, operated, begun, meaning, closed, evaluation}
 use Rattle.clos_machine.specs.Objects.{designated}
-use Rattle.clos_machine.specs.Filling.{Filler, nothing, initform, filler, filled, filled_with, filled_by, fill, fill_with, is_the_class, slots_left, Subject, subject_of}
+use Rattle.clos_machine.specs.Filling.{are_slot_names, Filler, nothing, initform, filler, filled, filled_with, filled_by, fill, fill_with, is_the_class, slots_left, Subject, subject_of}
 use Rattle.clos_machine.specs.Filling as filler
 use Rattle.clos_machine.specs.Functions.{applied, called, place_read, place_set}
-use Rattle.clos_machine.specs.Initialization.{allocate, filling_of, initialized, invalid_initarg, is_given, made, defaulted, default_given, making_of, making, instance_made}
-use Rattle.clos_machine.specs.Slots.{instance_in, slot_designated, slot_read, slot_tested, slot_changed, slot_answer, slot_applied, slot_called, slot_given, slot_set, slot_stored}
+use Rattle.clos_machine.specs.Initialization.{allocate, initialized, invalid_initarg, is_given, made, defaulted, default_given, making_of, making, instance_made}
+use Rattle.clos_machine.specs.Slots.{class_value, operation_name, missing_called, missing_changed, instance_in, slot_designated, slot_read, slot_tested, slot_changed, slot_answer, slot_applied, slot_called, slot_given, slot_set, slot_stored}
 use Rattle.clos_machine.specs.declared.callee.SlotFunction as of_slots
 use Rattle.clos_machine.specs.declared.callee.SlotFunction.TheVariants.{SlotValue, SlotBoundp, SlotMakunbound, SlotExistsP}
-use Rattle.clos_machine.specs.declared.machine.SystemCall.TheVariants.{SignalUnbound, SignalMissing}
 use Rattle.clos_machine.specs.declared.machine.Target.{Target}
 use Rattle.clos_machine.specs.declared.machine.Target.TheVariants as target
 use Rattle.clos_class.specs.Slots.{Effective as Whole}
@@ -66,10 +71,8 @@ use Rattle.clos_machine.specs.declared.machine.Action.{Action}
 use Rattle.clos_machine.specs.declared.machine.Action.TheVariants.{Call, Set, Store, Change, NewValue, Amount, ChangePlace, Allocate, Fill, FillWith, Write}
 use Rattle.clos_machine.specs.declared.machine.Control.{Control}
 use Rattle.clos_machine.specs.declared.machine.Control.TheVariants.{Progn, Prog1, If, When, Unless, And, Or}
-use Rattle.clos_machine.specs.declared.machine.SystemCall.{SystemCall}
-use Rattle.clos_machine.specs.declared.machine.SystemCall.TheVariants.{SignalNoApplicable, Initialize, InitializeShared}
 use Rattle.clos_machine.specs.declared.machine.Task.{Task}
-use Rattle.clos_machine.specs.declared.machine.Task.TheVariants.{Plain, Effect, System}
+use Rattle.clos_machine.specs.declared.machine.Task.TheVariants.{Plain, Effect}
 
 pub same : (w : State) → Same w w
 same w = (refl, refl, refl, refl, refl)
@@ -170,12 +173,25 @@ collect_kept ev h env (cons f fs) vs go g w k =
     then_kept w (ev env (Plain f) w k) (λ v. collect ev env fs (vs ++ v ∷ []) go) (h env (Plain f) w k)
     (λ v u j. collect_kept ev h env fs (vs ++ v ∷ []) go g u j)
 
+combined_kept_or : (ev : Eval) → Keeps ev → (vs : List Val) (other : Run) (o : Option Task) (w : State) (k : ℕ) → Kept w (other w k) → Kept w (combined_or ev vs other o w k)
+combined_kept_or ev h vs other None w k g = g
+combined_kept_or ev h vs other (Some task) w k g = h (known vs) task w k
+
+methods_kept : (ev : Eval) → Keeps ev → (vs : List Val) (other : Run) (g : Generic) (w : State) (k : ℕ) → Kept w (other w k) → Kept w (methods_called ev vs other g w k)
+methods_kept ev h vs other g w k e = combined_kept_or ev h vs other (combination (applicable w vs g)) w k e
+
+unmatched_kept : (ev : Eval) → Keeps ev → (vs : List Val) (o : Option Generic) (w : State) (k : ℕ) → Kept w (unmatched_by ev vs o w k)
+unmatched_kept ev h vs None w k = same w
+unmatched_kept ev h vs (Some g) w k = methods_kept ev h vs (stopped ProgramError []) g w k (same w)
+
 generic_kept : (ev : Eval) → Keeps ev → (vs : List Val) (n : ℕ) (o : Option Generic) (w : State) (k : ℕ) → Kept w (called_generic ev vs n o w k)
 generic_kept ev h vs n None w k = same w
 generic_kept ev h vs n (Some g) w k =
-    elim (length vs == g.required)
-    as (λ b. Kept w (if b then ev (known vs) (dispatched n vs (ordered w.methods (lists_of w vs) g.methods)) w k else called_generic ev vs n None w k))
-    [ true ↦ h (known vs) (dispatched n vs (ordered w.methods (lists_of w vs) g.methods)) w k | false ↦ same w ]
+    choice_kept (takes g vs) w (methods_called ev vs (unmatched ev n vs) g w k) _
+    (methods_kept ev h vs (unmatched ev n vs) g w k (unmatched_kept ev h (value.generic n ∷ vs) (slice_get w.generics (system_number NoApplicableMethod)) w k)) (same w)
+
+invoked_kept : (ev : Eval) → Keeps ev → (f : SystemFunction) (vs : List Val) (w : State) (k : ℕ) → Kept w (invoked ev f vs w k)
+invoked_kept ev h f vs w k = generic_kept ev h vs (system_number f) (slice_get w.generics (system_number f)) w k
 
 restored : (l : List Local) (w : State) (o : Out) → Kept w o → Kept w (then_do o (restoring l))
 restored l w (Gave v u k) h = h
@@ -208,18 +224,29 @@ function_kept ev h name vs (Some g) w k = generic_kept ev h vs g (slice_get w.ge
 
 -- ---- slots
 
+missing_kept : (ev : Eval) → Keeps ev → (i : ℕ) (name : Nam) (operation : List ℕ) (new : List Val) (w : State) (k : ℕ) → Kept w (missing_called ev i name operation new w k)
+missing_kept ev h i name operation new w k =
+    invoked_kept ev h SlotMissing (class_value w i ∷ value.instance i ∷ name_value name ∷ operation_name operation ∷ new) w k
+
 slot_read_kept : (ev : Eval) → Keeps ev → (env : Context) (i : ℕ) (name : Nam) (o : Option (Option Val)) (w : State) (k : ℕ) → Kept w (slot_read ev env i name o w k)
-slot_read_kept ev h env i name None w k = h env (System (SignalMissing name (record { 0 = i }))) w k
-slot_read_kept ev h env i name (Some None) w k = h env (System (SignalUnbound name (record { 0 = i }))) w k
+slot_read_kept ev h env i name None w k = missing_kept ev h i name (codes "SLOT-VALUE") [] w k
+slot_read_kept ev h env i name (Some None) w k = invoked_kept ev h SlotUnbound (class_value w i ∷ value.instance i ∷ name_value name ∷ []) w k
 slot_read_kept ev h env i name (Some (Some v)) w k = same w
 
 slot_tested_kept : (ev : Eval) → Keeps ev → (env : Context) (i : ℕ) (name : Nam) (o : Option (Option Val)) (w : State) (k : ℕ) → Kept w (slot_tested ev env i name o w k)
-slot_tested_kept ev h env i name None w k = h env (System (SignalMissing name (record { 0 = i }))) w k
+slot_tested_kept ev h env i name None w k =
+    then_kept w (missing_called ev i name (codes "SLOT-BOUNDP") [] w k) (λ v. gave (truth (is_true v)))
+    (missing_kept ev h i name (codes "SLOT-BOUNDP") [] w k) (λ v u j. same u)
 slot_tested_kept ev h env i name (Some x) w k = same w
+
+missing_changed_kept : (ev : Eval) → Keeps ev → (i : ℕ) (name : Nam) (x : Option Val) (w : State) (k : ℕ) → Kept w (missing_changed ev i name x w k)
+missing_changed_kept ev h i name None w k = missing_kept ev h i name (codes "SLOT-MAKUNBOUND") [] w k
+missing_changed_kept ev h i name (Some v) w k = missing_kept ev h i name (codes "SETF") (v ∷ []) w k
 
 slot_changed_kept : (ev : Eval) → Keeps ev → (env : Context) (i : ℕ) (name : Nam) (x : Option Val) (v : Val) (o : Option (Option Val)) (w : State) (k : ℕ)
     → Kept w (slot_changed ev env i name x v o w k)
-slot_changed_kept ev h env i name x v None w k = h env (System (SignalMissing name (record { 0 = i }))) w k
+slot_changed_kept ev h env i name x v None w k =
+    then_kept w (missing_changed ev i name x w k) (λ y. gave v) (missing_changed_kept ev h i name x w k) (λ y u j. same u)
 slot_changed_kept ev h env i name x v (Some old) w k = step_kept (slot_stored i name x v) w k (λ j. same w)
 
 slot_answer_kept : (ev : Eval) → Keeps ev → (env : Context) (f : of_slots.SlotFunction) (i : ℕ) (name : Nam) (w : State) (k : ℕ) → Kept w (slot_answer ev env f i name w k)
@@ -270,20 +297,6 @@ writer_kept ev h env slot (x ∷ []) w k = same w
 writer_kept ev h env slot (x ∷ (v ∷ [])) w k = written_kept_of ev h env slot x (instance_in v) w k
 writer_kept ev h env slot (x ∷ (v ∷ (y ∷ vs))) w k = same w
 
-method_body_kept : (ev : Eval) → Keeps ev → (env : Context) (b : MethodBody) (w : State) (k : ℕ) → Kept w (method_body_run ev env b w k)
-method_body_kept ev h env (Forms ps fs) w k = body_kept ev h env.arguments (required_sources ps env.arguments) fs w k
-method_body_kept ev h env (Reader slot) w k = reader_kept ev h env slot env.arguments w k
-method_body_kept ev h env (Writer slot) w k = writer_kept ev h env slot env.arguments w k
-
-method_kept : (ev : Eval) → Keeps ev → (env : Context) (o : Option Method) (w : State) (k : ℕ) → Kept w (method_run ev env o w k)
-method_kept ev h env None w k = same w
-method_kept ev h env (Some m) w k = method_body_kept ev h env m.body w k
-
-combined_kept : (ev : Eval) → Keeps ev → (env : Context) (e : Effective) (w : State) (k : ℕ) → Kept w (combined ev env e w k)
-combined_kept ev h env (call_method m ns) w k = method_kept ev h env (slice_get w.methods m) w k
-combined_kept ev h env (progn e) w k = h env (Effect e) w k
-combined_kept ev h env (prog1 e) w k = h env (Effect e) w k
-
 -- ---- the making of instances
 
 stored_kept_then : (f : Subject) (slot : EffectiveSlot) (rest : Run) → ((u : State) (j : ℕ) → Kept u (rest u j)) → (v : Val) (w : State) (k : ℕ) → Kept w (filled f slot rest v w k)
@@ -311,16 +324,16 @@ fill_with_kept : (ev : Eval) → Keeps ev → (env : Context) (f : Subject) (slo
 fill_with_kept ev h env f [] v w k = same w
 fill_with_kept ev h env f (slot ∷ slots) v w k = filled_with_kept f slot (λ u j. fill ev env f slots u j) (λ u j. fill_kept ev h env f slots u j) v w k
 
-initialized_kept : (ev : Eval) → Keeps ev → (env : Context) (c : ℕ) (e : Whole) (vs : List Val) (i : ℕ) (o : Option Val) (w : State) (k : ℕ) → Kept w (initialized ev env c e vs i o w k)
-initialized_kept ev h env c e vs i (Some x) w k = same w
-initialized_kept ev h env c e vs i None w k =
-    then_kept w (ev env (System (Initialize (filling_of c e vs i))) w k) (λ v. gave (value.instance i)) (h env (System (Initialize (filling_of c e vs i))) w k) (λ v u j. same u)
+initialized_kept : (ev : Eval) → Keeps ev → (c : ℕ) (vs : List Val) (i : ℕ) (o : Option Val) (w : State) (k : ℕ) → Kept w (initialized ev c vs i o w k)
+initialized_kept ev h c vs i (Some x) w k = same w
+initialized_kept ev h c vs i None w k =
+    then_kept w (invoked ev InitializeInstance (value.instance i ∷ vs) w k) (λ v. gave (value.instance i)) (invoked_kept ev h InitializeInstance (value.instance i ∷ vs) w k) (λ v u j. same u)
 
 allocate_kept : (ev : Eval) → Keeps ev → (env : Context) (c : ℕ) (e : Whole) (vs : List Val) (w : State) (k : ℕ) → Kept w (allocate ev env c e vs w k)
 allocate_kept ev h env c e vs w k =
     choice_kept (has_room w.store) w (step_then (made ev env c e vs) w k) _
     (step_kept (made ev env c e vs) w k
-    (λ j. initialized_kept ev h env c e vs (length w.store.instances + 1) (invalid_initarg e.slots vs) (record w { store = with_instance (allocated c e.layout) w.store }) j)) (same w)
+    (λ j. initialized_kept ev h c vs (length w.store.instances + 1) (invalid_initarg e.slots vs) (record w { store = with_instance (allocated c e.layout) w.store }) j)) (same w)
 
 defaulted_kept : (ev : Eval) → Keeps ev → (env : Context) (c : ℕ) (e : Whole) (ds : List DefaultInitarg) (vs : List Val) (w : State) (k : ℕ) → Kept w (defaulted ev env c e ds vs w k)
 defaulted_kept ev h env c e [] vs w k = allocate_kept ev h env c e vs w k
@@ -582,21 +595,74 @@ operated_kept ev h env of.call_next_method ps w k = same w
 operated_kept ev h env of.next_method_p ps w k = same w
 operated_kept ev h env (of.call name) ps w k = collected_kept ev h env ps (Call name) w k
 
-applicable_kept : (vs : List Val) (o : Option Generic) (w : State) (k : ℕ) → Kept w (none_applicable vs o w k)
-applicable_kept vs None w k = same w
-applicable_kept vs (Some g) w k = same w
+-- ---- the system's methods
 
-system_kept : (ev : Eval) → Keeps ev → (env : Context) (c : SystemCall) (w : State) (k : ℕ) → Kept w (system ev env c w k)
-system_kept ev h env (SignalNoApplicable n vs) w k = applicable_kept vs (slice_get w.generics n.0) w k
-system_kept ev h env (SignalUnbound name i) w k = same w
-system_kept ev h env (SignalMissing name i) w k = same w
-system_kept ev h env (Initialize f) w k = h env (System (InitializeShared f)) w k
-system_kept ev h env (InitializeShared f) w k = fill_kept ev h env (subject_of f) (slots_left f) w k
+shared_kept : (ev : Eval) → Keeps ev → (i : ℕ) (names : Val) (vs : List Val) (w : State) (k : ℕ) → Kept w (shared_initialized ev i names vs w k)
+shared_kept ev h i names vs w k =
+    then_kept w (invoked ev SharedInitialize (value.instance i ∷ names ∷ vs) w k) (λ v. gave (value.instance i))
+    (invoked_kept ev h SharedInitialize (value.instance i ∷ names ∷ vs) w k) (λ v u j. same u)
+
+initialize_kept : (ev : Eval) → Keeps ev → (vs : List Val) (d : Result ℕ Condition) (w : State) (k : ℕ) → Kept w (initialize ev vs d w k)
+initialize_kept ev h vs (Err c) w k = same w
+initialize_kept ev h vs (Ok i) w k = shared_kept ev h i (truth true) vs w k
+
+valid_kept : (c : ℕ) (o : Option Val) (go : Run) (w : State) (k : ℕ) → Kept w (go w k) → Kept w (if_valid c o go w k)
+valid_kept c None go w k h = h
+valid_kept c (Some x) go w k h = same w
+
+reinitialize_kept_as : (ev : Eval) → Keeps ev → (vs : List Val) (i : ℕ) (o : Option (ℕ × Whole)) (w : State) (k : ℕ) → Kept w (reinitialize_as ev vs i o w k)
+reinitialize_kept_as ev h vs i None w k = same w
+reinitialize_kept_as ev h vs i (Some p) w k =
+    valid_kept p.0 (invalid_initarg p.1.slots vs) (shared_initialized ev i none vs) w k (shared_kept ev h i none vs w k)
+
+reinitialize_kept : (ev : Eval) → Keeps ev → (vs : List Val) (d : Result ℕ Condition) (w : State) (k : ℕ) → Kept w (reinitialize ev vs d w k)
+reinitialize_kept ev h vs (Err c) w k = same w
+reinitialize_kept ev h vs (Ok i) w k = reinitialize_kept_as ev h vs i (class_in w i) w k
+
+filled_as_kept : (ev : Eval) → Keeps ev → (i : ℕ) (names : Val) (vs : List Val) (o : Option (ℕ × Whole)) (w : State) (k : ℕ) → Kept w (filled_as ev i names vs o w k)
+filled_as_kept ev h i names vs None w k = same w
+filled_as_kept ev h i names vs (Some p) w k =
+    let f : Subject = record { instance = i; class = p.0; names = names; initargs = vs } in
+    restored w.locals w (fill ev (known []) f p.1.slots (bound_as [] w) k) (fill_kept ev h (known []) f p.1.slots (bound_as [] w) k)
+
+slots_kept : (ev : Eval) → Keeps ev → (names : Val) (vs : List Val) (d : Result ℕ Condition) (w : State) (k : ℕ) → Kept w (initialize_slots ev names vs d w k)
+slots_kept ev h names vs (Err c) w k = same w
+slots_kept ev h names vs (Ok i) w k =
+    choice_kept (are_slot_names names) w (filled_as ev i names vs (class_in w i) w k) _ (filled_as_kept ev h i names vs (class_in w i) w k) (same w)
+
+system_kept : (ev : Eval) → Keeps ev → (f : SystemFunction) (vs : List Val) (w : State) (k : ℕ) → Kept w (system_method_run ev f vs w k)
+system_kept ev h InitializeInstance [] w k = same w
+system_kept ev h InitializeInstance (v ∷ vs) w k = initialize_kept ev h vs (instance_in v) w k
+system_kept ev h ReinitializeInstance [] w k = same w
+system_kept ev h ReinitializeInstance (v ∷ vs) w k = reinitialize_kept ev h vs (instance_in v) w k
+system_kept ev h SharedInitialize [] w k = same w
+system_kept ev h SharedInitialize (v ∷ []) w k = same w
+system_kept ev h SharedInitialize (v ∷ (names ∷ vs)) w k = slots_kept ev h names vs (instance_in v) w k
+system_kept ev h SlotUnbound vs w k = same w
+system_kept ev h SlotMissing vs w k = same w
+system_kept ev h NoApplicableMethod [] w k = same w
+system_kept ev h NoApplicableMethod (v ∷ vs) w k = same w
+
+-- ---- methods and tasks
+
+method_body_kept : (ev : Eval) → Keeps ev → (env : Context) (b : MethodBody) (w : State) (k : ℕ) → Kept w (method_body_run ev env b w k)
+method_body_kept ev h env (Forms ps fs) w k = body_kept ev h env.arguments (required_sources ps env.arguments) fs w k
+method_body_kept ev h env (Reader slot) w k = reader_kept ev h env slot env.arguments w k
+method_body_kept ev h env (Writer slot) w k = writer_kept ev h env slot env.arguments w k
+method_body_kept ev h env (System f) w k = system_kept ev h f env.arguments w k
+
+method_kept : (ev : Eval) → Keeps ev → (env : Context) (o : Option Method) (w : State) (k : ℕ) → Kept w (method_run ev env o w k)
+method_kept ev h env None w k = same w
+method_kept ev h env (Some m) w k = method_body_kept ev h env m.body w k
+
+combined_kept : (ev : Eval) → Keeps ev → (env : Context) (e : Effective) (w : State) (k : ℕ) → Kept w (combined ev env e w k)
+combined_kept ev h env (call_method m ns) w k = method_kept ev h env (slice_get w.methods m) w k
+combined_kept ev h env (progn e) w k = h env (Effect e) w k
+combined_kept ev h env (prog1 e) w k = h env (Effect e) w k
 
 begun_kept : (ev : Eval) → Keeps ev → (env : Context) (task : Task) (w : State) (k : ℕ) → Kept w (begun ev env task w k)
 begun_kept ev h env (Plain f) w k = operated_kept ev h env (operator_in f) (parts_in f) w k
 begun_kept ev h env (Effect e) w k = combined_kept ev h env e w k
-begun_kept ev h env (System c) w k = system_kept ev h env c w k
 
 meaning_kept : (n : ℕ) → Keeps (meaning n)
 meaning_kept zero env task w k = step_kept (stopped DepthLimit []) w k (λ j. same w)

@@ -1,12 +1,12 @@
 -- With no step left nothing changes.
 use Rattle.std.proofs.Common.{◌≡◌, ℕ, zero, suc, ◌==◌, drop, List, [], ◌∷◌, ◌++◌, map, Option, Some, None, Result, Ok, Err, Bool, true, false, length, slice_get, refl, sym, subst}
-use Rattle.std.specs.Prelude.{pos, is_some, nat_lt, if◌then◌else◌}
+use Rattle.std.specs.Prelude.{codes, pos, is_some, nat_lt, if◌then◌else◌}
 use Rattle.lisp_data.specs.Name.{Nam}
 use Rattle.lisp_data.specs.Value.{Val}
 use Rattle.lisp_data.specs.Value as value
 use Rattle.lisp_data.specs.ValueView.{value_of}
 use Rattle.lisp_prims.specs.Fault as prims
-use Rattle.lisp_prims.specs.Primitive.{answer}
+use Rattle.lisp_prims.specs.Primitive.{answer, truth}
 use Rattle.lisp_prims.specs.declared.primitive.Primitive as of_values
 use Rattle.clos_forms.specs.Form.{Frm, Frms, nil, cons, operator_in, parts_in}
 use Rattle.clos_forms.specs.Quotation.{name_value}
@@ -15,17 +15,22 @@ use Rattle.clos_world.specs.FunctionName.{setter_value}
 use Rattle.clos_world.specs.Functions.{function_in}
 use Rattle.clos_world.specs.Generic.{function_named, ordered, setter_named}
 use Rattle.clos_world.specs.Globals.{is_global, any_global}
+use Rattle.clos_world.specs.System.{system_number}
+use Rattle.clos_world.specs.declared.system.SystemFunction.{SystemFunction}
+use Rattle.clos_world.specs.declared.system.SystemFunction.TheVariants.{SlotUnbound, SlotMissing, NoApplicableMethod}
 use Rattle.clos_world.specs.Values.{only_value, last_first}
 use Rattle.clos_world.specs.World.{State, Local, unbound, bound_as, local_named, class_of, class_of_instance, lists_of}
 use Rattle.clos_world.specs.declared.condition.Condition.{Condition}
-use Rattle.clos_world.specs.declared.condition.ConditionKind.TheVariants.{StepLimit}
+use Rattle.clos_world.specs.declared.condition.ConditionKind.TheVariants.{ProgramError, StepLimit}
 use Rattle.clos_world.specs.declared.functions.Function.{Function}
 use Rattle.clos_world.specs.declared.generic.Generic.{Generic}
 use Rattle.clos_machine.specs.Accessors.{written_by, written_of}
 use Rattle.clos_machine.specs.Assignment.{stored, stored_globally, stored_only, made_of, changed_only, with_local}
 use Rattle.clos_machine.specs.Callee.{callee_of}
 use Rattle.clos_machine.specs.ClassFunctions.{Answer, class_answer, comes_to}
-use Rattle.clos_machine.specs.Calls.{known, restoring, parameters_run, body_run, applied_to, called_defined, called_setter, called_setter_by, dispatched, called_generic, called_function}
+use Rattle.clos_machine.specs.Bodies.{restoring, parameters_run, body_run}
+use Rattle.clos_machine.specs.Calls.{applied_to, called_defined, called_setter, called_setter_by, called_function}
+use Rattle.clos_machine.specs.GenericCalls.{known, takes, applicable, combination, combined_or, methods_called, unmatched_by, unmatched, called_generic, invoked}
 use Rattle.clos_machine.specs.Control.{keeping, sequence, while_true, until_true, branch, followed, tested, clause, clauses}
 use Rattle.clos_machine.specs.Fault.{answered}
 use Rattle.clos_machine.specs.Machine.{at, below, after, resume, leaves, denote, loop_of, targets}
@@ -35,10 +40,9 @@ use Rattle.clos_machine.specs.Filling.{Filler, nothing, initform, filler, filled
 use Rattle.clos_machine.specs.Filling as filler
 use Rattle.clos_machine.specs.Functions.{applied, called, place_read, place_set}
 use Rattle.clos_machine.specs.Initialization.{allocate, is_given, defaulted, default_given, making_of, making, instance_made}
-use Rattle.clos_machine.specs.Slots.{instance_in, slot_designated, slot_read, slot_tested, slot_changed, slot_answer, slot_applied, slot_called, slot_given, slot_set}
+use Rattle.clos_machine.specs.Slots.{class_value, operation_name, missing_called, missing_changed, instance_in, slot_designated, slot_read, slot_tested, slot_changed, slot_answer, slot_applied, slot_called, slot_given, slot_set}
 use Rattle.clos_machine.specs.declared.callee.SlotFunction as of_slots
 use Rattle.clos_machine.specs.declared.callee.SlotFunction.TheVariants.{SlotValue, SlotBoundp, SlotMakunbound, SlotExistsP}
-use Rattle.clos_machine.specs.declared.machine.SystemCall.TheVariants.{SignalUnbound, SignalMissing}
 use Rattle.clos_machine.specs.declared.machine.Target.{Target}
 use Rattle.clos_machine.specs.declared.machine.Target.TheVariants as target
 use Rattle.clos_class.specs.Slots.{Effective as Whole}
@@ -58,15 +62,15 @@ use Rattle.clos_machine.specs.declared.machine.Action.{Action}
 use Rattle.clos_machine.specs.declared.machine.Action.TheVariants.{Call, Set, Store, Change, NewValue, Amount, ChangePlace, Allocate, Fill, FillWith, Write}
 use Rattle.clos_machine.specs.declared.machine.Control.{Control}
 use Rattle.clos_machine.specs.declared.machine.Control.TheVariants.{Progn, Prog1, If, When, Unless, And, Or}
-use Rattle.clos_machine.specs.declared.machine.Doing.TheVariants.{Start, Act}
+use Rattle.clos_machine.specs.declared.machine.Doing.TheVariants.{Start, Act, Invoke}
 use Rattle.clos_machine.specs.declared.machine.Doing.TheVariants as doing
 use Rattle.clos_machine.specs.declared.machine.Frame.{Frame}
-use Rattle.clos_machine.specs.declared.machine.Frame.TheVariants.{Rest, Keep, Clause, Collect, Body, Bind, Scope, InOrder, Aside, Count, Turn, Setq, Setf, Changed, Default, Filled, Known, Passing}
+use Rattle.clos_machine.specs.declared.machine.Frame.TheVariants.{Rest, Keep, Clause, Collect, Body, Bind, Scope, InOrder, Aside, Count, Turn, Setq, Setf, Changed, Default, Filled, Truth, Known, Passing}
 use Rattle.clos_machine.specs.declared.machine.Level.{Level}
 use Rattle.clos_machine.specs.declared.machine.Machine.{Machine}
 use Rattle.clos_machine.specs.declared.machine.Repetition.{Repetition}
 use Rattle.clos_machine.specs.declared.machine.Task.{Task}
-use Rattle.clos_machine.specs.declared.machine.Task.TheVariants.{Plain, System}
+use Rattle.clos_machine.specs.declared.machine.Task.TheVariants.{Plain}
 
 -- where the outcome leaves the world
 abbrev Quiet : Out → State → Type 0
@@ -109,11 +113,25 @@ follows_quiet (Stopped c u k) go w h g = h
 follows_quiet (Gave v u k) go w h g =
     subst (λ x. leaves (closed (go v u k)) x 0) h.0 (subst (λ j. leaves (closed (go v u j)) (unbound u) 0) (sym h.1) (g v u))
 
+combined_quiet : (n : ℕ) (vs : List Val) (other : Run) (o : Option Task) (w : State) → Quiet (other w 0) w → Quiet (combined_or (meaning n) vs other o w 0) w
+combined_quiet n vs other None w h = h
+combined_quiet n vs other (Some task) w h = task_quiet n (known vs) task w
+
+methods_quiet : (n : ℕ) (vs : List Val) (other : Run) (g : Generic) (w : State) → Quiet (other w 0) w → Quiet (methods_called (meaning n) vs other g w 0) w
+methods_quiet n vs other g w h = combined_quiet n vs other (combination (applicable w vs g)) w h
+
+unmatched_quiet : (n : ℕ) (vs : List Val) (o : Option Generic) (w : State) → Quiet (unmatched_by (meaning n) vs o w 0) w
+unmatched_quiet n vs None w = (refl, refl)
+unmatched_quiet n vs (Some g) w = methods_quiet n vs (stopped ProgramError []) g w (refl, refl)
+
 generic_quiet : (n : ℕ) (vs : List Val) (i : ℕ) (o : Option Generic) (w : State) → leaves (closed (called_generic (meaning n) vs i o w 0)) (unbound w) 0
 generic_quiet n vs i None w = (refl, refl)
 generic_quiet n vs i (Some g) w =
-    choice_quiet (length vs == g.required) (meaning n (known vs) (dispatched i vs (ordered w.methods (lists_of w vs) g.methods)) w 0) _ w
-    (task_quiet n (known vs) (dispatched i vs (ordered w.methods (lists_of w vs) g.methods)) w) (refl, refl)
+    choice_quiet (takes g vs) (methods_called (meaning n) vs (unmatched (meaning n) i vs) g w 0) _ w
+    (methods_quiet n vs (unmatched (meaning n) i vs) g w (unmatched_quiet n (value.generic i ∷ vs) (slice_get w.generics (system_number NoApplicableMethod)) w)) (refl, refl)
+
+invoked_quiet : (n : ℕ) (f : SystemFunction) (vs : List Val) (w : State) → Quiet (invoked (meaning n) f vs w 0) w
+invoked_quiet n f vs w = generic_quiet n vs (system_number f) (slice_get w.generics (system_number f)) w
 
 sequence_quiet : (n : ℕ) (env : Context) (fs : Frms) (v : Val) (w : State) → Quiet (sequence (meaning n) env fs v w 0) w
 sequence_quiet n env nil v w = (refl, refl)
@@ -164,18 +182,29 @@ comes_quiet (Err c) w = (refl, refl)
 
 -- ---- slots
 
+missing_quiet : (n : ℕ) (i : ℕ) (name : Nam) (operation : List ℕ) (new : List Val) (w : State) → Quiet (missing_called (meaning n) i name operation new w 0) w
+missing_quiet n i name operation new w =
+    invoked_quiet n SlotMissing (class_value w i ∷ value.instance i ∷ name_value name ∷ operation_name operation ∷ new) w
+
 slot_read_quiet : (n : ℕ) (env : Context) (i : ℕ) (name : Nam) (o : Option (Option Val)) (w : State) → Quiet (slot_read (meaning n) env i name o w 0) w
-slot_read_quiet n env i name None w = task_quiet n env (System (SignalMissing name (record { 0 = i }))) w
-slot_read_quiet n env i name (Some None) w = task_quiet n env (System (SignalUnbound name (record { 0 = i }))) w
+slot_read_quiet n env i name None w = missing_quiet n i name (codes "SLOT-VALUE") [] w
+slot_read_quiet n env i name (Some None) w = invoked_quiet n SlotUnbound (class_value w i ∷ value.instance i ∷ name_value name ∷ []) w
 slot_read_quiet n env i name (Some (Some v)) w = (refl, refl)
 
 slot_tested_quiet : (n : ℕ) (env : Context) (i : ℕ) (name : Nam) (o : Option (Option Val)) (w : State) → Quiet (slot_tested (meaning n) env i name o w 0) w
-slot_tested_quiet n env i name None w = task_quiet n env (System (SignalMissing name (record { 0 = i }))) w
+slot_tested_quiet n env i name None w =
+    follows_quiet (missing_called (meaning n) i name (codes "SLOT-BOUNDP") [] w 0) (λ v. gave (truth (is_true v))) w
+    (missing_quiet n i name (codes "SLOT-BOUNDP") [] w) (λ v u. (refl, refl))
 slot_tested_quiet n env i name (Some x) w = (refl, refl)
+
+missing_changed_quiet : (n : ℕ) (i : ℕ) (name : Nam) (x : Option Val) (w : State) → Quiet (missing_changed (meaning n) i name x w 0) w
+missing_changed_quiet n i name None w = missing_quiet n i name (codes "SLOT-MAKUNBOUND") [] w
+missing_changed_quiet n i name (Some v) w = missing_quiet n i name (codes "SETF") (v ∷ []) w
 
 slot_changed_quiet : (n : ℕ) (env : Context) (i : ℕ) (name : Nam) (x : Option Val) (v : Val) (o : Option (Option Val)) (w : State)
     → Quiet (slot_changed (meaning n) env i name x v o w 0) w
-slot_changed_quiet n env i name x v None w = task_quiet n env (System (SignalMissing name (record { 0 = i }))) w
+slot_changed_quiet n env i name x v None w =
+    follows_quiet (missing_changed (meaning n) i name x w 0) (λ y. gave v) w (missing_changed_quiet n i name x w) (λ y u. (refl, refl))
 slot_changed_quiet n env i name x v (Some old) w = (refl, refl)
 
 slot_answer_quiet : (n : ℕ) (env : Context) (f : of_slots.SlotFunction) (i : ℕ) (name : Nam) (w : State) → Quiet (slot_answer (meaning n) env f i name w 0) w
@@ -497,6 +526,7 @@ after_quiet n env (Setf rest) v w = setf_quiet n env rest v w
 after_quiet n env (Changed p t vs amount) v w = changed_from_quiet n env p t vs (value_of amount) v w
 after_quiet n env (Default c e place vs) v w = default_given_quiet n env c.0 e (drop place e.defaults) vs v w
 after_quiet n env (Filled f) v w = fill_with_quiet n env (subject_of f) (slots_left f) v w
+after_quiet n env Truth v w = (refl, refl)
 after_quiet n env (Known saved) v w = (refl, refl)
 after_quiet n env Passing v w = (refl, refl)
 
@@ -510,6 +540,9 @@ resume_quiet (l ∷ ls) env o w h = resume_quiet ls (below env l.frame) (then_do
 pub act_quiet : (m : Machine) (action : Action) (vs : List Val) (w : State) → leaves (denote m (Act action vs) w 0) (unbound w) 0
 act_quiet m action vs w =
     resume_quiet m.levels m.context (acted (meaning m.room) m.context action vs (at m w) 0) (at m w) (acted_quiet m.room m.context action vs (at m w))
+
+pub invoke_quiet : (m : Machine) (f : SystemFunction) (vs : List Val) (w : State) → leaves (denote m (Invoke f vs) w 0) (unbound w) 0
+invoke_quiet m f vs w = resume_quiet m.levels m.context (invoked (meaning m.room) f vs (at m w) 0) (at m w) (invoked_quiet m.room f vs (at m w))
 
 pub collecting_quiet : (m : Machine) (action : Action) (fs : Frms) (vs : List Val) (w : State) → leaves (denote m (doing.Collect action fs vs) w 0) (unbound w) 0
 collecting_quiet m action fs vs w =

@@ -39,7 +39,8 @@ use Rattle.clos_machine.specs.declared.machine.Level.{Level}
 use Rattle.clos_machine.specs.declared.machine.Machine.{Machine}
 use Rattle.clos_machine.specs.declared.machine.Task.{Task}
 use Rattle.clos_world.specs.declared.functions.Function.{Function}
-use Rattle.clos_machine.specs.Calls.{applied_to, body_run}
+use Rattle.clos_machine.specs.Bodies.{body_run}
+use Rattle.clos_machine.specs.Calls.{applied_to}
 use Rattle.clos_machine.specs.Parameters.{fits, sources}
 use Rattle.clos_machine.proofs.Turns.{stopped_through, leads_same}
 use Rattle.clos_machine.proofs.Quiet.{no_step}

@@ -1,8 +1,11 @@
 -- The system's method of shared-initialize (HyperSpec 7.1.4): the slots of an instance are filled in layout order.
-use Rattle.std.specs.Prelude.{ℕ, ◌==◌, drop, Bool, true, false, List, [], ◌∷◌, Option, Some, None, if◌then◌else◌}
+use Rattle.std.specs.Prelude.{ℕ, ◌==◌, drop, codes, Bool, true, false, ◌&&◌, ◌||◌, List, [], ◌∷◌, Option, Some, None, if◌then◌else◌, slice_get}
 use Rattle.std.specs.List.{list_any}
-use Rattle.lisp_data.specs.Value.{Val, instance}
+use Rattle.std.specs.Option.{option_map_or}
+use Rattle.lisp_data.specs.Name.{Nam}
+use Rattle.lisp_data.specs.Value.{Val, Vals, instance, list, nil, cons}
 use Rattle.lisp_data.specs.declared.ids.CellId.{CellId}
+use Rattle.lisp_prims.specs.Predicates.{is_symbol}
 use Rattle.clos_forms.specs.Form.{Frm}
 use Rattle.clos_class.specs.declared.effective_slots.EffectiveSlot.{EffectiveSlot}
 use Rattle.clos_store.specs.Store.{slot_found}
@@ -14,14 +17,53 @@ use Rattle.clos_machine.specs.declared.arguments.Context.{Context}
 use Rattle.clos_machine.specs.declared.machine.Filling.{Filling}
 use Rattle.clos_machine.specs.declared.machine.Task.TheVariants.{Plain}
 
--- an instance, its class, and the initargs
+-- an instance, its class, the names of the slots that may take their initforms, and the initargs
 pub record Subject : Type 0 where
   pub instance : ℕ
   pub class : ℕ
+  pub names : Val
   pub initargs : List Val
 
+-- the second of these arguments of shared-initialize
+abbrev pub names_in : List Val → Val
+names_in vs = option_map_or (λ v. v) (slice_get vs 1) (list nil)
+
+-- those after them
+abbrev pub initargs_in : List Val → List Val
+initargs_in vs = drop 2 vs
+
 abbrev pub subject_of : Filling → Subject
-subject_of f = record { instance = f.instance.0; class = f.class.0; initargs = f.initargs }
+subject_of f = record { instance = f.instance.0; class = f.class.0; names = names_in f.arguments; initargs = initargs_in f.arguments }
+
+-- ---- the names of slots: T for all, or a list of symbols
+
+abbrev pub is_symbol_t : Val → Bool
+is_symbol_t v = is_symbol_named (record { text = codes "T"; keyword = false }) v
+
+abbrev pub are_symbols : Vals → Bool
+are_symbols nil = true
+are_symbols (cons v vs) = is_symbol v && are_symbols vs
+
+abbrev pub is_list_of_symbols : Val → Bool
+is_list_of_symbols (list vs) = are_symbols vs
+is_list_of_symbols v = false
+
+abbrev pub are_slot_names : Val → Bool
+are_slot_names v = is_symbol_t v || is_list_of_symbols v
+
+abbrev pub is_listed : Nam → Vals → Bool
+is_listed name nil = false
+is_listed name (cons v vs) = is_symbol_named name v || is_listed name vs
+
+abbrev pub is_in_list : Nam → Val → Bool
+is_in_list name (list vs) = is_listed name vs
+is_in_list name v = false
+
+-- whether the slot of this name is among them
+abbrev pub is_named : Val → Nam → Bool
+is_named names name = is_symbol_t names || is_in_list name names
+
+-- ---- the slots
 
 -- the slots that come next
 abbrev pub slots_left : Filling → List EffectiveSlot
@@ -41,19 +83,21 @@ abbrev pub form_filler : Option Frm → Filler
 form_filler None = nothing
 form_filler (Some f) = initform f
 
--- a local slot that is unbound takes its initform, if there is one; a shared one takes none
-abbrev pub unbound_filler : Option CellId → Option (Option Val) → Option Frm → Filler
-unbound_filler None (Some None) o = form_filler o
-unbound_filler None (Some (Some v)) o = nothing
-unbound_filler None None o = nothing
-unbound_filler (Some cell) found o = nothing
+-- a local slot that is named and unbound takes its initform, if there is one; a shared one takes none
+abbrev pub unbound_filler : Bool → Option CellId → Option (Option Val) → Option Frm → Filler
+unbound_filler true None (Some None) o = form_filler o
+unbound_filler true None (Some (Some v)) o = nothing
+unbound_filler true None None o = nothing
+unbound_filler true (Some cell) found o = nothing
+unbound_filler false cell found o = nothing
 
 abbrev pub filler_by : Option Val → Filler → Filler
 filler_by None other = other
 filler_by (Some v) other = value v
 
 abbrev pub filler : State → Subject → EffectiveSlot → Filler
-filler w f slot = filler_by (initarg_for slot f.initargs) (unbound_filler slot.cell (slot_found w.store f.instance slot.name) slot.initform)
+filler w f slot =
+    filler_by (initarg_for slot f.initargs) (unbound_filler (is_named f.names slot.name) slot.cell (slot_found w.store f.instance slot.name) slot.initform)
 
 -- the slot has this value, in one step; then the rest
 abbrev pub filled : Subject → EffectiveSlot → Run → Val → Run

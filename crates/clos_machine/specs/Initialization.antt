@@ -12,14 +12,14 @@ use Rattle.clos_world.specs.Class.{class_name, effective}
 use Rattle.clos_world.specs.World.{State}
 use Rattle.clos_world.specs.declared.condition.Condition.{Condition}
 use Rattle.clos_world.specs.declared.condition.ConditionKind.TheVariants.{ProgramError, InvalidInitarg, TableLimit}
-use Rattle.clos_machine.specs.Calls.{known, scoped}
+use Rattle.clos_world.specs.declared.system.SystemFunction.TheVariants.{InitializeInstance}
+use Rattle.clos_machine.specs.Bodies.{scoped}
+use Rattle.clos_machine.specs.GenericCalls.{known, invoked}
 use Rattle.clos_machine.specs.Objects.{designated}
 use Rattle.clos_machine.specs.Outcome.{Stopped, Run, Eval, then_do, gave, stopped, step_then}
 use Rattle.clos_machine.specs.Parameters.{are_pairs, argument_named, is_allow_other_keys, is_allowing, is_symbol_named}
 use Rattle.clos_machine.specs.declared.arguments.Context.{Context}
-use Rattle.clos_machine.specs.declared.machine.Filling.{Filling}
-use Rattle.clos_machine.specs.declared.machine.SystemCall.TheVariants.{Initialize}
-use Rattle.clos_machine.specs.declared.machine.Task.TheVariants.{Plain, System}
+use Rattle.clos_machine.specs.declared.machine.Task.TheVariants.{Plain}
 
 -- ---- the validity of initargs (7.1.2): each names a slot, or is :ALLOW-OTHER-KEYS
 
@@ -43,20 +43,17 @@ abbrev pub invalid_for : Val → Option Nam → Condition
 invalid_for k None = record { kind = InvalidInitarg; items = k ∷ [] }
 invalid_for k (Some name) = record { kind = InvalidInitarg; items = k ∷ name_value name ∷ [] }
 
--- ---- initialize-instance is called with an instance of a class that has these slots, and gives the instance
+-- ---- initialize-instance is called with an instance of this class, unless an initarg is not valid; the instance is given
 
-abbrev pub filling_of : ℕ → Effective → List Val → ℕ → Filling
-filling_of c e vs i = record { instance = record { 0 = i }; class = record { 0 = c }; initargs = vs; effective = e; place = 0 }
-
-abbrev pub initialized : Eval → Context → ℕ → Effective → List Val → ℕ → Option Val → Run
-initialized ev env c e vs i (Some k) w s = Stopped (invalid_for k (class_name w.classes c)) w s
-initialized ev env c e vs i None w s = then_do (ev env (System (Initialize (filling_of c e vs i))) w s) (λ v. gave (instance i))
+abbrev pub initialized : Eval → ℕ → List Val → ℕ → Option Val → Run
+initialized ev c vs i (Some k) w s = Stopped (invalid_for k (class_name w.classes c)) w s
+initialized ev c vs i None w s = then_do (invoked ev InitializeInstance (instance i ∷ vs) w s) (λ v. gave (instance i))
 
 -- ---- the instance is made, in one step, and then initialized
 
 abbrev pub made : Eval → Context → ℕ → Effective → List Val → Run
 made ev env c e vs w s =
-    initialized ev env c e vs (length w.store.instances + 1) (invalid_initarg e.slots vs) (record w { store = with_instance (allocated c e.layout) w.store }) s
+    initialized ev c vs (length w.store.instances + 1) (invalid_initarg e.slots vs) (record w { store = with_instance (allocated c e.layout) w.store }) s
 
 abbrev pub allocate : Eval → Context → ℕ → Effective → List Val → Run
 allocate ev env c e vs w s = if has_room w.store then step_then (made ev env c e vs) w s else stopped TableLimit [] w s

@@ -5,6 +5,7 @@ use Rattle.lisp_data.specs.Value.{Val, list, nil}
 use Rattle.lisp_data.specs.ValueView.{value_of}
 use Rattle.lisp_data.specs.declared.ids.ClassId.{ClassId}
 use Rattle.lisp_data.specs.declared.value.Value.{Value}
+use Rattle.lisp_prims.specs.Primitive.{truth}
 use Rattle.clos_forms.specs.Form.{Frm, Frms, operator_in}
 use Rattle.clos_forms.specs.Operator as of
 use Rattle.clos_forms.specs.Operator.{Opr, Bound}
@@ -14,22 +15,23 @@ use Rattle.clos_world.specs.declared.condition.Condition.{Condition}
 use Rattle.clos_world.specs.declared.condition.ConditionKind.TheVariants.{Unsupported}
 use Rattle.clos_world.specs.declared.condition.Stop.{Stop}
 use Rattle.clos_world.specs.declared.condition.Stop.TheVariants.{Refused, Storage}
-use Rattle.clos_machine.specs.Calls.{restoring, parameters_run}
+use Rattle.clos_machine.specs.Bodies.{restoring, parameters_run}
 use Rattle.clos_machine.specs.Control.{followed, keeping, tested, clauses, sequence}
 use Rattle.clos_machine.specs.Filling.{fill_with, slots_left, subject_of}
+use Rattle.clos_machine.specs.GenericCalls.{invoked}
 use Rattle.clos_machine.specs.Initialization.{default_given}
 use Rattle.clos_machine.specs.Meaning.{acted, changed_from, collect, setq, setf, meaning, closed}
-use Rattle.clos_machine.specs.Outcome.{Out, Gave, Stopped, Run, Eval, then_do, step_then, gave}
+use Rattle.clos_machine.specs.Outcome.{Out, Gave, Stopped, Run, Eval, then_do, step_then, gave, is_true}
 use Rattle.clos_machine.specs.Parameters.{Sources, argument, refused, init}
 use Rattle.clos_machine.specs.Variables.{Loop, found_value, in_order, binding, within, aside, repeated, turns}
 use Rattle.clos_machine.specs.declared.arguments.Context.{Context}
 use Rattle.clos_machine.specs.declared.machine.Action.{Action}
 use Rattle.clos_machine.specs.declared.machine.Action.TheVariants.{Call, Set, Store, Change, NewValue, Amount, ChangePlace, Allocate, Fill, FillWith, Write}
 use Rattle.clos_machine.specs.declared.machine.Doing.{Doing}
-use Rattle.clos_machine.specs.declared.machine.Doing.TheVariants.{Start, Act, Give}
+use Rattle.clos_machine.specs.declared.machine.Doing.TheVariants.{Start, Act, Invoke, Give}
 use Rattle.clos_machine.specs.declared.machine.Doing.TheVariants as doing
 use Rattle.clos_machine.specs.declared.machine.Frame.{Frame}
-use Rattle.clos_machine.specs.declared.machine.Frame.TheVariants.{Rest, Keep, Clause, Collect, Body, Bind, Scope, InOrder, Aside, Count, Turn, Setq, Setf, Changed, Default, Filled, Known, Passing}
+use Rattle.clos_machine.specs.declared.machine.Frame.TheVariants.{Rest, Keep, Clause, Collect, Body, Bind, Scope, InOrder, Aside, Count, Turn, Setq, Setf, Changed, Default, Filled, Truth, Known, Passing}
 use Rattle.clos_machine.specs.declared.machine.Level.{Level}
 use Rattle.clos_machine.specs.declared.machine.Machine.{Machine}
 use Rattle.clos_machine.specs.declared.machine.Repetition.{Repetition}
@@ -65,6 +67,7 @@ below env (Setf rest) = env
 below env (Changed p t vs amount) = env
 below env (Default c e place vs) = env
 below env (Filled f) = env
+below env Truth = env
 below env (Known saved) = saved
 below env Passing = env
 
@@ -86,6 +89,7 @@ after ev env (Setf rest) = λ v. setf ev env rest v
 after ev env (Changed p t vs amount) = λ old. changed_from ev env p t vs (value_of amount) old
 after ev env (Default c e place vs) = λ v. default_given ev env c.0 e (drop place e.defaults) vs v
 after ev env (Filled f) = λ v. fill_with ev env (subject_of f) (slots_left f) v
+after ev env Truth = λ v. gave (truth (is_true v))
 after ev env (Known saved) = gave
 after ev env Passing = gave
 
@@ -98,6 +102,7 @@ abbrev pub doing_run : ℕ → Context → Doing → Run
 doing_run room env (Start task) w s = meaning room env task w s
 doing_run room env (doing.Collect action forms values) w s = collect (meaning room) env forms values (acted (meaning room) env action) w s
 doing_run room env (Act action values) w s = acted (meaning room) env action values w s
+doing_run room env (Invoke f values) w s = invoked (meaning room) f values w s
 doing_run room env (doing.Turn l counter) w s = turns (meaning room) env (loop_of l) counter.0 counter.1 w s
 doing_run room env (Give value) w s = Gave (value_of value) w s
 
@@ -179,6 +184,7 @@ weight_of (Setf rest) = 2
 weight_of (Changed p t vs amount) = 6
 weight_of (Default c e place vs) = 5
 weight_of (Filled f) = 4
+weight_of Truth = 2
 weight_of (Known saved) = 2
 weight_of Passing = 2
 
@@ -190,6 +196,7 @@ abbrev pub given : Doing → ℕ
 given (Start task) = 0
 given (doing.Collect action forms values) = 9 + lift action
 given (Act action values) = 8 + lift action
+given (Invoke f values) = 3
 given (doing.Turn l counter) = 8
 given (Give value) = 6
 

@@ -22,7 +22,8 @@ use Rattle.clos_world.specs.World.{State, unbound}
 use Rattle.clos_world.specs.declared.condition.ConditionKind.TheVariants.{ProgramError, UndefinedFunction, Unsupported, DepthLimit}
 use Rattle.clos_machine.specs.Accessors.{written_by}
 use Rattle.clos_machine.specs.Assignment.{stored_only, changed_only}
-use Rattle.clos_machine.specs.Calls.{known, combined, system}
+use Rattle.clos_machine.specs.Calls.{combined}
+use Rattle.clos_machine.specs.GenericCalls.{known}
 use Rattle.clos_machine.specs.Control.{going, clauses}
 use Rattle.clos_machine.specs.Fault.{answered}
 use Rattle.clos_machine.specs.Filling.{fill, fill_with, slots_left, subject_of}
@@ -36,7 +37,7 @@ use Rattle.clos_machine.specs.declared.machine.Action.TheVariants.{Call, Set, St
 use Rattle.clos_machine.specs.declared.machine.Control.TheVariants.{Progn, Prog1, If, When, Unless, And, Or}
 use Rattle.clos_machine.specs.declared.machine.Target.{Target}
 use Rattle.clos_machine.specs.declared.machine.Target.TheVariants as target
-use Rattle.clos_machine.specs.declared.machine.Task.TheVariants.{Plain, Effect, System}
+use Rattle.clos_machine.specs.declared.machine.Task.TheVariants.{Plain, Effect}
 
 -- the values of forms, from left to right
 abbrev pub collect : Eval → Context → Frms → List Val → (List Val → Run) → Run
@@ -175,7 +176,6 @@ body ev env f w s = operated ev env (operator_in f) (parts_in f) w s
 abbrev pub begun : Eval → Eval
 begun ev env (Plain f) = body ev env f
 begun ev env (Effect e) = combined ev env e
-begun ev env (System c) = system ev env c
 
 -- With this much room for depth: each form takes a step, and what it evaluates has one less room.
 abbrev pub meaning : ℕ → Eval

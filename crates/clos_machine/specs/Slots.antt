@@ -1,24 +1,25 @@
 -- The slots of instances by their names (HyperSpec 7.5.1, 7.5.2; 7.7 slot-value, slot-boundp, slot-makunbound and slot-exists-p).
-use Rattle.std.specs.Prelude.{ℕ, Bool, false, List, [], ◌∷◌, Option, Some, None, is_some, Result, Ok, Err}
+use Rattle.std.specs.Prelude.{ℕ, Bool, false, codes, List, [], ◌∷◌, Option, Some, None, is_some, Result, Ok, Err}
 use Rattle.std.specs.List.{find}
 use Rattle.lisp_data.specs.Name.{Nam, same_name}
-use Rattle.lisp_data.specs.Value.{Val, instance}
+use Rattle.lisp_data.specs.Value.{Val, class, instance, symbol}
 use Rattle.lisp_prims.specs.Primitive.{truth}
+use Rattle.clos_forms.specs.Quotation.{name_value}
 use Rattle.clos_class.specs.Slots.{effective_slots}
 use Rattle.clos_class.specs.SlotsView.{direct_slots}
 use Rattle.clos_class.specs.Table.{Table}
 use Rattle.clos_store.specs.Store.{slot_found, with_slot}
 use Rattle.clos_world.specs.Class.{precedence_or_none}
-use Rattle.clos_world.specs.World.{State, class_of_instance}
+use Rattle.clos_world.specs.World.{State, class_of, class_of_instance}
 use Rattle.clos_world.specs.declared.condition.Condition.{Condition}
 use Rattle.clos_world.specs.declared.condition.ConditionKind.TheVariants.{ProgramError}
+use Rattle.clos_world.specs.declared.system.SystemFunction.TheVariants.{SlotUnbound, SlotMissing}
 use Rattle.clos_machine.specs.ClassFunctions.{symbol_in, wrong_type}
-use Rattle.clos_machine.specs.Outcome.{Gave, Stopped, Run, Eval, step_then, stopped}
+use Rattle.clos_machine.specs.GenericCalls.{invoked}
+use Rattle.clos_machine.specs.Outcome.{Gave, Stopped, Run, Eval, then_do, step_then, gave, stopped, is_true}
 use Rattle.clos_machine.specs.declared.arguments.Context.{Context}
 use Rattle.clos_machine.specs.declared.callee.SlotFunction.{SlotFunction}
 use Rattle.clos_machine.specs.declared.callee.SlotFunction.TheVariants.{SlotValue, SlotBoundp, SlotMakunbound, SlotExistsP}
-use Rattle.clos_machine.specs.declared.machine.SystemCall.TheVariants.{SignalUnbound, SignalMissing}
-use Rattle.clos_machine.specs.declared.machine.Task.TheVariants.{System}
 
 -- ---- an instance and the name of a slot
 
@@ -37,27 +38,46 @@ slot_of (Ok i) name = slot_by i name (symbol_in name)
 abbrev pub slot_designated : Val → Val → Result (ℕ × Nam) Condition
 slot_designated v name = slot_of (instance_in v) name
 
--- ---- what is done with a slot: where there is none, slot-missing is called, and where one that is read is unbound, slot-unbound
+-- ---- what is called where an instance has no slot of this name, or one that is unbound
 
-abbrev pub missing : Eval → Context → ℕ → Nam → Run
-missing ev env i name w s = ev env (System (SignalMissing name (record { 0 = i }))) w s
+-- what is done with a slot, as slot-missing is told
+abbrev pub operation_name : List ℕ → Val
+operation_name text = symbol (record { text = text; keyword = false })
 
+abbrev pub class_value : State → ℕ → Val
+class_value w i = class (class_of w (instance i))
+
+-- slot-missing; a new value is the last of its arguments
+abbrev pub missing_called : Eval → ℕ → Nam → List ℕ → List Val → Run
+missing_called ev i name operation new w s = invoked ev SlotMissing (class_value w i ∷ instance i ∷ name_value name ∷ operation_name operation ∷ new) w s
+
+abbrev pub unbound_called : Eval → ℕ → Nam → Run
+unbound_called ev i name w s = invoked ev SlotUnbound (class_value w i ∷ instance i ∷ name_value name ∷ []) w s
+
+-- ---- what is done with a slot
+
+-- the value of the slot, or that of the call
 abbrev pub slot_read : Eval → Context → ℕ → Nam → Option (Option Val) → Run
-slot_read ev env i name None w s = missing ev env i name w s
-slot_read ev env i name (Some None) w s = ev env (System (SignalUnbound name (record { 0 = i }))) w s
+slot_read ev env i name None w s = missing_called ev i name (codes "SLOT-VALUE") [] w s
+slot_read ev env i name (Some None) w s = unbound_called ev i name w s
 slot_read ev env i name (Some (Some v)) w s = Gave v w s
 
+-- whether it has a value, or whether that of the call is true
 abbrev pub slot_tested : Eval → Context → ℕ → Nam → Option (Option Val) → Run
-slot_tested ev env i name None w s = missing ev env i name w s
+slot_tested ev env i name None w s = then_do (missing_called ev i name (codes "SLOT-BOUNDP") [] w s) (λ v. gave (truth (is_true v)))
 slot_tested ev env i name (Some value) w s = Gave (truth (is_some value)) w s
+
+abbrev pub missing_changed : Eval → ℕ → Nam → Option Val → Run
+missing_changed ev i name None w s = missing_called ev i name (codes "SLOT-MAKUNBOUND") [] w s
+missing_changed ev i name (Some new) w s = missing_called ev i name (codes "SETF") (new ∷ []) w s
 
 -- a slot has this value, or none; this other value is given
 abbrev pub slot_stored : ℕ → Nam → Option Val → Val → Run
 slot_stored i name value v w s = Gave v (record w { store = with_slot i name value w.store }) s
 
--- the same of a slot that may be missing, in one step
+-- the same of a slot that may be missing, in one step; the value of the call is not used
 abbrev pub slot_changed : Eval → Context → ℕ → Nam → Option Val → Val → Option (Option Val) → Run
-slot_changed ev env i name value v None w s = missing ev env i name w s
+slot_changed ev env i name value v None w s = then_do (missing_changed ev i name value w s) (λ x. gave v)
 slot_changed ev env i name value v (Some old) w s = step_then (slot_stored i name value v) w s
 
 -- whether a class gives its instances a slot of this name

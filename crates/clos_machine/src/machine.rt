@@ -8,8 +8,8 @@ use crate::finalized::Finalized;
 use crate::locals::{Locals, Plan};
 use crate::parameters::ParameterPlan;
 use clos_forms::{Form, Forms};
-use clos_world::Values;
-use lisp_data::{ClassId, GenericId, InstanceId, Name, Value};
+use clos_world::{SystemFunction, Values};
+use lisp_data::{ClassId, InstanceId, Name, Value};
 use lisp_prims::Primitive;
 use std::alloc::{AllocError, Global};
 use std::marker::Model;
@@ -19,31 +19,15 @@ use std::marker::Model;
 pub enum Task {
     Plain(Form),
     Effect(EffectiveForm),
-    System(SystemCall),
 }
 
-/// The effective form of a call of a system generic function, whose one method is the system's.
-#[derive(Drop)]
-pub enum SystemCall {
-    /// The function no-applicable-method, of the generic function of this number and its arguments.
-    SignalNoApplicable(GenericId, Arguments),
-    /// The function slot-unbound, of the slot of this name and an instance.
-    SignalUnbound(Name, InstanceId),
-    /// The function slot-missing, of a name and an instance that has no such slot.
-    SignalMissing(Name, InstanceId),
-    /// The function initialize-instance.
-    Initialize(Filling),
-    /// The function shared-initialize.
-    InitializeShared(Filling),
-}
-
-/// An instance whose slots are filled in layout order: its class, the initargs, what the class has, and the place of the
-/// slot that comes next.
+/// An instance whose slots are filled in layout order: its class, the arguments of shared-initialize, which are the instance,
+/// the names of slots and the initargs, what the class has, and the place of the slot that comes next.
 #[derive(Drop)]
 pub struct Filling {
     pub instance: InstanceId,
     pub class: ClassId,
-    pub initargs: Arguments,
+    pub arguments: Arguments,
     pub effective: Finalized,
     pub place: usize,
 }
@@ -102,6 +86,8 @@ pub enum Doing {
     /// The action is done with these values and those of these forms.
     Collect(Action, Forms, Values),
     Act(Action, Values),
+    /// This generic function of the system is called with these arguments.
+    Invoke(SystemFunction, Values),
     /// The next turn of a loop, or its end.
     Turn(Repetition, Counter),
     /// The value goes to the top level.
@@ -164,6 +150,8 @@ pub enum Frame {
     Default(ClassId, Finalized, usize, Values),
     /// It is the value of the initform of the next slot.
     Filled(Filling),
+    /// T is given for it if it is true, and else NIL.
+    Truth,
     /// The context goes back to the caller's.
     Known(Context),
     /// Nothing.

@@ -109,7 +109,7 @@ pub fn are_pairs(values: &[Value]) -> bool
 }
 
 /// Whether a value is a symbol.
-fn is_symbol(value: &Value) -> bool
+pub fn is_symbol(value: &Value) -> bool
     ensures { result ≡ is_symbol (value_of value.now) }
 {
     match value {

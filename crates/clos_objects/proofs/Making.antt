@@ -16,7 +16,8 @@ use Rattle.clos_world.specs.declared.condition.Condition.{Condition}
 use Rattle.clos_world.specs.declared.condition.ConditionKind.TheVariants.{ProgramError, TableLimit, StepLimit}
 use Rattle.clos_world.specs.declared.condition.Stop.{Stop}
 use Rattle.clos_world.specs.declared.condition.Stop.TheVariants.{Refused, Storage}
-use Rattle.clos_machine.specs.Calls.{known, restoring}
+use Rattle.clos_machine.specs.Bodies.{restoring}
+use Rattle.clos_machine.specs.GenericCalls.{known}
 use Rattle.clos_machine.specs.Initialization.{allocate, default_given, defaulted, instance_made, making, initialized, invalid_for, invalid_initarg, is_given, made, making_of}
 use Rattle.clos_machine.specs.Machine.{Designates, Leads, Turns, at, inside, resume}
 use Rattle.clos_machine.specs.Meaning.{closed, meaning}
@@ -29,7 +30,7 @@ use Rattle.clos_machine.specs.declared.machine.Frame.TheVariants.{Body}
 use Rattle.clos_machine.specs.declared.machine.Machine.{Machine}
 use Rattle.clos_machine.proofs.Running.{turns_of_leads}
 use Rattle.clos_machine.proofs.Turns.{leads_same, stopped_through}
-use Rattle.clos_objects.specs.Objects.{Enters, TellsInvalid, default_first, ungiven}
+use Rattle.clos_objects.specs.Objects.{Enters, TellsCondition, default_first, ungiven}
 use Rattle.clos_objects.proofs.Placing.{stops_at_once, turns_same}
 
 -- ---- default initargs
@@ -141,7 +142,7 @@ module _ (m : Machine) (c : ℕ) (e : Effective) (vs : List Val) where
 
 -- an initarg that is not valid
 pub refused_initarg : (m n : Machine) (ev : Eval) (env : Context) (c : ℕ) (e : Effective) (vs us : List Val) (i : ℕ) (k : Val) (cs : Table) (stop : Stop) (run : Run) (w : State)
-    → w.classes ≡ cs → Some k ≡ invalid_initarg e.slots us → us ≡ vs → TellsInvalid (invalid_for k (class_name cs c)) stop
+    → w.classes ≡ cs → Some k ≡ invalid_initarg e.slots us → us ≡ vs → TellsCondition (invalid_for k (class_name cs c)) stop
     → ((t : ℕ) → initialized ev env c e vs i (invalid_initarg e.slots vs) (at m w) t ≡ run (at m w) t) → Leads (inside m run) w (Err stop) n
 refused_initarg m n ev env c e vs us i k cs Storage run w a b g d h = tt
 refused_initarg m n ev env c e vs us i k cs (Refused x) run w a b g d h = λ t.

@@ -1,5 +1,5 @@
 -- What the parts of these protocols are told to do.
-use Rattle.std.specs.Prelude.{◌≡◌, ◌==◌, ℕ, drop, Bool, true, false, List, [], ◌∷◌, Option, Some, None, Result, Ok, Err, if◌then◌else◌}
+use Rattle.std.specs.Prelude.{◌≡◌, ◌==◌, ℕ, codes, drop, Bool, true, false, List, [], ◌∷◌, Option, Some, None, Result, Ok, Err, if◌then◌else◌}
 use Rattle.lisp_data.specs.Name.{Nam}
 use Rattle.lisp_data.specs.Value.{Val, instance}
 use Rattle.lisp_data.specs.ValueView.{value_of}
@@ -13,8 +13,10 @@ use Rattle.clos_world.specs.declared.condition.Stop.TheVariants.{Refused, Storag
 use Rattle.clos_machine.specs.Filling.{Filler, Subject, fill, filled, filler, nothing, value, initform}
 use Rattle.clos_class.specs.Slots.{Effective}
 use Rattle.clos_forms.specs.Form.{Frm, nil}
-use Rattle.clos_machine.specs.Calls.{known}
+use Rattle.clos_machine.specs.GenericCalls.{known}
 use Rattle.clos_machine.specs.Initialization.{default_given, is_given}
+use Rattle.clos_forms.specs.Quotation.{name_value}
+use Rattle.clos_machine.specs.Slots.{class_value, operation_name}
 use Rattle.clos_machine.specs.Outcome.{Gave, Run, Eval, then_do, stopped}
 use Rattle.clos_machine.specs.declared.machine.Frame.TheVariants.{Body}
 use Rattle.clos_machine.specs.declared.machine.Machine.{Machine}
@@ -50,6 +52,12 @@ abbrev pub DesignatesInstance : Result ℕ Condition → Result InstanceId Stop 
 DesignatesInstance d (Ok i) = d ≡ Ok i.0
 DesignatesInstance d (Err (Refused c)) = d ≡ Err c
 DesignatesInstance d (Err Storage) = Unit {0}
+
+-- ---- the arguments of slot-missing where a slot was to get this value, or none
+
+abbrev pub changed_arguments : State → ℕ → Nam → Option Val → List Val
+changed_arguments w i name None = class_value w i ∷ instance i ∷ name_value name ∷ operation_name (codes "SLOT-MAKUNBOUND") ∷ []
+changed_arguments w i name (Some new) = class_value w i ∷ instance i ∷ name_value name ∷ operation_name (codes "SETF") ∷ new ∷ []
 
 -- ---- slots that are filled
 
@@ -108,6 +116,6 @@ abbrev pub Enters : Machine → Machine → Type 0
 Enters m n = n ≡ record { levels = (record { frame = Body nil m.context m.locals; room = m.room }) ∷ m.levels; context = known []; locals = []; room = m.room }
 
 -- this condition is told, unless memory ran out
-abbrev pub TellsInvalid : Condition → Stop → Type 0
-TellsInvalid d (Refused c) = c ≡ d
-TellsInvalid d Storage = Unit {0}
+abbrev pub TellsCondition : Condition → Stop → Type 0
+TellsCondition d (Refused c) = c ≡ d
+TellsCondition d Storage = Unit {0}

@@ -8,19 +8,21 @@ ghost use Rattle.clos_machine.specs.Initialization.{allocate, default_given, def
 ghost use Rattle.clos_machine.specs.Machine.{Grows, Leads, Turns, at, inside};
 ghost use Rattle.clos_machine.specs.Meaning.{meaning};
 ghost use Rattle.clos_machine.specs.Outcome.{Run};
-ghost use Rattle.clos_objects.specs.Objects.{Enters, TellsInvalid, default_first, ungiven};
+ghost use Rattle.clos_objects.specs.Objects.{Enters, TellsCondition, default_first, ungiven};
 
 use crate::classes::designate;
 use crate::initargs::{invalid_initarg, is_given};
-use clos_control::control::begin;
+use clos_control::control::{begin, invoke_under};
 use clos_forms::{Forms, value_named};
 use clos_machine::arguments::{Arguments, Context};
 use clos_machine::finalized::Finalized;
 use clos_machine::locals::Locals;
-use clos_machine::machine::{Action, Doing, Filling, Frame, Level, Machine, SystemCall, Task};
+use clos_machine::machine::{Action, Doing, Frame, Level, Machine, Task};
 use clos_machine::parameters::are_pairs;
 use clos_syntax::DefaultInitarg;
-use clos_world::{Condition, ConditionKind, Stop, Values, World, about, about_both, plain};
+use clos_world::{
+    Condition, ConditionKind, Stop, SystemFunction, Values, World, about, about_both, plain,
+};
 use lisp_data::{ClassId, InstanceId, Value};
 use std::alloc::{AllocError, Global};
 use std::mem;
@@ -85,7 +87,7 @@ fn make_of(
 }
 
 /// The machine has no variables and no arguments for the forms that follow; those from before come back after them.
-fn enter(alloc: Global, machine: &mut Machine) -> Result<(), AllocError>
+pub fn enter(alloc: Global, machine: &mut Machine) -> Result<(), AllocError>
     ensures { IfOk result (λ u. Enters machine.old machine.new) }
 {
     let arguments = Arguments::new(alloc, Values::new(alloc))?;
@@ -223,7 +225,7 @@ pub fn allocate(
     steps: &mut u64,
 ) -> Result<Doing, Stop>
     ensures turns { Turns (inside machine.old (allocate (meaning machine.old.room) machine.old.context class.0 effective initargs)) (seen world.old) steps.old result machine.new (seen world.new) steps.new }
-    ensures small { Grows 2 machine.old.levels result machine.new }
+    ensures small { Grows 5 machine.old.levels result machine.new }
     ensures fewer { steps.new ≤ steps.old }
 {
     let Some(id) = world.store.next_instance() else {
@@ -278,35 +280,25 @@ fn initialize(
     world: &World,
     class: ClassId,
     effective: &Finalized,
-    initargs: Values,
+    mut initargs: Values,
     id: InstanceId,
 ) -> Result<Doing, Stop>
     ensures leads { (run : Run) (w : State) → w.classes ≡ (seen world.now).classes
-        → ((t : ℕ) → initialized (meaning machine.old.room) machine.old.context class.0 effective.now initargs id.0 (invalid_initarg effective.now.slots initargs) (at machine.old w) t ≡ run (at machine.old w) t)
+        → ((t : ℕ) → initialized (meaning machine.old.room) class.0 initargs id.0 (invalid_initarg effective.now.slots initargs) (at machine.old w) t ≡ run (at machine.old w) t)
         → Leads (inside machine.old run) w result machine.new }
-    ensures small { Grows 2 machine.old.levels result machine.new }
+    ensures small { Grows 5 machine.old.levels result machine.new }
 {
     if let Some(name) = invalid_initarg(effective.slots(), initargs.as_slice()) {
         return Err(refuse(alloc, world, class, name));
     }
-    let filling = Filling {
-        instance: id,
-        class,
-        initargs: Arguments::new(alloc, initargs)?,
-        effective: effective.copy()?,
-        place: 0,
-    };
-    let next = Task::System(SystemCall::Initialize(filling));
-    begin(
-        machine,
-        next,
-        Frame::Keep(Forms::new(), Value::Instance(id)),
-    )
+    initargs.push_first(Value::Instance(id))?;
+    let frame = Frame::Keep(Forms::new(), Value::Instance(id));
+    invoke_under(machine, SystemFunction::InitializeInstance, initargs, frame)
 }
 
 /// Why no instance of a class is initialized with this initarg.
-fn refuse(alloc: Global, world: &World, class: ClassId, name: &Value) -> Stop
-    ensures { TellsInvalid (invalid_for (value_of name.now) (class_name (seen world.now).classes class.0)) result }
+pub fn refuse(alloc: Global, world: &World, class: ClassId, name: &Value) -> Stop
+    ensures { TellsCondition (invalid_for (value_of name.now) (class_name (seen world.now).classes class.0)) result }
 {
     match invalid(alloc, world, class, name) {
         Ok(condition) => Stop::Refused(condition),

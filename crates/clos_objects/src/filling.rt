@@ -1,15 +1,18 @@
 //! The system's method of shared-initialize (HyperSpec 7.1.4): the slots of an instance are filled in layout order.
 ghost use Rattle.std.specs.Prelude.{◌≡◌, ◌∷◌, [], ℕ, ◌≤◌, IfOk, MatchOption, drop, option_copied};
+ghost use Rattle.std.specs.Option.{option_map_or};
+ghost use Rattle.lisp_data.specs.Value.{list, nil};
 ghost use Rattle.lisp_data.specs.ValueView.{value_of};
 ghost use Rattle.clos_store.specs.Store.{slot_found};
 ghost use Rattle.clos_world.specs.World.{class_of_instance, seen};
-ghost use Rattle.clos_machine.specs.Filling.{fill, fill_with, filler, is_the_class, slots_left, subject_of, unbound_filler};
+ghost use Rattle.clos_machine.specs.Filling.{is_named, fill, fill_with, filler, is_the_class, slots_left, subject_of, unbound_filler};
 ghost use Rattle.clos_machine.specs.Machine.{Grows, Leads, Shrinks, Turns, inside};
 ghost use Rattle.clos_machine.specs.Meaning.{meaning};
 ghost use Rattle.clos_machine.specs.declared.machine.Filling.{Filling};
 ghost use Rattle.clos_objects.specs.Objects.{Finds, filler_found, filler_of_form, first_filled};
 
 use crate::initargs::initarg_for;
+use crate::slot_names::{initargs_in, is_named, names_in};
 use clos_class::EffectiveSlot;
 use clos_control::control::begin;
 use clos_forms::Form;
@@ -26,9 +29,14 @@ pub enum Found {
     Initform(Form),
 }
 
-/// The initform of a local slot that is unbound.
-fn initform_for<'a>(world: &World, id: InstanceId, slot: &'a EffectiveSlot) -> Option<&'a Form>
-    ensures { filler_of_form (option_copied result) ≡ unbound_filler slot.now.cell (slot_found (seen world.now).store id.0 slot.now.name) slot.now.initform }
+/// The initform of a local slot that is unbound and named.
+fn initform_for<'a>(
+    world: &World,
+    id: InstanceId,
+    names: Option<&Value>,
+    slot: &'a EffectiveSlot,
+) -> Option<&'a Form>
+    ensures { filler_of_form (option_copied result) ≡ unbound_filler (is_named (option_map_or (λ v. value_of v.now) names (list nil)) slot.now.name) slot.now.cell (slot_found (seen world.now).store id.0 slot.now.name) slot.now.initform }
 {
     if slot.cell.is_some() {
         return None;
@@ -36,7 +44,7 @@ fn initform_for<'a>(world: &World, id: InstanceId, slot: &'a EffectiveSlot) -> O
     match world.store.slot(id, &slot.name) {
         None => None,
         Some(found) => {
-            if found.value().is_some() {
+            if found.value().is_some() || !is_named(names, &slot.name) {
                 return None;
             }
             slot.initform.as_ref()
@@ -52,10 +60,11 @@ fn find_filler(
 ) -> Result<Option<Found>, AllocError>
     ensures { IfOk result (λ r. filler_found r ≡ filler (seen world.now) (subject_of filling.now) slot.now) }
 {
-    if let Some(value) = initarg_for(slot, filling.initargs.as_slice()) {
+    let arguments = filling.arguments.as_slice();
+    if let Some(value) = initarg_for(slot, initargs_in(arguments)) {
         return Ok(Some(Found::Value(value.copy()?)));
     }
-    match initform_for(world, filling.instance, slot) {
+    match initform_for(world, filling.instance, names_in(arguments), slot) {
         None => Ok(None),
         Some(form) => Ok(Some(Found::Initform(form.copy()?))),
     }

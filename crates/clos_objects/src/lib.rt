@@ -6,4 +6,6 @@ mod classes;
 pub mod creation;
 pub mod filling;
 mod initargs;
+mod slot_names;
 pub mod slots;
+pub mod system_methods;

@@ -10,7 +10,7 @@ use Rattle.clos_forms.specs.declared.operator.FunctionName.{FunctionName}
 use Rattle.clos_world.specs.declared.generic.MethodBody.TheVariants.{Forms}
 use Rattle.clos_world.specs.World.{State, seen}
 use Rattle.clos_world.specs.declared.world.World.{World}
-use Rattle.clos_machine.specs.Calls.{known}
+use Rattle.clos_machine.specs.GenericCalls.{known}
 use Rattle.clos_machine.specs.Meaning.{evaluation}
 use Rattle.clos_machine.specs.Outcome.{Out, Gave, Stopped, Run, then_do, step_then}
 use Rattle.clos_world.specs.Functions.{function_in}

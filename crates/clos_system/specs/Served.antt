@@ -35,6 +35,10 @@ use Rattle.clos_machine.specs.Parameters.{requires_only}
 use Rattle.clos_machine.specs.declared.callee.Callee.{Callee}
 use Rattle.clos_machine.specs.declared.callee.Callee.TheVariants.{Output, Terpri, Primitive, MakeInstance, ClassFunction, SlotFunction, Defined}
 
+-- the functions by which instances are initialized
+abbrev pub is_initialization : Nam → Bool
+is_initialization name = is_called (codes "INITIALIZE-INSTANCE") name || (is_called (codes "REINITIALIZE-INSTANCE") name || is_called (codes "SHARED-INITIALIZE") name)
+
 -- whether a function is served: of those of the language some are not yet, and have no other meaning
 abbrev pub is_served_as : Callee → Nam → Bool
 is_served_as (Output o) name = true
@@ -43,7 +47,7 @@ is_served_as (Primitive p) name = true
 is_served_as MakeInstance name = true
 is_served_as (ClassFunction f) name = true
 is_served_as (SlotFunction f) name = true
-is_served_as Defined name = not (is_one_of functions name) && not (is_one_of system_functions name)
+is_served_as Defined name = not (is_one_of functions name) && (not (is_one_of system_functions name) || is_initialization name)
 
 abbrev pub calls : Nam → Bool
 calls name = is_served_as (callee_of name) name
@@ -99,6 +103,11 @@ abbrev pub names_system : FunctionName → Bool
 names_system (Symbol n) = is_one_of system_functions n
 names_system (Setf n) = false
 
+-- whether it is the name of one that takes methods of the program's
+abbrev pub is_extensible : FunctionName → Bool
+is_extensible (Symbol n) = not (is_one_of system_functions n) || is_called (codes "SLOT-UNBOUND") n
+is_extensible (Setf n) = true
+
 -- whether it is a method on a generic function of the system
 abbrev pub is_system_accessor : Accessor → Bool
 is_system_accessor (Reader n) = is_one_of system_functions n
@@ -138,7 +147,7 @@ classes_named ss = if list_any is_eql ss then None else Some (map class_name ss)
 -- an unqualified method on classes, of required parameters alone, with a body that is served
 abbrev pub served_method : FunctionName → MethodDefinition → Option Served
 served_method f m =
-    if not (names_system f) && is_plain m.qualifiers m.lambda_list m.body
+    if is_extensible f && is_plain m.qualifiers m.lambda_list m.body
     then (classes_named m.specializers >>= λ cs. Some (DefineMethod f m.lambda_list.required cs m.body))
     else None
 

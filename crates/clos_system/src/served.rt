@@ -7,7 +7,7 @@ ghost use Rattle.clos_forms.specs.Form.{Frm, Frms};
 ghost use Rattle.clos_forms.specs.OperatorView.{called_of, operator_of};
 ghost use Rattle.clos_lambda.specs.LambdaList.{entries_of};
 ghost use Rattle.clos_class.specs.Table.{is_shared};
-ghost use Rattle.clos_system.specs.Served.{are_served, calls, class_name, classes_named, is_combination, is_eql, is_plain, is_plain_class, is_plain_slot, is_served, is_unserved, are_inits_served, served_class, served_function, served_method, served_of, names_system, is_system_accessor, served_variable, serves, names_served, is_served_as, is_served_if_any};
+ghost use Rattle.clos_system.specs.Served.{are_served, calls, class_name, classes_named, is_combination, is_eql, is_plain, is_plain_class, is_plain_slot, is_served, is_unserved, are_inits_served, served_class, served_function, served_method, served_of, names_system, is_extensible, is_initialization, is_system_accessor, served_variable, serves, names_served, is_served_as, is_served_if_any};
 
 use clos_forms::{Form, Forms, FunctionName, Operator, is_function, is_system_function, is_the};
 use clos_machine::callee::{Callee, callee_named};
@@ -135,6 +135,16 @@ fn names_system(name: &FunctionName) -> bool
     }
 }
 
+/// Whether it is the name of a function that takes methods of the program's: of those of the system, slot-unbound alone.
+fn is_extensible(name: &FunctionName) -> bool
+    ensures { result ≡ is_extensible name.now }
+{
+    match name {
+        FunctionName::Symbol(name) => !is_system_function(name) || is_the(name, "SLOT-UNBOUND"),
+        FunctionName::Setf(_) => true,
+    }
+}
+
 fn is_shared(allocation: Allocation) -> bool
     ensures { result ≡ is_shared allocation }
 {
@@ -164,7 +174,7 @@ fn serve_method(
         specializers,
         body,
     } = method;
-    if names_system(&name) || !is_plain(&qualifiers, &lambda_list, &body) {
+    if !is_extensible(&name) || !is_plain(&qualifiers, &lambda_list, &body) {
         return Ok(None);
     }
     let Some(classes) = classes_named(alloc, specializers.as_slice())? else {
@@ -377,7 +387,9 @@ fn is_served_as(callee: Callee, name: &Name) -> bool
     ensures { result ≡ is_served_as callee name.now }
 {
     match callee {
-        Callee::Defined => !is_function(name) && !is_system_function(name),
+        Callee::Defined => {
+            !is_function(name) && (!is_system_function(name) || is_initialization(name))
+        }
         Callee::Output(_) => true,
         Callee::Terpri => true,
         Callee::Primitive(_) => true,
@@ -385,4 +397,13 @@ fn is_served_as(callee: Callee, name: &Name) -> bool
         Callee::ClassFunction(_) => true,
         Callee::SlotFunction(_) => true,
     }
+}
+
+/// Whether a function of this name initializes instances.
+fn is_initialization(name: &Name) -> bool
+    ensures { result ≡ is_initialization name.now }
+{
+    is_the(name, "INITIALIZE-INSTANCE")
+        || is_the(name, "REINITIALIZE-INSTANCE")
+        || is_the(name, "SHARED-INITIALIZE")
 }

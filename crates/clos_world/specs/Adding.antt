@@ -9,6 +9,7 @@ use Rattle.clos_world.specs.declared.adding.Addition.TheVariants.{Made, Put}
 use Rattle.clos_world.specs.declared.generic.Generic.{Generic}
 use Rattle.clos_world.specs.declared.generic.Method.{Method}
 use Rattle.clos_world.specs.declared.generic.MethodBody.{MethodBody}
+use Rattle.clos_world.specs.declared.generic.Rest.TheVariants.{Nothing}
 
 -- the methods of a function without one of these specializers
 abbrev pub without_same : List Method → List ℕ → List ℕ → List ℕ
@@ -23,7 +24,7 @@ with_new methods g specializers body = methods ++ (record { generic = record { 0
 -- A generic function is made with its first method, of so many required parameters.
 abbrev pub function_made : FunctionName → ℕ → List ℕ → MethodBody → State → State
 function_made name required specializers body w = record w {
-  generics = w.generics ++ (record { name = name; required = required; methods = length w.methods ∷ [] }) ∷ [];
+  generics = w.generics ++ (record { name = name; required = required; optional = 0; rest = Nothing; methods = length w.methods ∷ [] }) ∷ [];
   methods = with_new w.methods (length w.generics) specializers body;
 }
 

@@ -9,6 +9,7 @@ pub mod Globals
 pub mod GlobalsView
 pub mod Functions
 pub mod World
+pub mod System
 pub mod Initial
 pub mod FunctionName
 pub mod Adding

@@ -7,7 +7,9 @@ ghost use Rattle.clos_world.specs.Generic.{specializers_of};
 ghost use Rattle.clos_world.specs.World.{seen};
 
 use crate::class_ids::ClassIds;
-use crate::generic::{Generic, Generics, Method, MethodBody, MethodIds, method_numbered};
+use crate::generic::{
+    Generic, Generics, Method, MethodBody, MethodIds, Rest, method_numbered,
+};
 use crate::world::World;
 use clos_forms::FunctionName;
 use lisp_data::{GenericId, MethodId};
@@ -156,6 +158,8 @@ fn make_function(
     world.generics.push(Generic {
         name,
         required,
+        optional: 0,
+        rest: Rest::Nothing,
         methods,
     })?;
     let Ok(()) = world.methods.push(Method {

@@ -9,6 +9,7 @@ ghost use Rattle.clos_world.specs.GenericsView.{noted, without_number};
 ghost use Rattle.clos_world.specs.declared.generic.Generic.{Generic};
 
 use crate::class_ids::ClassIds;
+use crate::system::SystemFunction;
 use clos_forms::{Forms, FunctionName};
 use lisp_data::{GenericId, MethodId, Name};
 use std::alloc::{AllocError, Global};
@@ -147,6 +148,8 @@ pub enum MethodBody {
     Reader(Name),
     /// Writes it.
     Writer(Name),
+    /// What the system's method of this function does.
+    System(SystemFunction),
 }
 
 /// A method (HyperSpec 7.6.2).
@@ -157,12 +160,24 @@ pub struct Method {
     pub body: MethodBody,
 }
 
+/// Which arguments a generic function takes after those of its required and optional parameters (HyperSpec 3.4.2).
+#[derive(Clone, Copy, Debug, PartialEq, Eq)]
+pub enum Rest {
+    Nothing,
+    Anything,
+    /// Names, each with an argument; all names are allowed.
+    Keywords,
+}
+
 /// A generic function (HyperSpec 7.6.1).
 #[derive(Drop)]
 pub struct Generic {
     pub name: FunctionName,
     /// How many required parameters it has.
     pub required: u64,
+    /// How many optional ones.
+    pub optional: u64,
+    pub rest: Rest,
     /// In order of addition.
     pub methods: MethodIds,
 }

@@ -10,6 +10,7 @@ pub mod functions;
 pub mod generic;
 pub mod globals;
 pub mod limits;
+pub mod system;
 pub mod values;
 pub mod world;
 
@@ -21,8 +22,11 @@ pub use condition::{
 pub use dispatch::{PrecedenceLists, ordered_methods};
 pub use function_name::{called_value, setter_value};
 pub use functions::{Function, Functions};
-pub use generic::{Generic, Generics, Method, MethodBody, MethodIds, Parameters, method_numbered};
+pub use generic::{
+    Generic, Generics, Method, MethodBody, MethodIds, Parameters, Rest, method_numbered,
+};
 pub use globals::Globals;
 pub use limits::Limits;
+pub use system::SystemFunction;
 pub use values::Values;
 pub use world::World;

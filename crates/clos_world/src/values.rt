@@ -46,6 +46,24 @@ impl Values {
         Ok(())
     }
 
+    /// Copies of these values, at the end; where memory is refused, only some of them.
+    pub fn push_all(&mut self, values: &[Value]) -> Result<(), AllocError>
+        ensures { OnOk result (self.new ≡ self.old ++ map value_of values.now) }
+    {
+        for value in values {
+            self.values.push(value.copy()?)?;
+        }
+        Ok(())
+    }
+
+    /// One more value, before all others.
+    pub fn push_first(&mut self, value: Value) -> Result<(), AllocError>
+        ensures { self.new ≡ (if is_ok result then value_of value ∷ self.old else self.old) }
+    {
+        self.values.insert(0, value)?;
+        Ok(())
+    }
+
     /// How many they are.
     #[tactic(auto, using(std::proofs::lemmas::Grind::common_steps))]
     pub fn len(&self) -> usize

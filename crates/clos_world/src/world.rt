@@ -12,6 +12,7 @@ use crate::functions::Functions;
 use crate::generic::{Generics, Method};
 use crate::globals::Globals;
 use crate::limits::Limits;
+use crate::system;
 use clos_class::Classes;
 use clos_class_core::numbers;
 use clos_store::Store;
@@ -45,10 +46,11 @@ impl World {
         ensures { IfOk result (λ r. seen r ≡ initial limits) }
     {
         let classes = Classes::new(alloc, limits.classes)?;
+        let (generics, methods) = system::begin(alloc)?;
         Ok(World {
             classes,
-            generics: Generics::new(alloc),
-            methods: Vec::new(alloc),
+            generics,
+            methods,
             functions: Functions::new(alloc),
             setters: Functions::new(alloc),
             globals: Globals::new(alloc),

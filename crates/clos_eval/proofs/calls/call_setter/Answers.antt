@@ -3,7 +3,8 @@ use Rattle.clos_world.specs.FunctionName.{setter_value}
 use Rattle.clos_world.specs.Functions.{function_in}
 use Rattle.clos_world.specs.Values.{last_first}
 use Rattle.clos_world.specs.World.{seen}
-use Rattle.clos_machine.specs.Calls.{called_defined, called_generic, called_setter, called_setter_by}
+use Rattle.clos_machine.specs.Calls.{called_defined, called_setter, called_setter_by}
+use Rattle.clos_machine.specs.GenericCalls.{called_generic}
 use Rattle.clos_machine.specs.Machine.{inside}
 use Rattle.clos_machine.specs.Meaning.{meaning}
 use Rattle.clos_machine.proofs.Turns.{leads_same}

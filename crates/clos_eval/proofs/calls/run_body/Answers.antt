@@ -2,7 +2,8 @@ use Rattle.std.proofs.Common.{map, refl}
 use Rattle.lisp_data.specs.Value as value
 use Rattle.lisp_data.specs.ValueView.{value_of}
 use Rattle.clos_world.specs.World.{seen}
-use Rattle.clos_machine.specs.Calls.{known, scoped}
+use Rattle.clos_machine.specs.Bodies.{scoped}
+use Rattle.clos_machine.specs.GenericCalls.{known}
 use Rattle.clos_machine.specs.Control.{sequence}
 use Rattle.clos_machine.specs.Meaning.{meaning}
 use Rattle.clos_eval.proofs.Settled.{bound_stops, bound_goes}

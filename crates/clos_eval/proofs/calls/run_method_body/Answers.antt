@@ -1,7 +1,8 @@
 use Rattle.std.proofs.Common.{subst, sym}
 use Rattle.clos_world.specs.World.{seen}
 use Rattle.clos_world.specs.declared.generic.MethodBody.TheVariants.{Forms}
-use Rattle.clos_machine.specs.Calls.{body_run, method_body_run}
+use Rattle.clos_machine.specs.Bodies.{body_run}
+use Rattle.clos_machine.specs.Calls.{method_body_run}
 use Rattle.clos_machine.specs.Machine.{Leads, inside}
 use Rattle.clos_machine.specs.Meaning.{meaning}
 use Rattle.clos_machine.specs.Parameters.{required_sources}

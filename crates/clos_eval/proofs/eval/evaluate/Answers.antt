@@ -1,7 +1,7 @@
 use Rattle.std.proofs.Common.{[], subst, arith, Ok, Err}
 use Rattle.lisp_data.specs.ValueView.{value_of}
 use Rattle.clos_world.specs.World.{seen}
-use Rattle.clos_machine.specs.Calls.{known}
+use Rattle.clos_machine.specs.GenericCalls.{known}
 use Rattle.clos_machine.specs.Meaning.{evaluation}
 use Rattle.clos_machine.specs.Outcome.{Run}
 use Rattle.clos_machine.specs.Machine.{at, Reached, denote, given_to, below}

@@ -1,0 +1,280 @@
+//! What the system's methods do with the arguments of their calls (HyperSpec 7.1.4, 7.3, 7.7).
+ghost use Rattle.std.specs.Prelude.{◌≡◌, ◌∷◌, IfOk, map, option_map};
+ghost use Rattle.lisp_data.specs.Value.{instance};
+ghost use Rattle.lisp_data.specs.ValueView.{value_of};
+ghost use Rattle.clos_world.specs.World.{seen};
+ghost use Rattle.clos_machine.specs.Machine.{Grows, Leads, inside};
+ghost use Rattle.clos_machine.specs.Meaning.{meaning};
+ghost use Rattle.clos_machine.specs.SystemMethods.{class_in, initialize, initialize_slots, filled_as, reinitialize, reinitialize_as, shared_initialized, slot_condition, system_method_run, told};
+ghost use Rattle.clos_machine.specs.Filling.{initargs_in, names_in};
+ghost use Rattle.clos_objects.specs.Objects.{TellsCondition};
+ghost use Rattle.clos_world.specs.declared.condition.ConditionKind.TheVariants.{NoApplicableMethod};
+ghost use Rattle.clos_world.specs.declared.system.SystemFunction.TheVariants.{SharedInitialize};
+
+use crate::class_functions::wrong_type;
+use crate::creation::{enter, refuse};
+use crate::initargs::invalid_initarg;
+use crate::slot_names::are_slot_names;
+use crate::slots::instance_in;
+use clos_control::control::invoke_under;
+use clos_forms::Forms;
+use clos_machine::arguments::Arguments;
+use clos_machine::finalized::Finalized;
+use clos_machine::machine::{Action, Doing, Filling, Frame, Machine};
+use clos_machine::truth::{nil, t};
+use clos_world::{
+    Condition, ConditionKind, Stop, SystemFunction, Values, World, about_both, called_value, plain,
+};
+use lisp_data::{ClassId, InstanceId, Value};
+use std::alloc::{AllocError, Global};
+
+/// The system's method of this function runs.
+pub fn run_system_method(
+    alloc: Global,
+    machine: &mut Machine,
+    world: &World,
+    function: SystemFunction,
+    arguments: &Arguments,
+) -> Result<Doing, Stop>
+    ensures leads { Leads (inside machine.old (system_method_run (meaning machine.old.room) function arguments.now)) (seen world.now) result machine.new }
+    ensures small { Grows 9 machine.old.levels result machine.new }
+{
+    let Some((first, rest)) = arguments.as_slice().split_first() else {
+        return Err(Stop::Refused(plain(alloc, ConditionKind::ProgramError)));
+    };
+    match function {
+        SystemFunction::InitializeInstance => initialize(alloc, machine, world, first, rest),
+        SystemFunction::ReinitializeInstance => reinitialize(alloc, machine, world, first, rest),
+        SystemFunction::SharedInitialize => {
+            initialize_slots(alloc, machine, world, first, rest, arguments)
+        }
+        SystemFunction::SlotUnbound => {
+            Err(signal_slot(alloc, ConditionKind::UnboundSlot, arguments.as_slice()))
+        }
+        SystemFunction::SlotMissing => {
+            Err(signal_slot(alloc, ConditionKind::MissingSlot, arguments.as_slice()))
+        }
+        SystemFunction::NoApplicableMethod => Err(signal_unmatched(alloc, world, first, rest)),
+    }
+}
+
+/// Shared-initialize is called with these arguments, and then the instance is given.
+fn initialize_shared(
+    alloc: Global,
+    machine: &mut Machine,
+    world: &World,
+    id: InstanceId,
+    names: Value,
+    initargs: &[Value],
+) -> Result<Doing, Stop>
+    ensures leads { Leads (inside machine.old (shared_initialized (meaning machine.old.room) id.0 (value_of names) (map value_of initargs.now))) (seen world.now) result machine.new }
+    ensures small { Grows 5 machine.old.levels result machine.new }
+{
+    let _ = world;
+    let arguments = shared_arguments(alloc, id, names, initargs)?;
+    let frame = Frame::Keep(Forms::new(), Value::Instance(id));
+    invoke_under(machine, SystemFunction::SharedInitialize, arguments, frame)
+}
+
+/// The arguments of shared-initialize: an instance, the names of slots, and the initargs.
+fn shared_arguments(
+    alloc: Global,
+    id: InstanceId,
+    names: Value,
+    initargs: &[Value],
+) -> Result<Values, AllocError>
+    ensures { IfOk result (λ r. r ≡ instance id.0 ∷ value_of names ∷ map value_of initargs.now) }
+{
+    let mut arguments = Values::new(alloc);
+    let Ok(()) = arguments.push(Value::Instance(id)) else {
+        drop(names);
+        return Err(AllocError);
+    };
+    arguments.push(names)?;
+    arguments.push_all(initargs)?;
+    Ok(arguments)
+}
+
+/// The method of initialize-instance.
+fn initialize(
+    alloc: Global,
+    machine: &mut Machine,
+    world: &World,
+    object: &Value,
+    initargs: &[Value],
+) -> Result<Doing, Stop>
+    ensures leads { Leads (inside machine.old (initialize (meaning machine.old.room) (map value_of initargs.now) (instance_in (value_of object.now)))) (seen world.now) result machine.new }
+    ensures small { Grows 5 machine.old.levels result machine.new }
+{
+    match instance_in(alloc, object) {
+        Err(stop) => Err(stop),
+        Ok(id) => initialize_shared(alloc, machine, world, id, t(), initargs),
+    }
+}
+
+/// The class of an instance, and what it has.
+fn class_in(world: &World, id: InstanceId) -> Result<Option<(ClassId, Finalized)>, AllocError>
+    ensures { IfOk result (λ r. option_map (λ p. (p.0.0, p.1)) r ≡ class_in (seen world.now) id.0) }
+{
+    match world.store.class_of(id) {
+        None => Ok(None),
+        Some(class) => match Finalized::find(world, class)? {
+            None => Ok(None),
+            Some(effective) => Ok(Some((class, effective))),
+        },
+    }
+}
+
+/// The method of reinitialize-instance.
+fn reinitialize(
+    alloc: Global,
+    machine: &mut Machine,
+    world: &World,
+    object: &Value,
+    initargs: &[Value],
+) -> Result<Doing, Stop>
+    ensures leads { Leads (inside machine.old (reinitialize (meaning machine.old.room) (map value_of initargs.now) (instance_in (value_of object.now)))) (seen world.now) result machine.new }
+    ensures small { Grows 5 machine.old.levels result machine.new }
+{
+    match instance_in(alloc, object) {
+        Err(stop) => Err(stop),
+        Ok(id) => reinitialize_instance(alloc, machine, world, id, initargs),
+    }
+}
+
+/// An instance is initialized again, unless an initarg is not valid.
+fn reinitialize_instance(
+    alloc: Global,
+    machine: &mut Machine,
+    world: &World,
+    id: InstanceId,
+    initargs: &[Value],
+) -> Result<Doing, Stop>
+    ensures leads { Leads (inside machine.old (λ w. reinitialize_as (meaning machine.old.room) (map value_of initargs.now) id.0 (class_in w id.0) w)) (seen world.now) result machine.new }
+    ensures small { Grows 5 machine.old.levels result machine.new }
+{
+    match class_in(world, id)? {
+        None => Err(Stop::Refused(plain(alloc, ConditionKind::ProgramError))),
+        Some((class, effective)) => match invalid_initarg(effective.slots(), initargs) {
+            Some(name) => Err(refuse(alloc, world, class, name)),
+            None => initialize_shared(alloc, machine, world, id, nil(), initargs),
+        },
+    }
+}
+
+/// The method of shared-initialize.
+fn initialize_slots(
+    alloc: Global,
+    machine: &mut Machine,
+    world: &World,
+    object: &Value,
+    rest: &[Value],
+    arguments: &Arguments,
+) -> Result<Doing, Stop>
+    requires { arguments.now ≡ value_of object.now ∷ map value_of rest.now }
+    ensures leads { Leads (inside machine.old (system_method_run (meaning machine.old.room) SharedInitialize arguments.now)) (seen world.now) result machine.new }
+    ensures small { Grows 9 machine.old.levels result machine.new }
+{
+    let Some(names) = rest.first() else {
+        return Err(Stop::Refused(plain(alloc, ConditionKind::ProgramError)));
+    };
+    match instance_in(alloc, object) {
+        Err(stop) => Err(stop),
+        Ok(id) => {
+            if !are_slot_names(names) {
+                return Err(Stop::Refused(wrong_type(alloc, names)?));
+            }
+            fill_instance(alloc, machine, world, id, arguments)
+        }
+    }
+}
+
+/// The slots of an instance are filled, where initforms see no variables.
+fn fill_instance(
+    alloc: Global,
+    machine: &mut Machine,
+    world: &World,
+    id: InstanceId,
+    arguments: &Arguments,
+) -> Result<Doing, Stop>
+    ensures leads { Leads (inside machine.old (λ w. filled_as (meaning machine.old.room) id.0 (names_in arguments.now) (initargs_in arguments.now) (class_in w id.0) w)) (seen world.now) result machine.new }
+    ensures small { Grows 9 machine.old.levels result machine.new }
+{
+    match class_in(world, id)? {
+        None => Err(Stop::Refused(plain(alloc, ConditionKind::ProgramError))),
+        Some((class, effective)) => {
+            let filling = Filling {
+                instance: id,
+                class,
+                arguments: arguments.copy()?,
+                effective,
+                place: 0,
+            };
+            enter(alloc, machine)?;
+            Ok(Doing::Act(Action::Fill(filling), Values::new(alloc)))
+        }
+    }
+}
+
+/// The condition of a slot: its name and an instance, which follow a class.
+fn signal_slot(alloc: Global, kind: ConditionKind, arguments: &[Value]) -> Stop
+    ensures { TellsCondition (slot_condition kind (map value_of arguments.now)) result }
+{
+    match about_slot(alloc, kind, arguments) {
+        Ok(condition) => Stop::Refused(condition),
+        Err(_) => Stop::Storage,
+    }
+}
+
+fn about_slot(
+    alloc: Global,
+    kind: ConditionKind,
+    arguments: &[Value],
+) -> Result<Condition, AllocError>
+    ensures { IfOk result (λ c. c ≡ slot_condition kind (map value_of arguments.now)) }
+{
+    match arguments {
+        [_, instance, name, ..] => about_both(alloc, kind, name.copy()?, instance.copy()?),
+        _ => Ok(plain(alloc, ConditionKind::ProgramError)),
+    }
+}
+
+/// The condition that a generic function has no applicable method.
+fn signal_unmatched(alloc: Global, world: &World, function: &Value, arguments: &[Value]) -> Stop
+    ensures { TellsCondition (record { kind = NoApplicableMethod; items = told (seen world.now) (value_of function.now) ∷ map value_of arguments.now }) result }
+{
+    match about_unmatched(alloc, world, function, arguments) {
+        Ok(condition) => Stop::Refused(condition),
+        Err(_) => Stop::Storage,
+    }
+}
+
+fn about_unmatched(
+    alloc: Global,
+    world: &World,
+    function: &Value,
+    arguments: &[Value],
+) -> Result<Condition, AllocError>
+    ensures { IfOk result (λ c. c ≡ record { kind = NoApplicableMethod; items = told (seen world.now) (value_of function.now) ∷ map value_of arguments.now }) }
+{
+    let mut items = Values::new(alloc);
+    items.push(told(alloc, world, function)?)?;
+    items.push_all(arguments)?;
+    Ok(Condition {
+        kind: ConditionKind::NoApplicableMethod,
+        items,
+    })
+}
+
+/// A generic function is told by its name.
+fn told(alloc: Global, world: &World, value: &Value) -> Result<Value, AllocError>
+    ensures { IfOk result (λ r. value_of r ≡ told (seen world.now) (value_of value.now)) }
+{
+    match value {
+        Value::Generic(id) => match world.generics.get(*id) {
+            Some(generic) => called_value(alloc, &generic.name),
+            None => value.copy(),
+        },
+        _ => value.copy(),
+    }
+}
