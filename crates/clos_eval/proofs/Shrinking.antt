@@ -15,6 +15,10 @@ module _ (s s' : ℕ) (old : List Level) (m : Machine) where
   grows_4 (Ok d) g h = omega (arith, g, h)
   grows_4 (Err e) g h = tt
 
+  pub grows_5 : (r : Result Doing Stop) → Grows 5 old r m → s' ≤ s → Shrinks 8 s s' old r m
+  grows_5 (Ok d) g h = omega (arith, g, h)
+  grows_5 (Err e) g h = tt
+
   pub grows_6 : (r : Result Doing Stop) → Grows 6 old r m → s' ≤ s → Shrinks 8 s s' old r m
   grows_6 (Ok d) g h = omega (arith, g, h)
   grows_6 (Err e) g h = tt
@@ -31,3 +35,7 @@ module _ (s s' : ℕ) (old : List Level) (m : Machine) where
 pub grows_6_9 : (old : List Level) (r : Result Doing Stop) (m : Machine) → Grows 6 old r m → Grows 9 old r m
 grows_6_9 old (Ok d) m h = omega (arith, h)
 grows_6_9 old (Err e) m h = tt
+
+pub grows_2_6 : (old : List Level) (r : Result Doing Stop) (m : Machine) → Grows 2 old r m → Grows 6 old r m
+grows_2_6 old (Ok d) m h = omega (arith, h)
+grows_2_6 old (Err e) m h = tt

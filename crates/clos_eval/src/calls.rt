@@ -120,7 +120,7 @@ pub fn compute(
 }
 
 /// A call of the function of the program's of this name.
-#[tactic(auto, using(clos_machine::proofs::Turns::stopped_through))]
+#[tactic(auto, using(clos_machine::proofs::Turns::stopped_through, crate::proofs::Shrinking::grows_2_6))]
 pub fn call(
     alloc: Global,
     machine: &mut Machine,
@@ -177,7 +177,7 @@ fn call_named(
 }
 
 /// A call of the function `(setf name)`, whose first argument is the last of the values.
-#[tactic(auto, using(clos_machine::proofs::Turns::stopped_through))]
+#[tactic(auto, using(clos_machine::proofs::Turns::stopped_through, crate::proofs::Shrinking::grows_2_6))]
 pub fn call_setter(
     alloc: Global,
     machine: &mut Machine,

@@ -243,7 +243,7 @@ fn change_by(
 }
 
 /// An action is done with its values.
-#[tactic(auto, using(clos_machine::proofs::Running::turns_of_leads, crate::proofs::Shrinking::grows_2, crate::proofs::Shrinking::grows_4, crate::proofs::Shrinking::grows_6, crate::proofs::Shrinking::grows_12, crate::proofs::Shrinking::grows_14))]
+#[tactic(auto, using(clos_machine::proofs::Running::turns_of_leads, crate::proofs::Shrinking::grows_2, crate::proofs::Shrinking::grows_4, crate::proofs::Shrinking::grows_5, crate::proofs::Shrinking::grows_6, crate::proofs::Shrinking::grows_12, crate::proofs::Shrinking::grows_14))]
 fn act(
     alloc: Global,
     machine: &mut Machine,

@@ -1,6 +1,6 @@
 -- Evaluation defines nothing.
-use Rattle.std.proofs.Common.{◌≡◌, ℕ, zero, suc, ◌==◌, List, [], ◌∷◌, ◌++◌, map, Option, Some, None, Result, Ok, Err, Bool, true, false, length, ◌+◌, slice_get, refl, ◌∙◌}
-use Rattle.std.specs.Prelude.{codes, pos, is_some, nat_lt, if◌then◌else◌}
+use Rattle.std.proofs.Common.{ℕ, zero, suc, List, [], ◌∷◌, ◌++◌, map, Option, Some, None, Result, Ok, Err, Bool, true, false, length, ◌+◌, slice_get, refl, ◌∙◌}
+use Rattle.std.specs.Prelude.{codes, pos, is_some, if◌then◌else◌}
 use Rattle.lisp_data.specs.Name.{Nam}
 use Rattle.lisp_data.specs.Print.{Called, by_symbol, by_setf}
 use Rattle.lisp_data.specs.Value.{Val}
@@ -18,13 +18,13 @@ use Rattle.clos_forms.specs.Quotation.{name_value}
 use Rattle.clos_world.specs.Definitions.{Same}
 use Rattle.clos_world.specs.FunctionName.{setter_value}
 use Rattle.clos_world.specs.Functions.{function_in}
-use Rattle.clos_world.specs.Generic.{function_named, ordered, setter_named}
+use Rattle.clos_world.specs.Generic.{function_named, setter_named}
 use Rattle.clos_world.specs.Globals.{is_global, any_global}
 use Rattle.clos_world.specs.System.{system_number}
 use Rattle.clos_world.specs.declared.system.SystemFunction.{SystemFunction}
 use Rattle.clos_world.specs.declared.system.SystemFunction.TheVariants.{InitializeInstance, ReinitializeInstance, SharedInitialize, SlotUnbound, SlotMissing, NoApplicableMethod}
 use Rattle.clos_world.specs.Values.{only_value, last_first}
-use Rattle.clos_world.specs.World.{State, Local, bound_as, unbound, local_named, names_of, class_of, class_of_instance, lists_of}
+use Rattle.clos_world.specs.World.{State, Local, bound_as, unbound, local_named, names_of, class_of, class_of_instance}
 use Rattle.clos_world.specs.declared.condition.Condition.{Condition}
 use Rattle.clos_world.specs.declared.condition.ConditionKind.TheVariants.{DepthLimit, ProgramError}
 use Rattle.clos_world.specs.declared.functions.Function.{Function}
@@ -37,7 +37,7 @@ use Rattle.clos_machine.specs.Assignment.{stored, stored_globally, stored_only, 
 use Rattle.clos_machine.specs.Callee.{callee_of}
 use Rattle.clos_machine.specs.ClassFunctions.{Answer, class_answer, comes_to}
 use Rattle.clos_machine.specs.Bodies.{restoring, parameters_run, body_run}
-use Rattle.clos_machine.specs.Calls.{applied_to, called_defined, called_setter, called_setter_by, called_function, method_run, method_body_run, combined}
+use Rattle.clos_machine.specs.Calls.{called_defined, called_setter, called_setter_by, called_function, method_run, method_body_run, combined}
 use Rattle.clos_machine.specs.GenericCalls.{known, takes, applicable, combination, combined_or, methods_called, unmatched_by, unmatched, called_generic, invoked}
 use Rattle.clos_machine.specs.SystemMethods.{class_in, shared_initialized, initialize, if_valid, reinitialize_as, reinitialize, filled_as, initialize_slots, system_method_run}
 use Rattle.clos_machine.specs.Control.{keeping, sequence, while_true, until_true, branch, followed, going, tested, clause, clauses}
@@ -47,8 +47,8 @@ use Rattle.clos_machine.specs.Meaning.{acted, collect, collected, alone, setq, s
 use Rattle.clos_machine.specs.Objects.{designated}
 use Rattle.clos_machine.specs.Filling.{are_slot_names, Filler, nothing, initform, filler, filled, filled_with, filled_by, fill, fill_with, is_the_class, slots_left, Subject, subject_of}
 use Rattle.clos_machine.specs.Filling as filler
-use Rattle.clos_machine.specs.Functions.{applied, called, place_read, place_set}
-use Rattle.clos_machine.specs.Initialization.{allocate, initialized, invalid_initarg, is_given, made, defaulted, default_given, making_of, making, instance_made}
+use Rattle.clos_machine.specs.Functions.{applied, place_read, place_set}
+use Rattle.clos_machine.specs.Initialization.{allocate, initialized, invalid_initarg, is_given, made, defaulted, making_of, making, instance_made}
 use Rattle.clos_machine.specs.Slots.{class_value, operation_name, missing_called, missing_changed, instance_in, slot_designated, slot_read, slot_tested, slot_changed, slot_answer, slot_applied, slot_called, slot_given, slot_set, slot_stored}
 use Rattle.clos_machine.specs.declared.callee.SlotFunction as of_slots
 use Rattle.clos_machine.specs.declared.callee.SlotFunction.TheVariants.{SlotValue, SlotBoundp, SlotMakunbound, SlotExistsP}
@@ -62,7 +62,7 @@ use Rattle.clos_world.specs.Class.{effective}
 use Rattle.clos_machine.specs.Outcome.{Out, Gave, Stopped, Run, Eval, then_do, step_then, gave, stopped, is_true}
 use Rattle.clos_machine.specs.Output.{output_of, text_by, written, line_ended}
 use Rattle.clos_machine.specs.Parameters.{Sources, argument, refused, init, are_pairs, fits, required_sources, sources}
-use Rattle.clos_machine.specs.Variables.{Loop, found_value, variable_value, inner, leaving, init_form, within, binding, in_order, together, aside, name_in, counted, body_of, result_value, turns, turns_in, repeated, dotimes}
+use Rattle.clos_machine.specs.Variables.{Loop, found_value, variable_value, inner, leaving, init_form, within, binding, in_order, together, aside, name_in, counted, body_of, result_value, turns, turns_in, repeated}
 use Rattle.clos_machine.specs.declared.arguments.Context.{Context}
 use Rattle.clos_machine.specs.declared.callee.Callee.{Callee}
 use Rattle.clos_machine.specs.declared.callee.Callee.TheVariants.{Output, Terpri, Primitive, MakeInstance, ClassFunction, SlotFunction, Defined}

@@ -1,5 +1,5 @@
 -- Lists seen through a function.
-use Rattle.std.proofs.Common.{◌≡◌, ◌<◌, ℕ, zero, suc, arith, drop, set, get_or, List, [], ◌∷◌, ◌++◌, map, take, reverse, length, refl, ap, ◌∙◌, sym, Bool, true, false, Option, Some, None}
+use Rattle.std.proofs.Common.{◌≡◌, ◌<◌, ℕ, zero, suc, arith, drop, set, get_or, List, [], ◌∷◌, ◌++◌, map, take, reverse, length, refl, ap, ◌∙◌, sym, true, false, Some, None}
 use Rattle.std.specs.Prelude.{is_some, if◌then◌else◌}
 use Rattle.std.proofs.Math.Seq.{drop-cons}
 use Rattle.std.proofs.lemmas.List.{take-map, reverse-reverse, length-reverse, length-map, map-append, reverse-append, append_assoc}

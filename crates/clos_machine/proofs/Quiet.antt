@@ -1,6 +1,6 @@
 -- With no step left nothing changes.
-use Rattle.std.proofs.Common.{◌≡◌, ℕ, zero, suc, ◌==◌, drop, List, [], ◌∷◌, ◌++◌, map, Option, Some, None, Result, Ok, Err, Bool, true, false, length, slice_get, refl, sym, subst}
-use Rattle.std.specs.Prelude.{codes, pos, is_some, nat_lt, if◌then◌else◌}
+use Rattle.std.proofs.Common.{◌≡◌, ℕ, zero, suc, drop, List, [], ◌∷◌, ◌++◌, map, Option, Some, None, Result, Ok, Err, Bool, true, false, slice_get, refl, sym, subst}
+use Rattle.std.specs.Prelude.{codes, pos, is_some, if◌then◌else◌}
 use Rattle.lisp_data.specs.Name.{Nam}
 use Rattle.lisp_data.specs.Value.{Val}
 use Rattle.lisp_data.specs.Value as value
@@ -13,23 +13,23 @@ use Rattle.clos_forms.specs.Quotation.{name_value}
 use Rattle.clos_forms.specs.Operator.{Bound, Plc, variable_place, slot_value_place, call_place}
 use Rattle.clos_world.specs.FunctionName.{setter_value}
 use Rattle.clos_world.specs.Functions.{function_in}
-use Rattle.clos_world.specs.Generic.{function_named, ordered, setter_named}
+use Rattle.clos_world.specs.Generic.{function_named, setter_named}
 use Rattle.clos_world.specs.Globals.{is_global, any_global}
 use Rattle.clos_world.specs.System.{system_number}
 use Rattle.clos_world.specs.declared.system.SystemFunction.{SystemFunction}
 use Rattle.clos_world.specs.declared.system.SystemFunction.TheVariants.{SlotUnbound, SlotMissing, NoApplicableMethod}
 use Rattle.clos_world.specs.Values.{only_value, last_first}
-use Rattle.clos_world.specs.World.{State, Local, unbound, bound_as, local_named, class_of, class_of_instance, lists_of}
+use Rattle.clos_world.specs.World.{State, Local, unbound, bound_as, local_named, class_of, class_of_instance}
 use Rattle.clos_world.specs.declared.condition.Condition.{Condition}
 use Rattle.clos_world.specs.declared.condition.ConditionKind.TheVariants.{ProgramError, StepLimit}
 use Rattle.clos_world.specs.declared.functions.Function.{Function}
 use Rattle.clos_world.specs.declared.generic.Generic.{Generic}
 use Rattle.clos_machine.specs.Accessors.{written_by, written_of}
-use Rattle.clos_machine.specs.Assignment.{stored, stored_globally, stored_only, made_of, changed_only, with_local}
+use Rattle.clos_machine.specs.Assignment.{stored, stored_globally, stored_only, made_of, changed_only}
 use Rattle.clos_machine.specs.Callee.{callee_of}
 use Rattle.clos_machine.specs.ClassFunctions.{Answer, class_answer, comes_to}
 use Rattle.clos_machine.specs.Bodies.{restoring, parameters_run, body_run}
-use Rattle.clos_machine.specs.Calls.{applied_to, called_defined, called_setter, called_setter_by, called_function}
+use Rattle.clos_machine.specs.Calls.{called_defined, called_setter, called_setter_by, called_function}
 use Rattle.clos_machine.specs.GenericCalls.{known, takes, applicable, combination, combined_or, methods_called, unmatched_by, unmatched, called_generic, invoked}
 use Rattle.clos_machine.specs.Control.{keeping, sequence, while_true, until_true, branch, followed, tested, clause, clauses}
 use Rattle.clos_machine.specs.Fault.{answered}
@@ -38,7 +38,7 @@ use Rattle.clos_machine.specs.Meaning.{acted, collect, collected, alone, with_am
 use Rattle.clos_machine.specs.Objects.{designated}
 use Rattle.clos_machine.specs.Filling.{Filler, nothing, initform, filler, filled_with, filled_by, fill, fill_with, is_the_class, slots_left, Subject, subject_of}
 use Rattle.clos_machine.specs.Filling as filler
-use Rattle.clos_machine.specs.Functions.{applied, called, place_read, place_set}
+use Rattle.clos_machine.specs.Functions.{applied, place_read, place_set}
 use Rattle.clos_machine.specs.Initialization.{allocate, is_given, defaulted, default_given, making_of, making, instance_made}
 use Rattle.clos_machine.specs.Slots.{class_value, operation_name, missing_called, missing_changed, instance_in, slot_designated, slot_read, slot_tested, slot_changed, slot_answer, slot_applied, slot_called, slot_given, slot_set}
 use Rattle.clos_machine.specs.declared.callee.SlotFunction as of_slots
@@ -50,7 +50,7 @@ use Rattle.clos_class.specs.declared.effective_slots.EffectiveSlot.{EffectiveSlo
 use Rattle.clos_syntax.specs.declared.class.DefaultInitarg.{DefaultInitarg}
 use Rattle.clos_store.specs.Store.{has_room, slot_found}
 use Rattle.clos_world.specs.Class.{effective}
-use Rattle.clos_machine.specs.Outcome.{Out, Gave, Stopped, Run, Eval, then_do, step_then, gave, stopped, is_true}
+use Rattle.clos_machine.specs.Outcome.{Out, Gave, Stopped, Run, then_do, gave, stopped, is_true}
 use Rattle.clos_machine.specs.Output.{output_of, line_ended}
 use Rattle.clos_machine.specs.Parameters.{Sources, argument, refused, init, are_pairs, fits, sources}
 use Rattle.clos_machine.specs.Variables.{Loop, found_value, variable_value, inner, leaving, init_form, within, binding, in_order, together, aside, name_in, counted, result_value, turns, turns_in, repeated}

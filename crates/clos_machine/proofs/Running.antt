@@ -1,12 +1,10 @@
 -- How the turns of the machine make a run.
 use Rattle.std.proofs.Common.{◌≡◌, true, false, map, Option, Some, None, ℕ, zero, suc, ◌+◌, ◌-◌, ◌<◌, ◌≤◌, List, [], ◌∷◌, Result, Ok, Err, length, refl, ap, sym, subst, ◌∙◌, add_assoc, add-zero, arith}
 use Rattle.std.specs.Prelude.{ℤ, pos, if◌then◌else◌}
-use Rattle.std.proofs.lemmas.Bool.{le-ltb, lt-ltb}
-use Rattle.lisp_data.specs.Value.{Val, Vals, nil, list}
+use Rattle.lisp_data.specs.Value.{Val, nil, list}
 use Rattle.lisp_data.specs.ValueView.{value_of}
 use Rattle.lisp_data.specs.declared.value.Value.{Value}
 use Rattle.lisp_data.specs.Name.{Nam}
-use Rattle.lisp_data.specs.declared.ids.ClassId.{ClassId}
 use Rattle.lisp_prims.specs.Fault as prims
 use Rattle.lisp_prims.specs.Primitive.{answer}
 use Rattle.lisp_prims.specs.declared.primitive.Primitive as of_values
@@ -14,18 +12,16 @@ use Rattle.lisp_prims.specs.Fault.{StandsFor, AnswersUnlessMemory}
 use Rattle.lisp_prims.specs.declared.fault.PrimFault.{PrimFault}
 use Rattle.lisp_prims.specs.declared.fault.PrimFault.TheVariants as prims_fault
 use Rattle.lisp_prims.specs.declared.fault.PrimFault.TheVariants.{Memory}
-use Rattle.clos_world.specs.Class.{named}
 use Rattle.clos_forms.specs.Quotation.{name_value}
-use Rattle.clos_world.specs.Condition.{nil_name}
 use Rattle.clos_world.specs.Globals.{is_global}
 use Rattle.clos_machine.specs.Assignment.{stored, stored_globally, stored_only, made_of, changed, changed_only, global_set}
 use Rattle.clos_world.specs.World.{State, unbound}
 use Rattle.clos_world.specs.declared.condition.Condition.{Condition}
-use Rattle.clos_world.specs.declared.condition.ConditionKind.TheVariants.{ProgramError, UnboundVariable, Unsupported, StepLimit, DepthLimit, TableLimit}
+use Rattle.clos_world.specs.declared.condition.ConditionKind.TheVariants.{ProgramError, UnboundVariable, StepLimit, DepthLimit}
 use Rattle.clos_world.specs.declared.condition.Stop.{Stop}
 use Rattle.clos_world.specs.declared.condition.Stop.TheVariants.{Refused, Storage}
-use Rattle.clos_machine.specs.Fault.{condition_of, Signals, answered}
-use Rattle.clos_machine.specs.Machine.{at, after, below, resume, inside, denote, given_to, leaves, Leads, Turns, Becomes, Changes, Designates, Answers, Takes, Reached}
+use Rattle.clos_machine.specs.Fault.{Signals, answered}
+use Rattle.clos_machine.specs.Machine.{at, resume, inside, denote, given_to, leaves, Leads, Turns, Becomes, Changes, Answers, Reached}
 use Rattle.clos_machine.specs.Meaning.{closed, meaning, begun}
 use Rattle.clos_machine.specs.Control.{sequence}
 use Rattle.clos_machine.specs.Variables.{Loop, body_of, counted, found_value, variable_value, leaving, result_value, turns}

@@ -10,13 +10,12 @@ use Rattle.clos_world.specs.declared.condition.Stop.TheVariants.{Refused, Storag
 use Rattle.clos_world.specs.declared.generic.Method.{Method}
 use Rattle.clos_machine.specs.Calls.{method_run}
 use Rattle.clos_machine.specs.Control.{sequence, while_true, until_true, going}
-use Rattle.clos_machine.specs.Machine.{at, below, after, resume, inside, Grows, Leads, Shrinks}
-use Rattle.clos_machine.specs.Meaning.{meaning, closed}
+use Rattle.clos_machine.specs.Machine.{at, below, resume, inside, Grows, Leads, Shrinks}
+use Rattle.clos_machine.specs.Meaning.{closed}
 use Rattle.clos_machine.specs.Outcome.{Out, Run, Eval, Gave, Stopped, then_do, gave}
 use Rattle.clos_machine.specs.declared.arguments.Context.{Context}
 use Rattle.clos_machine.specs.declared.machine.Control.TheVariants.{Progn, And, Or}
 use Rattle.clos_machine.specs.declared.machine.Doing.{Doing}
-use Rattle.clos_machine.specs.declared.machine.Frame.{Frame}
 use Rattle.clos_machine.specs.declared.machine.Level.{Level}
 use Rattle.clos_machine.specs.declared.machine.Machine.{Machine}
 

@@ -1,12 +1,12 @@
 -- Assignment (HyperSpec 3.1.2.1.1, 5.3 `setq`, `setf`, 12.2 `incf`, `decf`).
-use Rattle.std.specs.Prelude.{ℕ, pos, Bool, true, false, List, [], ◌∷◌, Option, Some, None, is_some, if◌then◌else◌}
+use Rattle.std.specs.Prelude.{List, [], ◌∷◌, Option, Some, None, is_some, if◌then◌else◌}
 use Rattle.lisp_data.specs.Name.{Nam, same_name}
-use Rattle.lisp_data.specs.Value.{Val, integer}
+use Rattle.lisp_data.specs.Value.{Val}
 use Rattle.lisp_prims.specs.Primitive.{answer}
 use Rattle.lisp_prims.specs.declared.primitive.Primitive.{Primitive}
 use Rattle.clos_forms.specs.Quotation.{name_value}
 use Rattle.clos_world.specs.Globals.{is_global, with_global}
-use Rattle.clos_world.specs.World.{State, Local, bound_as, local_named}
+use Rattle.clos_world.specs.World.{Local, bound_as, local_named}
 use Rattle.clos_world.specs.declared.condition.ConditionKind.TheVariants.{ProgramError, UnboundVariable}
 use Rattle.clos_machine.specs.Fault.{answered}
 use Rattle.clos_machine.specs.Outcome.{Gave, Run, then_do, step_then, stopped}

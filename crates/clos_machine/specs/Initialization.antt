@@ -9,7 +9,6 @@ use Rattle.clos_class.specs.Slots.{Effective}
 use Rattle.clos_class.specs.declared.effective_slots.EffectiveSlot.{EffectiveSlot}
 use Rattle.clos_store.specs.Store.{allocated, has_room, with_instance}
 use Rattle.clos_world.specs.Class.{class_name, effective}
-use Rattle.clos_world.specs.World.{State}
 use Rattle.clos_world.specs.declared.condition.Condition.{Condition}
 use Rattle.clos_world.specs.declared.condition.ConditionKind.TheVariants.{ProgramError, InvalidInitarg, TableLimit}
 use Rattle.clos_world.specs.declared.system.SystemFunction.TheVariants.{InitializeInstance}

@@ -1,5 +1,5 @@
 -- What forms mean (HyperSpec 3.1.2), by their operators.
-use Rattle.std.specs.Prelude.{ℕ, zero, suc, pos, Bool, true, false, List, [], ◌∷◌, ◌++◌, Option, Some, None, is_some, ◌||◌, if◌then◌else◌, length}
+use Rattle.std.specs.Prelude.{ℕ, zero, suc, pos, Bool, true, false, List, [], ◌∷◌, ◌++◌, Option, Some, None, is_some, ◌||◌, length}
 use Rattle.lisp_data.specs.Name.{Nam}
 use Rattle.lisp_data.specs.Print.{Called, by_symbol, by_setf}
 use Rattle.lisp_data.specs.Value.{Val, integer, generic, list, nil}

@@ -1,7 +1,7 @@
 -- Variables, and what binds them (HyperSpec 3.1.2.1.1, 5.3 `let`, `let*`, 6.2 `dotimes`).
-use Rattle.std.specs.Prelude.{ℕ, zero, suc, ℤ, pos, negsuc, Bool, true, false, List, [], ◌∷◌, ◌++◌, map, Option, Some, None, if◌then◌else◌, length}
+use Rattle.std.specs.Prelude.{ℕ, zero, suc, ℤ, pos, negsuc, Bool, true, false, List, [], ◌∷◌, ◌++◌, map, Option, Some, None, if◌then◌else◌}
 use Rattle.lisp_data.specs.Name.{Nam}
-use Rattle.lisp_data.specs.Value.{Val, integer, symbol, string, list, class, generic, method, instance, nil, cons}
+use Rattle.lisp_data.specs.Value.{Val, integer, symbol, string, list, class, generic, method, instance, nil}
 use Rattle.clos_forms.specs.Form.{Frms}
 use Rattle.clos_forms.specs.Form as form
 use Rattle.clos_forms.specs.Operator.{Bound}

@@ -3,3 +3,4 @@ pub mod Placing
 pub mod Accessing
 pub mod Passing
 pub mod Making
+pub mod Growing

@@ -120,14 +120,14 @@ module _ (m : Machine) (c : ℕ) (e : Effective) (vs : List Val) where
 
   -- the rest, with the instance made
   abbrev pub next_of : InstanceId → Run
-  next_of i u k = initialized (meaning m.room) m.context c e vs i.0 (invalid_initarg e.slots vs) u k
+  next_of i u k = initialized (meaning m.room) c vs i.0 (invalid_initarg e.slots vs) u k
 
   after_step : (i : InstanceId) (w w' : State) (t : ℕ) → Some i.0 ≡ next_instance w.store → w' ≡ record w { store = with_instance (allocated c e.layout) w.store }
       → inside m (next_of i) w' t ≡ inside m allocating w (1 + t)
   after_step i w w' t h k =
       ap (λ u. inside m (next_of i) u t) k
       ∙ ap (λ o. closed (resume m.levels m.context o))
-      (ap (λ j. initialized (meaning m.room) m.context c e vs j (invalid_initarg e.slots vs) (record (at m w) { store = with_instance (allocated c e.layout) w.store }) t)
+      (ap (λ j. initialized (meaning m.room) c vs j (invalid_initarg e.slots vs) (record (at m w) { store = with_instance (allocated c e.layout) w.store }) t)
       (some_room (has_room w.store) _ i.0 h).1
       ∙ sym (has_room_then i w (1 + t) h ∙ ap (step_then (made (meaning m.room) m.context c e vs) (at m w)) (one_more t)))
 
@@ -141,13 +141,13 @@ module _ (m : Machine) (c : ℕ) (e : Effective) (vs : List Val) where
   allocate_stops n i d w w' s s' h z k l = ap (inside m allocating w) z ∙ sym (after_step i w w' s' h k) ∙ l s'
 
 -- an initarg that is not valid
-pub refused_initarg : (m n : Machine) (ev : Eval) (env : Context) (c : ℕ) (e : Effective) (vs us : List Val) (i : ℕ) (k : Val) (cs : Table) (stop : Stop) (run : Run) (w : State)
+pub refused_initarg : (m n : Machine) (ev : Eval) (c : ℕ) (e : Effective) (vs us : List Val) (i : ℕ) (k : Val) (cs : Table) (stop : Stop) (run : Run) (w : State)
     → w.classes ≡ cs → Some k ≡ invalid_initarg e.slots us → us ≡ vs → TellsCondition (invalid_for k (class_name cs c)) stop
-    → ((t : ℕ) → initialized ev env c e vs i (invalid_initarg e.slots vs) (at m w) t ≡ run (at m w) t) → Leads (inside m run) w (Err stop) n
-refused_initarg m n ev env c e vs us i k cs Storage run w a b g d h = tt
-refused_initarg m n ev env c e vs us i k cs (Refused x) run w a b g d h = λ t.
+    → ((t : ℕ) → initialized ev c vs i (invalid_initarg e.slots vs) (at m w) t ≡ run (at m w) t) → Leads (inside m run) w (Err stop) n
+refused_initarg m n ev c e vs us i k cs Storage run w a b g d h = tt
+refused_initarg m n ev c e vs us i k cs (Refused x) run w a b g d h = λ t.
     ap (λ o. closed (resume m.levels m.context o))
-    (sym (h t) ∙ ap (λ o. initialized ev env c e vs i o (at m w) t) (sym (b ∙ ap (invalid_initarg e.slots) g))
+    (sym (h t) ∙ ap (λ o. initialized ev c vs i o (at m w) t) (sym (b ∙ ap (invalid_initarg e.slots) g))
     ∙ ap (λ y. Stopped (invalid_for k (class_name y c)) (at m w) t) a ∙ ap (λ y. Stopped y (at m w) t) (sym d))
     ∙ stopped_through m.levels m.context x (at m w) t
 

@@ -21,10 +21,8 @@ use Rattle.clos_machine.specs.declared.callee.SlotFunction.{SlotFunction}
 use Rattle.clos_machine.specs.declared.machine.Doing.{Doing}
 use Rattle.clos_machine.specs.declared.machine.Doing.TheVariants.{Give}
 use Rattle.clos_machine.specs.declared.machine.Machine.{Machine}
-use Rattle.clos_machine.specs.declared.machine.SystemCall.TheVariants.{SignalMissing}
-use Rattle.clos_machine.specs.declared.machine.Task.TheVariants.{System}
 use Rattle.clos_machine.proofs.Running.{turns_of_leads}
-use Rattle.clos_machine.proofs.Turns.{stopped_through}
+use Rattle.clos_machine.proofs.Turns.{leads_same, stopped_through}
 use Rattle.clos_objects.specs.Objects.{DesignatesSlot, three_of, two_of}
 
 -- a turn of a run that ends like another
@@ -127,12 +125,12 @@ some_found f (Some a) x e h = (f a, e)
 abbrev pub change_at : Machine → InstanceId → Nam → Option Val → Val → Run
 change_at m id name x v u = slot_changed (meaning m.room) m.context id.0 name x v (slot_found u.store id.0 name) u
 
-pub change_missing : (m : Machine) (id : InstanceId) (name : Nam) (x : Option Val) (v : Val) (w : State) (s : ℕ) (d : Doing) → None ≡ slot_found w.store id.0 name
-    → ((run : Run) (u : State) → ((t : ℕ) → meaning m.room m.context (System (SignalMissing name id)) (at m u) t ≡ run (at m u) t) → Leads (inside m run) u (Ok d) m)
-    → Turns (inside m (change_at m id name x v)) w s (Ok d) m w s
-change_missing m id name x v w s d e h =
-    turns_of_leads (inside m (change_at m id name x v)) w s (Ok d) m
-    (h (change_at m id name x v) w (λ t. ap (λ o. slot_changed (meaning m.room) m.context id.0 name x v o (at m w) t) e))
+pub change_missing : (m n : Machine) (id : InstanceId) (name : Nam) (x : Option Val) (v : Val) (w : State) (s : ℕ) (r : Result Doing Stop) → None ≡ slot_found w.store id.0 name
+    → Leads (inside m (slot_changed (meaning m.room) m.context id.0 name x v None)) w r n → Turns (inside m (change_at m id name x v)) w s r n w s
+change_missing m n id name x v w s r e h =
+    turns_of_leads (inside m (change_at m id name x v)) w s r n
+    (leads_same (inside m (slot_changed (meaning m.room) m.context id.0 name x v None)) (inside m (change_at m id name x v)) w r n
+    (λ t. ap (λ o. inside m (slot_changed (meaning m.room) m.context id.0 name x v o) w t) e) h)
 
 pub change_no_step : (m n : Machine) (id : InstanceId) (name : Nam) (x : Option Val) (v : Val) (y : Option Val) (w : State) (s : ℕ) (c : Condition)
     → Some y ≡ slot_found w.store id.0 name → s ≡ 0 → c ≡ record { kind = StepLimit; items = [] } → Turns (inside m (change_at m id name x v)) w s (Err (Refused c)) n w s

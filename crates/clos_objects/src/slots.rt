@@ -246,6 +246,7 @@ fn read(
 }
 
 /// Whether a slot has a value.
+#[tactic(auto, using(crate::proofs::Growing::grows_5_6))]
 fn test(
     alloc: Global,
     machine: &mut Machine,
@@ -310,6 +311,7 @@ fn change(
 }
 
 /// Slot-missing is called in place of the change of a slot, and then this value is given.
+#[tactic(auto, using(crate::proofs::Growing::grows_5_6))]
 fn change_missing(
     alloc: Global,
     machine: &mut Machine,

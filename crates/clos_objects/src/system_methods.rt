@@ -29,6 +29,7 @@ use lisp_data::{ClassId, InstanceId, Value};
 use std::alloc::{AllocError, Global};
 
 /// The system's method of this function runs.
+#[tactic(auto, using(crate::proofs::Growing::grows_5_9, clos_machine::proofs::Turns::stopped_through))]
 pub fn run_system_method(
     alloc: Global,
     machine: &mut Machine,

@@ -52,8 +52,9 @@ is_served_as Defined name = not (is_one_of functions name) && (not (is_one_of sy
 abbrev pub calls : Nam → Bool
 calls name = is_served_as (callee_of name) name
 
+-- the system's generic functions are called, but are no values yet
 abbrev pub names_served : Called → Bool
-names_served (by_symbol name) = calls name
+names_served (by_symbol name) = calls name && not (is_one_of system_functions name)
 names_served (by_setf name) = true
 
 abbrev pub serves : Opr → Bool

@@ -378,7 +378,7 @@ fn names_served(name: &FunctionName) -> bool
     ensures { result ≡ names_served (called_of name.now) }
 {
     match name {
-        FunctionName::Symbol(name) => calls(name),
+        FunctionName::Symbol(name) => calls(name) && !is_system_function(name),
         FunctionName::Setf(_) => true,
     }
 }

@@ -14,4 +14,6 @@ mod instances;
 #[cfg(test)]
 mod session;
 #[cfg(test)]
+mod system_functions;
+#[cfg(test)]
 mod top;

@@ -56,7 +56,7 @@ const NOT_SERVED: &str = "(defvar x (princ (change-class 1 'a)))
 (defun f () (princ 1)) (defun f (&optional (x (change-class 1 'a))) 2) (f) => ; 28 (UNSUPPORTED)~1
 (defun f (&key (x (princ 1)) (y (change-class 1 'a))) x)
 (defmethod f (x) (call-next-method))
-(initialize-instance (princ 1))
+(slot-unbound 1 2 (princ 1))
 (defgeneric f (x))
 (defclass a (b c) ((s :allocation :class)))
 (defclass a () ((s :reader initialize-instance)))

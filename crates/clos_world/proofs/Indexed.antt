@@ -1,6 +1,6 @@
 -- Generic functions found by their names.
-use Rattle.std.proofs.Common.{◌≡◌, ℕ, zero, suc, Bool, true, false, List, [], ◌∷◌, ◌++◌, Option, Some, None, length, ◌<◌, ◌≤◌, ◌+◌, arith, refl, sym, ap, ◌∙◌, subst}
-use Rattle.std.specs.Prelude.{◌==◌, ◌&&◌, option_map, slice_get, slice_index_or, slice_set, position, nat_lt, if◌then◌else◌}
+use Rattle.std.proofs.Common.{◌≡◌, ℕ, Bool, true, false, List, [], ◌∷◌, ◌++◌, Option, Some, None, length, ◌<◌, ◌≤◌, ◌+◌, arith, refl, sym, ap, ◌∙◌}
+use Rattle.std.specs.Prelude.{◌==◌, ◌&&◌, option_map, slice_index_or, slice_set, position, nat_lt, if◌then◌else◌}
 use Rattle.std.specs.List.{position_or_len}
 use Rattle.std.specs.Option.{option_or}
 use Rattle.std.proofs.lemmas.List.Folds.{position_or_len_push, position_or_len-set}
@@ -9,7 +9,7 @@ use Rattle.lisp_data.specs.Name.{Nam, same_name}
 use Rattle.lisp_data.specs.declared.ids.GenericId.{GenericId}
 use Rattle.clos_world.specs.declared.generic.Generic.{Generic}
 use Rattle.clos_forms.specs.declared.operator.FunctionName.{FunctionName}
-use Rattle.clos_class.proofs.Each.{is_same, same_itself}
+use Rattle.clos_class.proofs.Each.{is_same}
 use Rattle.clos_world.specs.Generic.{generic_named, same_function}
 use Rattle.clos_world.specs.GenericsView.{noted, has_number, without_number}
 

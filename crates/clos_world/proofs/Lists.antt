@@ -1,5 +1,5 @@
 -- Lists seen through a function.
-use Rattle.std.proofs.Common.{◌≡◌, ℕ, zero, suc, List, [], ◌∷◌, ◌++◌, ◌<◌, ◌≤◌, length, arith, reverse, map, take, drop, refl, ap, ◌∙◌, sym}
+use Rattle.std.proofs.Common.{◌≡◌, ℕ, zero, suc, List, [], ◌∷◌, ◌++◌, ◌<◌, ◌≤◌, length, arith, map, take, drop, refl, ap, ◌∙◌, sym}
 use Rattle.std.specs.Prelude.{insert, remove, slice_get, slice_index_or, Option, option_map}
 use Rattle.std.proofs.lemmas.List.{map-append, take-map, drop-map, reverse-append, reverse-reverse}
 use Rattle.lisp_data.specs.Value.{Val}

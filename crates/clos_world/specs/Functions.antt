@@ -1,5 +1,5 @@
 -- Functions that defun defines (HyperSpec 5.3), by their names.
-use Rattle.std.specs.Prelude.{List, [], ◌∷◌, Option, Some, None, if◌then◌else◌}
+use Rattle.std.specs.Prelude.{List, [], ◌∷◌, Option, if◌then◌else◌}
 use Rattle.std.specs.Map.{lookup}
 use Rattle.lisp_data.specs.Name.{Nam, same_name}
 use Rattle.clos_world.specs.declared.functions.Function.{Function}

@@ -7,9 +7,7 @@ ghost use Rattle.clos_world.specs.Generic.{specializers_of};
 ghost use Rattle.clos_world.specs.World.{seen};
 
 use crate::class_ids::ClassIds;
-use crate::generic::{
-    Generic, Generics, Method, MethodBody, MethodIds, Rest, method_numbered,
-};
+use crate::generic::{Generic, Generics, Method, MethodBody, MethodIds, Rest, method_numbered};
 use crate::world::World;
 use clos_forms::FunctionName;
 use lisp_data::{GenericId, MethodId};

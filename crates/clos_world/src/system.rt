@@ -138,11 +138,41 @@ pub fn begin(alloc: Global) -> Result<(Generics, Vec<Method>), AllocError>
 {
     let mut generics = Generics::new(alloc);
     let mut methods = Vec::new(alloc);
-    add(alloc, SystemFunction::InitializeInstance, &mut generics, &mut methods)?;
-    add(alloc, SystemFunction::ReinitializeInstance, &mut generics, &mut methods)?;
-    add(alloc, SystemFunction::SharedInitialize, &mut generics, &mut methods)?;
-    add(alloc, SystemFunction::SlotUnbound, &mut generics, &mut methods)?;
-    add(alloc, SystemFunction::SlotMissing, &mut generics, &mut methods)?;
-    add(alloc, SystemFunction::NoApplicableMethod, &mut generics, &mut methods)?;
+    add(
+        alloc,
+        SystemFunction::InitializeInstance,
+        &mut generics,
+        &mut methods,
+    )?;
+    add(
+        alloc,
+        SystemFunction::ReinitializeInstance,
+        &mut generics,
+        &mut methods,
+    )?;
+    add(
+        alloc,
+        SystemFunction::SharedInitialize,
+        &mut generics,
+        &mut methods,
+    )?;
+    add(
+        alloc,
+        SystemFunction::SlotUnbound,
+        &mut generics,
+        &mut methods,
+    )?;
+    add(
+        alloc,
+        SystemFunction::SlotMissing,
+        &mut generics,
+        &mut methods,
+    )?;
+    add(
+        alloc,
+        SystemFunction::NoApplicableMethod,
+        &mut generics,
+        &mut methods,
+    )?;
     Ok((generics, methods))
 }

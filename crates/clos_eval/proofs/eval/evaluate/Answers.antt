@@ -5,11 +5,11 @@ use Rattle.clos_machine.specs.GenericCalls.{known}
 use Rattle.clos_machine.specs.Meaning.{evaluation}
 use Rattle.clos_machine.specs.Outcome.{Run}
 use Rattle.clos_machine.specs.Machine.{at, Reached, denote, given_to, below}
-use Rattle.clos_machine.specs.declared.machine.Doing.TheVariants.{Start, Act, Give}
+use Rattle.clos_machine.specs.declared.machine.Doing.TheVariants.{Start, Act, Invoke, Give}
 use Rattle.clos_machine.specs.declared.machine.Doing.TheVariants as doing
 use Rattle.clos_machine.specs.declared.machine.Machine.{Machine}
 use Rattle.clos_machine.specs.declared.machine.Task.TheVariants.{Plain}
-use Rattle.clos_machine.proofs.Quiet.{evaluation_quiet, start_quiet, collecting_quiet, act_quiet, loop_quiet, frame_quiet}
+use Rattle.clos_machine.proofs.Quiet.{evaluation_quiet, start_quiet, collecting_quiet, act_quiet, invoke_quiet, loop_quiet, frame_quiet}
 use Rattle.clos_machine.proofs.Running.{turns_of_leads, reached_on, reached_same, ended, popped}
 use Rattle.clos_eval.proofs.eval.evaluate.Goals as goal
 
@@ -110,3 +110,24 @@ returns-in-Err-turn-clause-answer c =
     (loop_quiet c.loop-doing.machine c.in-Turn.repetition c.in-Turn.counter (seen c.loop-doing.world))
     (subst (λ d. Reached run (seen c.args.world.now) c.args.steps.now (denote c.loop-doing.machine d) (seen c.loop-doing.world) c.loop-doing.steps)
     c.in-Turn.is c.loop-doing.invariant) c.in-Err-turn.ensures.turns
+
+pub loop-doing-preserved-in-Ok-invoke : goal.loop-doing-preserved-in-Ok-invoke
+loop-doing-preserved-in-Ok-invoke c =
+    let run : Run = evaluation c.args.room c.args.form in
+    let rest : Run = denote c.loop-doing.machine (Invoke c.in-Invoke.function c.in-Invoke.values) in
+    reached_on run (seen c.args.world.now) c.args.steps.now rest (seen c.loop-doing.world) c.loop-doing.steps
+    c.in-Ok-invoke.next c.invoke.new.machine (seen c.loop-doing.world) c.loop-doing.steps
+    (subst (λ d. Reached run (seen c.args.world.now) c.args.steps.now (denote c.loop-doing.machine d) (seen c.loop-doing.world) c.loop-doing.steps)
+    c.in-Invoke.is c.loop-doing.invariant)
+    (turns_of_leads rest (seen c.loop-doing.world) c.loop-doing.steps (Ok c.in-Ok-invoke.next) c.invoke.new.machine c.in-Ok-invoke.ensures.leads)
+
+pub returns-in-Err-invoke-clause-answer : goal.returns-in-Err-invoke-clause-answer
+returns-in-Err-invoke-clause-answer c =
+    let run : Run = evaluation c.args.room c.args.form in
+    let rest : Run = denote c.loop-doing.machine (Invoke c.in-Invoke.function c.in-Invoke.values) in
+    ended run (seen c.args.world.now) c.args.steps.now rest (seen c.loop-doing.world) c.loop-doing.steps
+    c.in-Err-invoke.stop c.invoke.new.machine (seen c.loop-doing.world) c.loop-doing.steps
+    (invoke_quiet c.loop-doing.machine c.in-Invoke.function c.in-Invoke.values (seen c.loop-doing.world))
+    (subst (λ d. Reached run (seen c.args.world.now) c.args.steps.now (denote c.loop-doing.machine d) (seen c.loop-doing.world) c.loop-doing.steps)
+    c.in-Invoke.is c.loop-doing.invariant)
+    (turns_of_leads rest (seen c.loop-doing.world) c.loop-doing.steps (Err c.in-Err-invoke.stop) c.invoke.new.machine c.in-Err-invoke.ensures.leads)

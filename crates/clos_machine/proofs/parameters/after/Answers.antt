@@ -1,4 +1,4 @@
-use Rattle.std.proofs.Common.{◌≡◌, ◌∙◌, ap, sym, drop, map}
+use Rattle.std.proofs.Common.{◌∙◌, ap, sym, map}
 use Rattle.std.proofs.lemmas.List.{take_rest, drop-map}
 use Rattle.lisp_data.specs.ValueView.{value_of}
 use Rattle.clos_machine.proofs.parameters.after.Goals as goal

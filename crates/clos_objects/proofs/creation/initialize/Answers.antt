@@ -1,33 +1,19 @@
-use Rattle.std.proofs.Common.{Option, ap, map, refl, ◌∙◌}
-use Rattle.lisp_data.specs.Value.{Val, instance}
+use Rattle.std.proofs.Common.{◌∷◌, ap, map, refl, ◌∙◌}
+use Rattle.lisp_data.specs.Value.{instance}
 use Rattle.lisp_data.specs.ValueView.{value_of}
+use Rattle.clos_world.specs.declared.system.SystemFunction.TheVariants.{InitializeInstance}
 use Rattle.clos_machine.specs.Control.{keeping}
-use Rattle.clos_machine.specs.Initialization.{filling_of, initialized, invalid_initarg}
+use Rattle.clos_machine.specs.GenericCalls.{invoked}
+use Rattle.clos_machine.specs.Initialization.{initialized, invalid_initarg}
 use Rattle.clos_machine.specs.Machine.{at}
 use Rattle.clos_machine.specs.Meaning.{meaning}
 use Rattle.clos_machine.specs.Outcome.{then_do}
 use Rattle.clos_machine.specs.declared.machine.Machine.{Machine}
-use Rattle.clos_machine.specs.declared.machine.SystemCall.TheVariants.{Initialize}
-use Rattle.clos_machine.specs.declared.machine.Task.TheVariants.{System}
 use Rattle.clos_objects.proofs.Making.{refused_initarg}
 use Rattle.clos_objects.proofs.creation.initialize.Goals as goal
 
 pub returns-in-Some-clause-leads : goal.returns-in-Some-clause-leads
 returns-in-Some-clause-leads c = λ run w a h.
-    refused_initarg c.args.machine.now c.args.machine.now (meaning c.args.machine.now.room) c.args.machine.now.context c.args.class.0 c.args.effective.now c.args.initargs (map value_of c.as_slice.result.now)
+    refused_initarg c.args.machine.now c.args.machine.now (meaning c.args.machine.now.room) c.args.class.0 c.args.effective.now c.args.initargs (map value_of c.as_slice.result.now)
     c.args.id.0 (value_of c.in-Some.name.now) c.args.world.now.classes c.refuse.result run w a
     (c.in-Some.ensures ∙ ap (λ l. invalid_initarg l (map value_of c.as_slice.result.now)) c.slots.ensures) c.as_slice.ensures c.refuse.ensures h
-
-pub returns-clause-leads : goal.returns-clause-leads
-returns-clause-leads c = λ run w a h.
-    let m : Machine = c.args.machine.now in
-    c.begin.ensures.leads run w refl (λ t.
-    ap (λ x. then_do (meaning m.room m.context (System (Initialize (filling_of c.args.class.0 c.in_ok-copy.field-0 x c.args.id.0))) (at m w) t)
-    (λ u. keeping (meaning m.room) m.context c.new-2.result (instance c.args.id.0))) c.in_ok-new.ensures
-    ∙ ap (λ x. then_do (meaning m.room m.context (System (Initialize (filling_of c.args.class.0 x c.args.initargs c.args.id.0))) (at m w) t)
-    (λ u. keeping (meaning m.room) m.context c.new-2.result (instance c.args.id.0))) c.in_ok-copy.ensures
-    ∙ ap (λ x. then_do (meaning m.room m.context (System (Initialize (filling_of c.args.class.0 c.args.effective.now c.args.initargs c.args.id.0))) (at m w) t)
-    (λ u. keeping (meaning m.room) m.context x (instance c.args.id.0))) c.new-2.ensures
-    ∙ ap (λ o. initialized (meaning m.room) m.context c.args.class.0 c.args.effective.now c.args.initargs c.args.id.0 o (at m w) t)
-    (c.in_default.ensures ∙ ap (λ l. invalid_initarg l (map value_of c.as_slice.result.now)) c.slots.ensures ∙ ap (invalid_initarg c.args.effective.now.slots) c.as_slice.ensures)
-    ∙ h t)

@@ -9,8 +9,8 @@ use Rattle.clos_objects.proofs.slots.change.Goals as goal
 
 pub returns-then-is_none-clause-turns : goal.returns-then-is_none-clause-turns
 returns-then-is_none-clause-turns c =
-    change_missing c.args.machine.now c.args.id c.args.name (option_map value_of c.args.value) (value_of c.args.given) (seen c.args.world.now) c.args.steps.now c.turn_to.result
-    (none_found (λ s. s.now) c.slot.result (slot_found (seen c.args.world.now).store c.args.id.0 c.args.name) c.slot.ensures c.if-is_none.ensures) c.turn_to.ensures.leads
+    change_missing c.args.machine.now c.change_missing.new.machine c.args.id c.args.name (option_map value_of c.args.value) (value_of c.args.given) (seen c.args.world.now) c.args.steps.now c.change_missing.result
+    (none_found (λ s. s.now) c.slot.result (slot_found (seen c.args.world.now).store c.args.id.0 c.args.name) c.slot.ensures c.if-is_none.ensures) c.change_missing.ensures.leads
 
 pub returns-then-steps-eq0-clause-turns : goal.returns-then-steps-eq0-clause-turns
 returns-then-steps-eq0-clause-turns c =

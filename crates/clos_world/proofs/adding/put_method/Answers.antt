@@ -1,4 +1,4 @@
-use Rattle.std.proofs.Common.{◌∙◌, ap, sym, Some}
+use Rattle.std.proofs.Common.{sym}
 use Rattle.clos_world.specs.World.{seen}
 use Rattle.clos_world.proofs.TakenBack.{put_taken_back}
 use Rattle.clos_world.proofs.adding.put_method.Goals as goal
