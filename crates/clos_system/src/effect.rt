@@ -66,7 +66,7 @@ pub fn add_method(
 }
 
 /// Whether there are no more generic functions and methods than there may be.
-fn is_within_limits(world: &World) -> bool
+pub fn is_within_limits(world: &World) -> bool
     ensures { result ≡ is_within_limits (seen world.now) }
 {
     world.generics.len() as u64 <= world.limits.generics

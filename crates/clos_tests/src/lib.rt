@@ -14,4 +14,6 @@ mod instances;
 #[cfg(test)]
 mod session;
 #[cfg(test)]
+mod shared_slots;
+#[cfg(test)]
 mod top;
