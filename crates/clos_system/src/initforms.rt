@@ -11,7 +11,7 @@ use clos_world::{Stop, World};
 use std::alloc::Global;
 
 /// Evaluates the initforms of these slots, one after another. A slot without one is unbound.
-#[tactic(auto, using(crate::proofs::Initforms::one_stops, crate::proofs::Initforms::none_left))]
+#[tactic(auto, using(crate::proofs::Initforms::none_yet, crate::proofs::Initforms::one_more, crate::proofs::Initforms::one_stops, crate::proofs::Initforms::between))]
 pub fn evaluate_initforms(
     alloc: Global,
     world: &mut World,
