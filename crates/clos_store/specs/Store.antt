@@ -107,6 +107,15 @@ cell_value w c = if_bound (slice_get w.cells c)
 abbrev pub with_cell : Option Val → Contents → Contents
 with_cell value w = record w { cells = w.cells ++ value ∷ []; reserved = w.reserved - 1 }
 
+-- so many cells, numbered from this one on
+abbrev pub cells_from : ℕ → ℕ → List CellId
+cells_from first zero = []
+cells_from first (suc n) = cells_from first n ++ (record { 0 = first + n }) ∷ []
+
+-- one more cell with each of these values
+abbrev pub with_cells : List (Option Val) → Contents → Contents
+with_cells values w = record w { cells = w.cells ++ values; reserved = w.reserved - length values }
+
 abbrev pub with_cell_value : ℕ → Option Val → Contents → Contents
 with_cell_value c value w = record w { cells = slice_set w.cells c value }
 

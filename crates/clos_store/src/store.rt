@@ -1,9 +1,9 @@
 //! The instances of a session, and its cells.
-ghost use Rattle.std.specs.Prelude.{◌≡◌, ◌≤◌, ◌<◌, ◌+◌, ℕ, true, Some, None, IfOk, IfErr, IfSome, IsOk, OnOk, OnErr, length, option_map, option_copied};
+ghost use Rattle.std.specs.Prelude.{◌≡◌, ◌≤◌, ◌<◌, ◌+◌, ℕ, max, true, Some, None, IfOk, IfErr, IfSome, IsOk, OnOk, OnErr, length, option_map, option_copied};
 ghost use Rattle.std.specs.Map.{lookup};
 ghost use Rattle.lisp_data.specs.Name.{same_name};
 ghost use Rattle.lisp_data.specs.ValueView.{value_of};
-ghost use Rattle.clos_store.specs.Store.{allocated, cell_value, empty, has_room, has_room_for, instance, kept_layout, next_instance, place_named, shared_of, slot_found, slots_of, value_at, value_named, with_cell, with_cell_value, with_instance, with_slot, with_slots, with_value, with_value_at};
+ghost use Rattle.clos_store.specs.Store.{allocated, cell_value, cells_from, empty, has_room, has_room_for, instance, kept_layout, next_instance, place_named, shared_of, slot_found, slots_of, value_at, value_named, with_cell, with_cell_value, with_cells, with_instance, with_slot, with_slots, with_value, with_value_at};
 ghost use Rattle.clos_store.specs.StoreFault.{Refuses};
 
 use crate::fault::StoreFault;
@@ -11,7 +11,7 @@ use crate::instance::Instance;
 use crate::slot::Slot;
 use clos_class::Layout;
 use lisp_data::{CellId, ClassId, InstanceId, Name, Value};
-use std::alloc::Global;
+use std::alloc::{AllocError, Global};
 use std::marker::Model;
 use std::rc::Rc;
 
@@ -231,19 +231,70 @@ impl Store {
         self.cells.len() as u64
     }
 
-    /// Takes the memory for so many more cells: the next so many calls of `new_cell` succeed. What was reserved before no
-    /// longer counts.
+    /// Whether so many more cells may be made.
+    pub fn has_room_for(&self, cells: u64) -> bool
+        ensures { result ≡ has_room_for cells self.now }
+    {
+        cells <= self.most_cells - self.cell_count()
+    }
+
+    /// How many more cells are sure to be made.
+    pub fn reserved(&self) -> u64
+        ensures { result ≡ self.now.reserved }
+    {
+        self.reserved
+    }
+
+    /// Takes the memory for so many more cells: the next so many calls of `new_cell` succeed, or more where more were
+    /// reserved before.
     pub fn reserve(&mut self, cells: u64) -> Result<(), StoreFault>
-        ensures ok { OnOk result ((has_room_for cells self.old ≡ true) × (self.new ≡ record self.old { reserved = cells })) }
+        ensures ok { OnOk result ((has_room_for cells self.old ≡ true) × (self.new ≡ record self.old { reserved = max self.old.reserved cells })) }
         ensures fault { IfErr result (λ e. Refuses e (has_room_for cells self.old)) }
         ensures err { OnErr result (self.new ≡ self.old) }
     {
-        if cells > self.most_cells - self.cell_count() {
+        if !self.has_room_for(cells) {
             return Err(StoreFault::TableLimit);
         }
-        self.cells.reserve(cells as usize)?;
-        self.reserved = cells;
+        if cells > self.reserved {
+            self.cells.reserve(cells as usize)?;
+            self.reserved = cells;
+        }
         Ok(())
+    }
+
+    /// No more than so many cells are reserved after it.
+    pub fn release(&mut self, reserved: u64)
+        requires { reserved ≤ self.old.reserved }
+        ensures { self.new ≡ record self.old { reserved = reserved } }
+    {
+        self.reserved = reserved;
+    }
+
+    /// The numbers of the next so many cells, which are reserved.
+    pub fn next_cells(&self, alloc: Global, count: u64) -> Result<Vec<CellId>, AllocError>
+        requires { count ≤ self.now.reserved }
+        ensures { IfOk result (λ r. r.items ≡ cells_from (length self.now.cells) count) }
+    {
+        let first = self.cell_count();
+        // Below this, no number overflows.
+        let _most = self.most_cells;
+        let mut cells = Vec::new(alloc);
+        for place in 0..count {
+            cells.push(CellId(first + place))?;
+        }
+        Ok(cells)
+    }
+
+    /// Makes these cells, which are reserved.
+    pub fn new_cells(&mut self, mut cells: Vec<Slot>)
+        requires { length cells.items ≤ self.old.reserved }
+        ensures { self.new ≡ with_cells cells.items self.old }
+    {
+        let count = cells.len() as u64;
+        let Ok(()) = self.cells.append(&mut cells) else {
+            unreachable!()
+        };
+        self.reserved -= count;
     }
 
     /// Makes a cell with this value, or an unbound one.

@@ -1,5 +1,5 @@
 -- A definition that is refused defines nothing, and neither does any other form.
-use Rattle.std.proofs.Common.{ℕ, zero, suc, ◌==◌, List, [], Option, Some, None, Result, Ok, Err, Bool, true, false, length, slice_get, subst}
+use Rattle.std.proofs.Common.{ℕ, zero, suc, ◌==◌, List, [], ◌∷◌, ◌++◌, Option, Some, None, Result, Ok, Err, Bool, true, false, length, slice_get, subst}
 use Rattle.std.specs.Prelude.{⊤, nat_lt, ◌&&◌, ◌||◌, is_some, if◌then◌else◌}
 use Rattle.lisp_data.specs.Datum.{Dat}
 use Rattle.lisp_data.specs.Name.{Nam}
@@ -29,10 +29,11 @@ use Rattle.clos_machine.proofs.Kept.{same, same_then, Kept, evaluation_kept}
 use Rattle.clos_system.specs.Definitions.{DefinesNothing}
 use Rattle.clos_system.specs.Served.{is_combination, served_of}
 use Rattle.clos_system.specs.Session.{Replies}
-use Rattle.clos_class_core.specs.Table.{Refusal}
-use Rattle.clos_class.specs.Table.{number, refusal}
+use Rattle.clos_class.specs.Table.{number}
+use Rattle.clos_class.specs.declared.reserve.NewCell.{NewCell}
 use Rattle.clos_syntax.specs.declared.class.ClassDefinition.{ClassDefinition}
-use Rattle.clos_system.specs.Class.{accessors_added, define_class, unless_refused, with_class}
+use Rattle.clos_system.specs.Class.{cells_needed, class_made, define_class, fault_of, prepared, unless, with_class}
+use Rattle.clos_system.specs.Initforms.{initform_evaluated, initforms_evaluated}
 use Rattle.clos_system.specs.Effect.{is_taken, is_within_limits, method_added, takes_effect}
 use Rattle.clos_system.specs.Method.{define_method, define_specialized, specializer_numbers}
 use Rattle.clos_system.specs.Step.{checked, performed, room_of, served_run, step}
@@ -68,12 +69,33 @@ effect_refuses v f (Err c) w k = same w
 effect_refuses v f (Ok u) w k =
     choice_refuses (is_within_limits u) w (step_then (λ x j. Gave v (f u) j) w k) _ (step_refuses (λ x j. Gave v (f u) j) w k (λ j. tt)) (same w)
 
-new_class_refuses : (d : ClassDefinition) (o : Option Refusal) (w : State) (k : ℕ) → Refuses w (unless_refused d o w k)
-new_class_refuses d None w k = effect_refuses (class (number w.classes.table d)) (with_class d) (accessors_added (number w.classes.table d) d.slots w) w k
-new_class_refuses d (Some r) w k = same w
+made_refuses : (d : ClassDefinition) (vs : List (Option Val)) (w : State) (k : ℕ) → Refuses w (class_made d vs w k)
+made_refuses d vs w k = effect_refuses (class (number w.classes.table d)) (with_class d vs) (prepared d (length vs) w) w k
+
+-- an evaluation, and then what defines nothing
+then_refuses : (w : State) (o : Out) (go : Val → Run) → Kept w o → ((v : Val) (u : State) (j : ℕ) → Refuses u (go v u j)) → Refuses w (then_do o go)
+then_refuses w (Stopped c u k) go h g = h
+then_refuses w (Gave v u k) go h g = shifted_refuses w u (go v u k) h (g v u k)
+
+initform_refuses : (o : Option Frm) (go : Option Val → Run) (w : State) (k : ℕ) → ((v : Option Val) (u : State) (j : ℕ) → Refuses u (go v u j)) → Refuses w (initform_evaluated o go w k)
+initform_refuses None go w k g = g None w k
+initform_refuses (Some f) go w k g =
+    then_refuses w (evaluation (room_below w) f w k) (λ v. go (Some v)) (evaluation_kept (room_below w) f w k) (λ v u j. g (Some v) u j)
+
+initforms_refuse : (cs : List NewCell) (vs : List (Option Val)) (go : List (Option Val) → Run) (w : State) (k : ℕ) → ((us : List (Option Val)) (u : State) (j : ℕ) → Refuses u (go us u j))
+    → Refuses w (initforms_evaluated cs vs go w k)
+initforms_refuse [] vs go w k g = g vs w k
+initforms_refuse (c ∷ cs) vs go w k g =
+    initform_refuses c.initform (λ v. initforms_evaluated cs (vs ++ v ∷ []) go) w k (λ v u j. initforms_refuse cs (vs ++ v ∷ []) go u j g)
+
+unless_refuses : (o : Option Condition) (go : Run) (w : State) (k : ℕ) → Refuses w (go w k) → Refuses w (unless o go w k)
+unless_refuses None go w k h = h
+unless_refuses (Some c) go w k h = same w
 
 class_refuses : (d : ClassDefinition) (o : Option ℕ) (w : State) (k : ℕ) → Refuses w (define_class d o w k)
-class_refuses d None w k = new_class_refuses d (refusal w.classes.table d) w k
+class_refuses d None w k =
+    unless_refuses (fault_of (prepared d (length (cells_needed d w)) w)) (initforms_evaluated (cells_needed d w) [] (class_made d)) w k
+    (initforms_refuse (cells_needed d w) [] (class_made d) w k (λ vs u j. made_refuses d vs u j))
 class_refuses d (Some n) w k = same w
 
 specialized_refuses : (name : FunctionName) (parameters : List Nam) (body : Frms) (r : Result (List ℕ) Condition) (w : State) (k : ℕ) → Refuses w (define_specialized name parameters body r w k)
@@ -95,7 +117,7 @@ defun_refuses (by_setf name) f w k =
     (choice_refuses (is_some (function_in w.setters name) || has_room w) w (step_then (setter_defined name f) w k) _
     (step_refuses (setter_defined name f) w k (λ j. tt)) (same w))
 
--- an evaluation, and then a step
+-- a step after it
 then_step_refuses : (w : State) (o : Out) (go : Val → Run) → Kept w o → ((v : Val) (u : State) (j : ℕ) → Refuses u (go v u j)) → Refuses w (then_do o (λ v. step_then (go v)))
 then_step_refuses w (Stopped c u k) go h g = h
 then_step_refuses w (Gave v u zero) go h g = h

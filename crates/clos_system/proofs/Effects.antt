@@ -1,8 +1,10 @@
 -- The effect of a definition that adds methods.
-use Rattle.std.proofs.Common.{◌≡◌, ℕ, zero, suc, ◌-◌, Bool, true, false, List, [], ◌∷◌, Option, Some, None, Result, Ok, Err, arith, ap, ◌∙◌, sym, subst}
+use Rattle.std.proofs.Common.{◌≡◌, ℕ, zero, suc, ◌-◌, Bool, true, false, List, [], ◌∷◌, Option, Some, None, Result, Ok, Err, length, refl, arith, ap, ◌∙◌, sym, subst}
 use Rattle.std.specs.Prelude.{if◌then◌else◌}
 use Rattle.lisp_data.specs.Name.{Nam}
-use Rattle.lisp_data.specs.Value.{Val}
+use Rattle.lisp_data.specs.Value.{Val, class}
+use Rattle.clos_class.specs.Table.{number}
+use Rattle.clos_syntax.specs.declared.class.ClassDefinition.{ClassDefinition}
 use Rattle.clos_forms.specs.declared.operator.FunctionName.{FunctionName}
 use Rattle.clos_syntax.specs.declared.slot.Accessor.{Accessor}
 use Rattle.clos_syntax.specs.declared.slot.SlotSpecifier.{SlotSpecifier}
@@ -12,8 +14,9 @@ use Rattle.clos_world.specs.declared.condition.ConditionKind.TheVariants.{TableL
 use Rattle.clos_world.specs.declared.condition.Stop.{Stop}
 use Rattle.clos_world.specs.declared.condition.Stop.TheVariants.{Refused, Storage}
 use Rattle.clos_world.specs.declared.generic.MethodBody.{MethodBody}
-use Rattle.clos_machine.specs.Outcome.{Gave, Stopped, step_then, stopped}
-use Rattle.clos_system.specs.Class.{accessor_added, accessor_body, accessor_name, accessor_required, accessor_specializers, accessors_added, and_then, slot_accessors_added}
+use Rattle.clos_machine.specs.Machine.{leaves}
+use Rattle.clos_machine.specs.Outcome.{Out, Gave, Stopped, step_then, stopped}
+use Rattle.clos_system.specs.Class.{accessor_added, accessor_body, accessor_name, accessor_required, accessor_specializers, accessors_added, and_then, class_made, prepared, slot_accessors_added, with_class}
 use Rattle.clos_system.specs.Effect.{AddsAs, effect_refusal, is_taken, is_within_limits, method_added, step_refusal, takes_effect}
 
 one_less : (k : ℕ) → k ≡ suc k - 1
@@ -40,6 +43,19 @@ module _ (v : Val) (f : State → State) (u w : State) where
 
 pub no_effect : (v : Val) (f : State → State) (w : State) (r : Result State Condition) (k : ℕ) (c : Condition) → r ≡ Err c → takes_effect v f r w k ≡ Stopped c w k
 no_effect v f w r k c e = ap (λ x. takes_effect v f x w k) e
+
+-- ---- with no step left nothing changes
+
+pub either : (b : Bool) (x y : Out) (w : State) → leaves x w 0 → leaves y w 0 → leaves (if b then x else y) w 0
+either true x y w p q = p
+either false x y w p q = q
+
+pub effect_quiet : (v : Val) (f : State → State) (r : Result State Condition) (w : State) → leaves (takes_effect v f r w 0) w 0
+effect_quiet v f (Err c) w = (refl, refl)
+effect_quiet v f (Ok u) w = either (is_within_limits u) _ _ w (refl, refl) (refl, refl)
+
+pub class_made_quiet : (d : ClassDefinition) (vs : List (Option Val)) (w : State) → leaves (class_made d vs w 0) w 0
+class_made_quiet d vs w = effect_quiet (class (number w.classes.table d)) (with_class d vs) (prepared d (length vs) w) w
 
 -- ---- accessors
 

@@ -18,18 +18,17 @@ use Rattle.clos_world.specs.Globals.{is_global}
 use Rattle.clos_world.specs.declared.functions.Function.{Function}
 use Rattle.clos_forms.specs.OperatorView.{called_of}
 use Rattle.lisp_data.specs.Print.{Called, by_symbol, by_setf}
-use Rattle.lisp_data.specs.Value.{Val, class, method}
+use Rattle.lisp_data.specs.Value.{Val, method}
 use Rattle.clos_syntax.specs.declared.variable.VariableDefinition.{VariableDefinition}
 use Rattle.clos_system.specs.Function.{has_room, define_function}
 use Rattle.clos_system.specs.Variable.{room_below, keeps_value, value_given, new_value, variable_defined}
 use Rattle.clos_machine.specs.Machine.{Answers, leaves}
 use Rattle.clos_world.specs.declared.condition.Stop.{Stop}
 use Rattle.clos_world.specs.declared.condition.Stop.TheVariants.{Refused, Storage}
-use Rattle.clos_class_core.specs.Table.{Refusal}
-use Rattle.clos_class.specs.Table.{number, refusal}
 use Rattle.clos_syntax.specs.declared.class.ClassDefinition.{ClassDefinition}
-use Rattle.clos_system.specs.Class.{accessors_added, define_class, new_class, unless_refused, with_class}
-use Rattle.clos_system.specs.Effect.{is_taken, is_within_limits, method_added, takes_effect}
+use Rattle.clos_system.specs.Class.{cells_needed, class_made, define_class, fault_of, new_class, prepared, unless}
+use Rattle.clos_system.specs.Initforms.{initforms_evaluated}
+use Rattle.clos_system.specs.Effect.{is_taken, method_added}
 use Rattle.clos_system.specs.Method.{define_method, define_specialized, specializer_numbers}
 use Rattle.clos_system.specs.Step.{performed, served_run, checked, step, room_of}
 use Rattle.clos_syntax.specs.Top.{top_of}
@@ -40,25 +39,21 @@ use Rattle.clos_machine.specs.declared.machine.Task.TheVariants.{Plain}
 use Rattle.clos_system.specs.declared.served.Served.{Served}
 use Rattle.clos_system.specs.declared.served.Served.TheVariants.{DefineClass, DefineMethod, DefineFunction, DefineVariable, Nothing, Expression}
 use Rattle.clos_machine.proofs.Quiet.{evaluation_quiet}
+use Rattle.clos_system.proofs.Effects.{class_made_quiet, effect_quiet, either}
+use Rattle.clos_system.proofs.Initforms.{initforms_quiet}
 
-either : (b : Bool) (x y : Out) (w : State) → leaves x w 0 → leaves y w 0 → leaves (if b then x else y) w 0
-either true x y w p q = p
-either false x y w p q = q
+unless_quiet : (o : Option Condition) (go : Run) (w : State) → leaves (go w 0) w 0 → leaves (unless o go w 0) w 0
+unless_quiet None go w h = h
+unless_quiet (Some c) go w h = (refl, refl)
 
-effect_quiet : (v : Val) (f : State → State) (r : Result State Condition) (w : State) → leaves (takes_effect v f r w 0) w 0
-effect_quiet v f (Err c) w = (refl, refl)
-effect_quiet v f (Ok u) w = either (is_within_limits u) _ _ w (refl, refl) (refl, refl)
+pub new_class_quiet : (d : ClassDefinition) (w : State) → w.locals ≡ [] → leaves (new_class d w 0) w 0
+new_class_quiet d w e =
+    unless_quiet (fault_of (prepared d (length (cells_needed d w)) w)) (initforms_evaluated (cells_needed d w) [] (class_made d)) w
+    (initforms_quiet (cells_needed d w) [] (class_made d) w e (λ vs. class_made_quiet d vs w))
 
-class_quiet : (d : ClassDefinition) (o : Option Refusal) (w : State) → leaves (unless_refused d o w 0) w 0
-class_quiet d None w = effect_quiet (class (number w.classes.table d)) (with_class d) (accessors_added (number w.classes.table d) d.slots w) w
-class_quiet d (Some r) w = (refl, refl)
-
-pub new_class_quiet : (d : ClassDefinition) (w : State) → leaves (new_class d w 0) w 0
-new_class_quiet d w = class_quiet d (refusal w.classes.table d) w
-
-define_class_quiet : (d : ClassDefinition) (o : Option ℕ) (w : State) → leaves (define_class d o w 0) w 0
-define_class_quiet d None w = new_class_quiet d w
-define_class_quiet d (Some n) w = (refl, refl)
+define_class_quiet : (d : ClassDefinition) (o : Option ℕ) (w : State) → w.locals ≡ [] → leaves (define_class d o w 0) w 0
+define_class_quiet d None w e = new_class_quiet d w e
+define_class_quiet d (Some n) w e = (refl, refl)
 
 pub specialized_quiet : (name : FunctionName) (ps : List Nam) (body : Frms) (r : Result (List ℕ) Condition) (w : State) → leaves (define_specialized name ps body r w 0) w 0
 specialized_quiet name ps body (Err c) w = (refl, refl)
@@ -93,7 +88,7 @@ variable_quiet d w =
     (either (keeps_value (seen w) d.definer d.name) _ _ (seen w) (refl, refl) (value_quiet d.name d.form w)) (refl, refl)
 
 performed_quiet : (served : Served) (w : World) → leaves (performed served (seen w) 0) (seen w) 0
-performed_quiet (DefineClass d) w = define_class_quiet d (named (seen w).classes d.name) (seen w)
+performed_quiet (DefineClass d) w = define_class_quiet d (named (seen w).classes d.name) (seen w) refl
 performed_quiet (DefineMethod name ps cs body) w =
     define_method_quiet name ps cs body (seen w)
 performed_quiet (DefineFunction name function) w = function_defined_quiet (called_of name) function (seen w)

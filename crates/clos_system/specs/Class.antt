@@ -1,8 +1,9 @@
 -- What a defclass does (HyperSpec 7.7).
-use Rattle.std.specs.Prelude.{◌≡◌, ℕ, codes, List, [], ◌∷◌, Option, Some, None, Result, Ok, Err, option_map, if◌then◌else◌}
+use Rattle.std.specs.Prelude.{◌≡◌, ℕ, codes, Bool, false, List, [], ◌∷◌, Option, Some, None, Result, Ok, Err, option_map, length, if◌then◌else◌}
 use Rattle.lisp_data.specs.Name.{Nam}
-use Rattle.lisp_data.specs.Value.{class}
-use Rattle.clos_class.specs.Table.{number, refusal, with_definition}
+use Rattle.lisp_data.specs.Value.{Val, class}
+use Rattle.clos_class.specs.Table.{cells_to_make, list_with, number, refusal, with_definition}
+use Rattle.clos_class.specs.declared.reserve.NewCell.{NewCell}
 use Rattle.clos_class_core.specs.Initial.{number as predefined_number}
 use Rattle.clos_class_core.specs.Table.{Refusal, program_error, table_limit, invalid_superclass, superclass_cycle, incomplete_class, inconsistent_precedence}
 use Rattle.clos_forms.specs.Quotation.{name_value}
@@ -12,6 +13,7 @@ use Rattle.clos_syntax.specs.declared.class.ClassDefinition.{ClassDefinition}
 use Rattle.clos_syntax.specs.declared.slot.Accessor.{Accessor}
 use Rattle.clos_syntax.specs.declared.slot.Accessor.TheVariants.{Reader, Writer}
 use Rattle.clos_syntax.specs.declared.slot.SlotSpecifier.{SlotSpecifier}
+use Rattle.clos_store.specs.Store.{cells_from, has_room_for, with_cells}
 use Rattle.clos_world.specs.World.{State}
 use Rattle.clos_world.specs.declared.condition.Condition.{Condition}
 use Rattle.clos_world.specs.declared.condition.ConditionKind.TheVariants.{ProgramError, InvalidSuperclass, InconsistentPrecedence, SuperclassCycle, IncompleteClass, Unsupported, TableLimit}
@@ -20,7 +22,8 @@ use Rattle.clos_world.specs.declared.condition.Stop.TheVariants.{Refused, Storag
 use Rattle.clos_world.specs.declared.generic.MethodBody.{MethodBody}
 use Rattle.clos_world.specs.declared.generic.MethodBody.TheVariants as body
 use Rattle.clos_machine.specs.Outcome.{Gave, Stopped, Run, stopped}
-use Rattle.clos_system.specs.Effect.{is_taken, method_added, program_error as taken_name, takes_effect}
+use Rattle.clos_system.specs.Effect.{effect_refusal, is_taken, is_within_limits, method_added, program_error as taken_name, takes_effect}
+use Rattle.clos_system.specs.Initforms.{initforms_evaluated}
 
 -- the condition of a definition of the class of this name that is refused
 abbrev pub condition_for : Nam → Refusal → Condition
@@ -69,32 +72,78 @@ abbrev pub accessors_added : ℕ → List SlotSpecifier → State → Result Sta
 accessors_added c [] w = Ok w
 accessors_added c (s ∷ ss) w = and_then (slot_accessors_added c s.name s.accessors w) (λ u. accessors_added c ss u)
 
+-- ---- its cells
+
+-- the shared slots that need cells, in layout order, with their initforms
+abbrev pub cells_needed : ClassDefinition → State → List NewCell
+cells_needed d w = cells_to_make w.classes.slots (number w.classes.table d) (list_with w.classes.table d) d
+
+abbrev pub table_full : Condition
+table_full = record { kind = TableLimit; items = [] }
+
+-- the state where so many more cells may be made
+abbrev pub with_room_for : ℕ → State → Result State Condition
+with_room_for n w = if has_room_for n w.store then Ok w else Err table_full
+
+-- ---- the checks
+
+abbrev pub unless_refused : Nam → Option Refusal → Result State Condition → Result State Condition
+unless_refused name None r = r
+unless_refused name (Some r) other = Err (condition_for name r)
+
+-- the state with the accessors, where so many cells may be made, or why the class can't be defined
+abbrev pub prepared : ClassDefinition → ℕ → State → Result State Condition
+prepared d n w = unless_refused d.name (refusal w.classes.table d) (and_then (accessors_added (number w.classes.table d) d.slots w) (with_room_for n))
+
+-- why it can have no effect
+abbrev pub fault_of : Result State Condition → Option Condition
+fault_of (Err c) = Some c
+fault_of (Ok u) = if is_within_limits u then None else Some table_full
+
 -- ---- the class
 
--- None of its slots needs a cell.
-abbrev pub with_class : ClassDefinition → State → State
-with_class d w = record w { classes = with_definition w.classes d [] }
+-- Its new cells have these values.
+abbrev pub with_class : ClassDefinition → List (Option Val) → State → State
+with_class d values w = record w {
+  classes = with_definition w.classes d (cells_from (length w.store.cells) (length values));
+  store = with_cells values w.store;
+}
 
-abbrev pub unless_refused : ClassDefinition → Option Refusal → Run
-unless_refused d None w k = takes_effect (class (number w.classes.table d)) (with_class d) (accessors_added (number w.classes.table d) d.slots w) w k
-unless_refused d (Some r) w k = Stopped (condition_for d.name r) w k
+-- The checks come again after the initforms, which define nothing.
+abbrev pub class_made : ClassDefinition → List (Option Val) → Run
+class_made d values w k = takes_effect (class (number w.classes.table d)) (with_class d values) (prepared d (length values) w) w k
+
+abbrev pub unless : Option Condition → Run → Run
+unless None go w k = go w k
+unless (Some c) go w k = Stopped c w k
 
 -- a class of a new name, of whose direct superclasses some may not be defined yet
 abbrev pub new_class : ClassDefinition → Run
-new_class d w k = unless_refused d (refusal w.classes.table d) w k
+new_class d w k = unless (fault_of (prepared d (length (cells_needed d w)) w)) (initforms_evaluated (cells_needed d w) [] (class_made d)) w k
 
 -- A class that is defined is not defined again.
 abbrev pub define_class : ClassDefinition → Option ℕ → Run
 define_class d None w k = new_class d w k
 define_class d (Some n) w k = stopped Unsupported [] w k
 
+-- ---- parts of it
+
 -- The class is defined with its accessors, or stops for this; after that the additions are to be taken back.
-abbrev pub Defines : ClassDefinition → State → ℕ → Result (Unit {0}) Stop → State → ℕ → Type 0
-Defines d w k (Ok x) u j = unless_refused d None w k ≡ Gave (class (number w.classes.table d)) u j
-Defines d w k (Err (Refused c)) u j = unless_refused d None w k ≡ Stopped c w k
-Defines d w k (Err Storage) u j = Unit {0}
+abbrev pub Defines : ClassDefinition → List (Option Val) → State → ℕ → Result (Unit {0}) Stop → State → ℕ → Type 0
+Defines d values w k (Ok x) u j = class_made d values w k ≡ Gave (class (number w.classes.table d)) u j
+Defines d values w k (Err (Refused c)) u j = class_made d values w k ≡ Stopped c w k
+Defines d values w k (Err Storage) u j = Unit {0}
+
+-- the fault where so many cells are to be made, once the accessors are added
+abbrev pub cells_fault : ℕ → State → ℕ → Option Condition
+cells_fault n w k = if has_room_for n w.store then effect_refusal w k else Some table_full
 
 -- the condition of this refusal, unless memory ran out
 abbrev pub StopsFor : Nam → Option Refusal → Stop → Type 0
 StopsFor name o (Refused c) = option_map (condition_for name) o ≡ Some c
 StopsFor name o Storage = Unit {0}
+
+-- the condition that there is no room for cells
+abbrev pub StopsForRoom : Bool → Stop → Type 0
+StopsForRoom room (Refused c) = (room ≡ false) × (c ≡ table_full)
+StopsForRoom room Storage = Unit {0}

@@ -1,6 +1,7 @@
 pub mod Served
 pub mod Effect
 pub mod Method
+pub mod Initforms
 pub mod Class
 pub mod Function
 pub mod Variable

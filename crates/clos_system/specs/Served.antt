@@ -22,7 +22,6 @@ use Rattle.clos_syntax.specs.declared.method.ParameterSpecializer.{ParameterSpec
 use Rattle.clos_syntax.specs.declared.method.ParameterSpecializer.TheVariants.{Class, Eql}
 use Rattle.clos_syntax.specs.declared.top.Top.{Top}
 use Rattle.clos_syntax.specs.declared.top.Top.TheVariants.{DefClass, DefGeneric, DefMethod, Defun, DefVar, RemoveMethod, AddDependent, RemoveDependent, InPackage, Expr}
-use Rattle.clos_class.specs.Table.{is_shared}
 use Rattle.clos_system.specs.declared.served.Served.{Served}
 use Rattle.clos_system.specs.declared.served.Served.TheVariants.{DefineClass, DefineMethod, DefineFunction, DefineVariable, Nothing, Expression}
 use Rattle.clos_forms.specs.Form.{Frm, form, Frms, nil, cons}
@@ -114,9 +113,9 @@ abbrev pub is_system_accessor : Accessor → Bool
 is_system_accessor (Reader n) = is_one_of system_functions n
 is_system_accessor (Writer f) = names_system f
 
--- a slot of each instance, whose accessors are the program's functions, and whose initform is served
+-- a slot whose accessors are the program's functions, and whose initform is served
 abbrev pub is_plain_slot : SlotSpecifier → Bool
-is_plain_slot s = not (is_shared s.allocation) && not (list_any is_system_accessor s.accessors) && is_served_if_any s.initform
+is_plain_slot s = not (list_any is_system_accessor s.accessors) && is_served_if_any s.initform
 
 -- a class whose slots are plain, and whose default initargs have forms that are served
 abbrev pub is_plain_class : ClassDefinition → Bool

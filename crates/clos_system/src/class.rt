@@ -1,5 +1,6 @@
-//! What a `defclass` does (HyperSpec 7.7). It takes one step for the whole of its effect; what is refused takes none.
-ghost use Rattle.std.specs.Prelude.{◌≡◌, IfOk, IfErr, OnErr, Option, option_map, None, Some};
+//! What a `defclass` does (HyperSpec 7.7). It takes one step for the whole of its effect, besides those of the initforms of its
+//! shared slots; what is refused takes none.
+ghost use Rattle.std.specs.Prelude.{◌≡◌, [], IfOk, IfErr, OnErr, Option, option_map, None, Some};
 ghost use Rattle.clos_class.specs.Table.{number, refusal};
 ghost use Rattle.clos_class_core.specs.Table.{Refusal};
 ghost use Rattle.clos_class_core.specs.TableView.{Refuses};
@@ -8,13 +9,17 @@ ghost use Rattle.clos_world.specs.Class.{named};
 ghost use Rattle.clos_world.specs.World.{seen};
 ghost use Rattle.clos_world.specs.declared.condition.Stop.TheVariants.{Storage};
 ghost use Rattle.clos_machine.specs.Machine.{Answers};
-ghost use Rattle.clos_system.specs.Class.{Defines, StopsFor, accessor_added, accessor_body, accessor_name, accessor_required, accessor_specializers, accessors_added, condition_for, define_class, new_class, slot_accessors_added};
-ghost use Rattle.clos_system.specs.Effect.{AddsAs};
+ghost use Rattle.clos_system.specs.Class.{Defines, StopsFor, accessor_added, accessor_body, accessor_name, accessor_required, accessor_specializers, accessors_added, cells_needed, class_made, condition_for, define_class, fault_of, new_class, prepared, slot_accessors_added};
+ghost use Rattle.clos_system.specs.Effect.{AddsAs, Allows};
+ghost use Rattle.clos_system.specs.Initforms.{initforms_evaluated};
 
-use crate::effect::{add_method, allow, is_taken};
-use clos_class::ClassFault;
+use crate::cells::{check_limits, make_with_cells};
+use crate::effect::{add_method, is_taken};
+use crate::initforms::evaluate_initforms;
+use clos_class::{ClassFault, NewCell};
 use clos_class_core::numbers;
 use clos_forms::FunctionName;
+use clos_store::Slot;
 use clos_syntax::{Accessor, ClassDefinition, SlotSpecifier};
 use clos_world::{
     Additions, ClassIds, Condition, ConditionKind, MethodBody, Stop, World, about_name,
@@ -23,8 +28,7 @@ use clos_world::{
 use lisp_data::{ClassId, Name, Value};
 use std::alloc::{AllocError, Global};
 
-/// Defines a class of a new name, with the methods of its accessors. Some of its direct superclasses may not be defined yet,
-/// and none of its slots is shared.
+/// Defines a class of a new name, with the methods of its accessors. Some of its direct superclasses may not be defined yet.
 #[tactic(auto, using(crate::proofs::Refusing::of_new_name))]
 pub fn defclass(
     alloc: Global,
@@ -41,7 +45,7 @@ pub fn defclass(
 }
 
 /// Defines a class of a new name.
-#[tactic(auto, using(crate::proofs::Refusing::new_class_refused, crate::proofs::Refusing::class_stands, crate::proofs::Refusing::class_falls))]
+#[tactic(auto, using(crate::proofs::Refusing::new_class_refused))]
 fn define_new(
     alloc: Global,
     world: &mut World,
@@ -53,53 +57,162 @@ fn define_new(
     match world.classes.reserve(alloc, definition) {
         Err(fault) => Err(stop_for(alloc, &definition.name, fault)),
         Ok(reserved) => {
-            let mut additions = Additions::new(alloc);
-            match define_with_accessors(
-                alloc,
-                world,
-                &mut additions,
-                definition,
-                reserved.class,
-                steps,
-            ) {
-                Ok(()) => Ok(Value::Class(reserved.class)),
-                Err(stop) => {
-                    take_all_back(world, additions);
-                    Err(stop)
-                }
-            }
+            let cells = reserved.cells.as_slice();
+            define_accepted(alloc, world, definition, reserved.class, cells, steps)
+        }
+    }
+}
+
+/// Defines a class that the table of classes accepts, which has this number and needs these cells.
+#[tactic(auto, using(crate::proofs::Refusing::without_cells, crate::proofs::Refusing::checks_fail, crate::proofs::Refusing::checks_pass))]
+fn define_accepted(
+    alloc: Global,
+    world: &mut World,
+    definition: &ClassDefinition,
+    class: ClassId,
+    cells: &[NewCell],
+    steps: &mut u64,
+) -> Result<Value, Stop>
+    requires number { class.0 ≡ number (seen world.old).classes.table definition.now }
+    requires cells { cells.now ≡ cells_needed definition.now (seen world.old) }
+    requires accepted { refusal (seen world.old).classes.table definition.now ≡ None }
+    ensures { Answers (new_class definition.now) (seen world.old) steps.old result (seen world.new) steps.new }
+{
+    if cells.len() == 0 {
+        return make_class(alloc, world, definition, class, Vec::new(alloc), steps);
+    }
+    match check_effect(alloc, world, definition, class, cells.len() as u64) {
+        Err(stop) => Err(stop),
+        Ok(()) => define_with_initforms(alloc, world, definition, cells, steps),
+    }
+}
+
+/// Evaluates the initforms of these cells, and then makes the class.
+#[tactic(auto, using(crate::proofs::Initforms::initforms_stop, crate::proofs::Initforms::initforms_go_on))]
+fn define_with_initforms(
+    alloc: Global,
+    world: &mut World,
+    definition: &ClassDefinition,
+    cells: &[NewCell],
+    steps: &mut u64,
+) -> Result<Value, Stop>
+    ensures { Answers (initforms_evaluated cells.now [] (class_made definition.now)) (seen world.old) steps.old result (seen world.new) steps.new }
+{
+    match evaluate_initforms(alloc, world, cells, steps) {
+        Err(stop) => Err(stop),
+        Ok(values) => make_checked(alloc, world, definition, values, steps),
+    }
+}
+
+/// Makes the class, whose new cells have these values.
+#[tactic(auto, using(crate::proofs::Refusing::class_refused))]
+fn make_checked(
+    alloc: Global,
+    world: &mut World,
+    definition: &ClassDefinition,
+    values: Vec<Slot>,
+    steps: &mut u64,
+) -> Result<Value, Stop>
+    ensures { Answers (class_made definition.now values.items) (seen world.old) steps.old result (seen world.new) steps.new }
+{
+    match world.classes.reserve(alloc, definition) {
+        Err(fault) => Err(stop_for(alloc, &definition.name, fault)),
+        Ok(reserved) => make_class(alloc, world, definition, reserved.class, values, steps),
+    }
+}
+
+/// Makes a class that the table of classes accepts, which has this number, and whose new cells have these values.
+#[tactic(auto, using(crate::proofs::Refusing::class_stands, crate::proofs::Refusing::class_falls))]
+fn make_class(
+    alloc: Global,
+    world: &mut World,
+    definition: &ClassDefinition,
+    class: ClassId,
+    values: Vec<Slot>,
+    steps: &mut u64,
+) -> Result<Value, Stop>
+    requires number { class.0 ≡ number (seen world.old).classes.table definition.now }
+    requires accepted { refusal (seen world.old).classes.table definition.now ≡ None }
+    ensures { Answers (class_made definition.now values.items) (seen world.old) steps.old result (seen world.new) steps.new }
+{
+    let mut additions = Additions::new(alloc);
+    match make_with_accessors(
+        alloc,
+        world,
+        &mut additions,
+        definition,
+        class,
+        values,
+        steps,
+    ) {
+        Ok(()) => Ok(Value::Class(class)),
+        Err(stop) => {
+            take_all_back(world, additions);
+            Err(stop)
         }
     }
 }
 
 /// Adds the methods of the accessors, and then the class, which has this number. What was added is told where the class is not
-/// defined.
-#[tactic(auto, using(crate::proofs::Effects::refused_effect, crate::proofs::Effects::allowed_effect, crate::proofs::Effects::no_effect))]
-fn define_with_accessors(
+/// made.
+#[tactic(auto, using(crate::proofs::Making::no_accessors, crate::proofs::Making::no_effect, crate::proofs::Making::effect))]
+fn make_with_accessors(
     alloc: Global,
     world: &mut World,
     additions: &mut Additions,
     definition: &ClassDefinition,
     class: ClassId,
+    values: Vec<Slot>,
     steps: &mut u64,
 ) -> Result<(), Stop>
     requires number { class.0 ≡ number (seen world.old).classes.table definition.now }
     requires accepted { refusal (seen world.old).classes.table definition.now ≡ None }
-    ensures defined { Defines definition.now (seen world.old) steps.old result (seen world.new) steps.new }
+    ensures defined { Defines definition.now values.items (seen world.old) steps.old result (seen world.new) steps.new }
     ensures back { OnErr result ((all_taken_back additions.new (seen world.new) ≡ all_taken_back additions.old (seen world.old)) × (steps.new ≡ steps.old)) }
 {
     match add_accessors(alloc, world, additions, class, definition.slots.as_slice()) {
         Err(stop) => Err(stop),
-        Ok(()) => match allow(alloc, world, *steps) {
-            Err(stop) => Err(stop),
-            Ok(()) => {
-                let Ok(_) = world.classes.define(alloc, definition, &[]) else {
-                    return Err(Stop::Storage);
-                };
-                *steps -= 1;
-                Ok(())
-            }
-        },
+        Ok(()) => make_with_cells(alloc, world, definition, values, steps),
+    }
+}
+
+/// Whether a class that the table of classes accepts may take effect with so many new cells, or why not.
+fn check_effect(
+    alloc: Global,
+    world: &mut World,
+    definition: &ClassDefinition,
+    class: ClassId,
+    cells: u64,
+) -> Result<(), Stop>
+    requires number { class.0 ≡ number (seen world.old).classes.table definition.now }
+    requires accepted { refusal (seen world.old).classes.table definition.now ≡ None }
+    ensures allows { Allows (fault_of (prepared definition.now cells (seen world.old))) result }
+    ensures same { seen world.new ≡ seen world.old }
+{
+    let mut additions = Additions::new(alloc);
+    let answer = try_accessors(alloc, world, &mut additions, definition, class, cells);
+    take_all_back(world, additions);
+    answer
+}
+
+/// Adds the methods of the accessors, and tells whether the tables have room for them and so many new cells.
+#[tactic(auto, using(crate::proofs::Making::not_prepared, crate::proofs::Making::prepared_with))]
+fn try_accessors(
+    alloc: Global,
+    world: &mut World,
+    additions: &mut Additions,
+    definition: &ClassDefinition,
+    class: ClassId,
+    cells: u64,
+) -> Result<(), Stop>
+    requires number { class.0 ≡ number (seen world.old).classes.table definition.now }
+    requires accepted { refusal (seen world.old).classes.table definition.now ≡ None }
+    ensures allows { Allows (fault_of (prepared definition.now cells (seen world.old))) result }
+    ensures back { all_taken_back additions.new (seen world.new) ≡ all_taken_back additions.old (seen world.old) }
+{
+    match add_accessors(alloc, world, additions, class, definition.slots.as_slice()) {
+        Err(stop) => Err(stop),
+        Ok(()) => check_limits(alloc, world, cells),
     }
 }
 

@@ -122,7 +122,7 @@ fn made_by_program(count: usize) -> u64
 }
 
 /// Whether there are no more generic functions and methods than there may be.
-fn is_within_limits(world: &World) -> bool
+pub fn is_within_limits(world: &World) -> bool
     ensures { result ≡ is_within_limits (seen world.now) }
 {
     made_by_program(world.generics.len()) <= world.limits.generics

@@ -1,9 +1,11 @@
 //! Sessions of the language: top-level forms, and runs of whole texts.
 #![tactic(auto)]
 
+mod cells;
 mod class;
 mod effect;
 mod function;
+mod initforms;
 mod method;
 mod served;
 mod session;

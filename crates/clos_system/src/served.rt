@@ -6,16 +6,14 @@ ghost use Rattle.lisp_data.specs.DatumView.{datum_of};
 ghost use Rattle.clos_forms.specs.Form.{Frm, Frms};
 ghost use Rattle.clos_forms.specs.OperatorView.{called_of, operator_of};
 ghost use Rattle.clos_lambda.specs.LambdaList.{entries_of};
-ghost use Rattle.clos_class.specs.Table.{is_shared};
 ghost use Rattle.clos_system.specs.Served.{are_served, calls, class_name, classes_named, is_combination, is_eql, is_plain, is_plain_class, is_plain_slot, is_served, is_unserved, are_inits_served, served_class, served_function, served_method, served_of, names_system, is_extensible, is_initialization, is_system_accessor, served_variable, serves, names_served, is_served_as, is_served_if_any};
 
 use clos_forms::{Form, Forms, FunctionName, Operator, is_function, is_system_function, is_the};
 use clos_machine::callee::{Callee, callee_named};
 use clos_machine::parameters::requires_only;
 use clos_syntax::{
-    Accessor, Allocation, ClassDefinition, DefaultInitarg, FunctionDefinition, Key, Keys,
-    LambdaList, MethodDefinition, Optional, ParameterSpecializer, SlotSpecifier, Top,
-    VariableDefinition,
+    Accessor, ClassDefinition, DefaultInitarg, FunctionDefinition, Key, Keys, LambdaList,
+    MethodDefinition, Optional, ParameterSpecializer, SlotSpecifier, Top, VariableDefinition,
 };
 use clos_world::{Function, Parameters};
 use lisp_data::{Data, Datum, Name};
@@ -24,7 +22,6 @@ use std::alloc::{AllocError, Global};
 /// A top-level form that is served.
 #[derive(Drop)]
 pub enum Served {
-    /// A class, none of whose slots is shared.
     DefineClass(ClassDefinition),
     /// A method of the function of this name: its parameters, the names of their classes, and its body.
     DefineMethod(FunctionName, Parameters, Parameters, Forms),
@@ -98,13 +95,11 @@ fn are_plain_slots(slots: &[SlotSpecifier]) -> bool
     slots.iter().all(|slot| is_plain_slot(slot))
 }
 
-/// A slot of each instance, whose accessors are the program's functions, and whose initform is served.
+/// A slot whose accessors are the program's functions, and whose initform is served.
 fn is_plain_slot(slot: &SlotSpecifier) -> bool
     ensures { result ≡ is_plain_slot slot.now }
 {
-    !is_shared(slot.allocation)
-        && !has_system_accessor(slot.accessors.as_slice())
-        && is_served_if_any(&slot.initform)
+    !has_system_accessor(slot.accessors.as_slice()) && is_served_if_any(&slot.initform)
 }
 
 fn has_system_accessor(accessors: &[Accessor]) -> bool
@@ -142,15 +137,6 @@ fn is_extensible(name: &FunctionName) -> bool
     match name {
         FunctionName::Symbol(name) => !is_system_function(name) || is_the(name, "SLOT-UNBOUND"),
         FunctionName::Setf(_) => true,
-    }
-}
-
-fn is_shared(allocation: Allocation) -> bool
-    ensures { result ≡ is_shared allocation }
-{
-    match allocation {
-        Allocation::Instance => false,
-        Allocation::Class => true,
     }
 }
 

@@ -14,6 +14,8 @@ mod instances;
 #[cfg(test)]
 mod session;
 #[cfg(test)]
+mod shared_slots;
+#[cfg(test)]
 mod system_functions;
 #[cfg(test)]
 mod top;

@@ -58,7 +58,7 @@ const NOT_SERVED: &str = "(defvar x (princ (change-class 1 'a)))
 (defmethod f (x) (call-next-method))
 (slot-unbound 1 2 (princ 1))
 (defgeneric f (x))
-(defclass a (b c) ((s :allocation :class)))
+(defclass a () (r (s :initform (change-class 1 'a) :allocation :class)))
 (defclass a () ((s :reader initialize-instance)))
 (defclass a () (r (s :reader s :writer slot-unbound)))
 (defmethod slot-missing (a b c d) 1)
@@ -374,6 +374,7 @@ fn limits(setting: &str) -> Limits {
         "methods" => limits.methods = number,
         "functions" => limits.functions = number,
         "globals" => limits.globals = number,
+        "cells" => limits.cells = number,
         "tables" => {
             limits.classes = number;
             limits.generics = number;
