@@ -1,5 +1,5 @@
 -- Calls of readers and writers.
-use Rattle.std.proofs.Common.{◌≡◌, ℕ, List, [], ◌∷◌, Option, Some, None, Result, Ok, Err, refl, ap, sym, ◌∙◌}
+use Rattle.std.proofs.Common.{◌≡◌, ℕ, List, [], ◌∷◌, Some, None, Result, Ok, Err, refl, ap, sym, ◌∙◌}
 use Rattle.std.specs.Prelude.{unwrap_or}
 use Rattle.lisp_data.specs.Name.{Nam}
 use Rattle.lisp_data.specs.Value.{Val}
@@ -14,13 +14,13 @@ use Rattle.clos_machine.specs.Accessors.{read_by, read_of, written_by, written_o
 use Rattle.clos_machine.specs.Machine.{Leads, Turns, at, inside, resume}
 use Rattle.clos_machine.specs.Meaning.{closed}
 use Rattle.clos_machine.specs.Outcome.{Eval, Stopped, stopped}
-use Rattle.clos_machine.specs.Slots.{instance_in, slot_changed, slot_read}
+use Rattle.clos_machine.specs.Slots.{instance_in, slot_read}
 use Rattle.clos_machine.specs.declared.arguments.Context.{Context}
 use Rattle.clos_machine.specs.declared.machine.Doing.{Doing}
 use Rattle.clos_machine.specs.declared.machine.Machine.{Machine}
 use Rattle.clos_machine.proofs.Turns.{leads_same, stopped_through}
 use Rattle.clos_objects.specs.Objects.{DesignatesInstance, two_of}
-use Rattle.clos_objects.proofs.Placing.{stops_at_once, turns_same}
+use Rattle.clos_objects.proofs.Placing.{stops_at_once}
 
 module _ (ev : Eval) (env : Context) (slot : Nam) where
   -- ---- a reader

@@ -4,3 +4,4 @@ pub mod Accessing
 pub mod Passing
 pub mod Making
 pub mod Growing
+pub mod Methods

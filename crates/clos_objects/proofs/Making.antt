@@ -1,8 +1,8 @@
 -- The making of an instance.
-use Rattle.std.proofs.Common.{◌≡◌, ℕ, zero, suc, ◌+◌, ◌<◌, ◌≤◌, List, [], ◌∷◌, ◌++◌, Bool, true, false, Option, Some, None, Result, Ok, Err, drop, get_or, length, arith, add-one, refl, ap, sym, subst, ◌∙◌}
-use Rattle.std.specs.Prelude.{option_map, if◌then◌else◌, is_some}
+use Rattle.std.proofs.Common.{◌≡◌, ℕ, zero, suc, ◌+◌, ◌<◌, List, [], ◌∷◌, ◌++◌, Bool, true, false, Some, None, Result, Ok, Err, drop, get_or, length, arith, add-one, refl, ap, sym, subst, ◌∙◌}
+use Rattle.std.specs.Prelude.{if◌then◌else◌}
 use Rattle.std.proofs.Math.Seq.{drop-cons}
-use Rattle.lisp_data.specs.Value.{Val, instance}
+use Rattle.lisp_data.specs.Value.{Val}
 use Rattle.lisp_data.specs.declared.ids.InstanceId.{InstanceId}
 use Rattle.clos_forms.specs.Quotation.{name_value}
 use Rattle.clos_forms.specs.Form.{nil}
@@ -23,7 +23,7 @@ use Rattle.clos_machine.specs.Machine.{Designates, Leads, Turns, at, inside, res
 use Rattle.clos_machine.specs.Meaning.{closed, meaning}
 use Rattle.clos_machine.specs.Objects.{designated}
 use Rattle.clos_machine.specs.Parameters.{are_pairs}
-use Rattle.clos_machine.specs.Outcome.{Run, Eval, Gave, Stopped, then_do, step_then, stopped}
+use Rattle.clos_machine.specs.Outcome.{Run, Eval, Stopped, then_do, step_then, stopped}
 use Rattle.clos_machine.specs.declared.arguments.Context.{Context}
 use Rattle.clos_machine.specs.declared.machine.Doing.{Doing}
 use Rattle.clos_machine.specs.declared.machine.Frame.TheVariants.{Body}

@@ -1,5 +1,5 @@
 -- Slots that are filled one after another.
-use Rattle.std.proofs.Common.{◌≡◌, ℕ, zero, suc, ◌+◌, ◌<◌, ◌≤◌, List, [], ◌∷◌, Bool, true, false, Option, Some, None, Result, Ok, Err, drop, get_or, length, arith, add-one, refl, ap, sym, subst, ◌∙◌}
+use Rattle.std.proofs.Common.{◌≡◌, ℕ, suc, ◌+◌, ◌<◌, ◌≤◌, List, [], ◌∷◌, false, Some, Result, Ok, Err, drop, get_or, length, arith, add-one, refl, ap, sym, subst, ◌∙◌}
 use Rattle.std.specs.Prelude.{if◌then◌else◌}
 use Rattle.std.proofs.Math.ListN.{drop_of_length-le}
 use Rattle.std.proofs.Math.Seq.{drop-cons}
@@ -12,7 +12,7 @@ use Rattle.clos_store.specs.Store.{with_slot}
 use Rattle.clos_world.specs.declared.condition.Condition.{Condition}
 use Rattle.clos_world.specs.declared.condition.ConditionKind.TheVariants.{StepLimit}
 use Rattle.clos_world.specs.declared.condition.Stop.{Stop}
-use Rattle.clos_world.specs.declared.condition.Stop.TheVariants.{Refused, Storage}
+use Rattle.clos_world.specs.declared.condition.Stop.TheVariants.{Refused}
 use Rattle.clos_machine.specs.Machine.{Leads, Turns, at, denote, inside, resume}
 use Rattle.clos_machine.specs.Meaning.{closed, meaning}
 use Rattle.clos_machine.specs.declared.machine.Action.TheVariants.{Fill}
@@ -30,7 +30,7 @@ use Rattle.clos_machine.specs.Filling.{Filler, Subject, fill, fill_with, filled_
 use Rattle.clos_machine.specs.Filling as filler
 use Rattle.clos_machine.specs.Outcome.{Gave, Stopped, Run, Eval, then_do}
 use Rattle.clos_machine.specs.declared.arguments.Context.{Context}
-use Rattle.clos_objects.specs.Objects.{Fills, Finds, filler_found, filler_in, first_filled, is_nothing, pending}
+use Rattle.clos_objects.specs.Objects.{Fills, Finds, filler_in, first_filled, is_nothing, pending}
 use Rattle.clos_objects.specs.declared.filling.Found.{Found}
 use Rattle.clos_objects.specs.declared.filling.Found.TheVariants as found
 

@@ -1,5 +1,5 @@
 -- Slots that are read and set by their names.
-use Rattle.std.proofs.Common.{◌≡◌, ℕ, zero, suc, ◌+◌, List, [], ◌∷◌, Bool, true, false, Option, Some, None, Result, Ok, Err, arith, refl, ap, sym, subst, ◌∙◌}
+use Rattle.std.proofs.Common.{◌≡◌, ℕ, suc, ◌+◌, List, [], ◌∷◌, true, false, Option, Some, None, Result, Ok, Err, arith, refl, ap, sym, ◌∙◌}
 use Rattle.std.specs.Prelude.{option_map, unwrap_or, is_some}
 use Rattle.lisp_data.specs.Name.{Nam}
 use Rattle.lisp_data.specs.Value.{Val}
@@ -7,14 +7,14 @@ use Rattle.lisp_data.specs.ValueView.{value_of}
 use Rattle.lisp_data.specs.declared.ids.InstanceId.{InstanceId}
 use Rattle.lisp_data.specs.declared.value.Value.{Value}
 use Rattle.clos_store.specs.Store.{slot_found, with_slot}
-use Rattle.clos_world.specs.World.{State, unbound}
+use Rattle.clos_world.specs.World.{State}
 use Rattle.clos_world.specs.declared.condition.Condition.{Condition}
 use Rattle.clos_world.specs.declared.condition.ConditionKind.TheVariants.{ProgramError, StepLimit}
 use Rattle.clos_world.specs.declared.condition.Stop.{Stop}
 use Rattle.clos_world.specs.declared.condition.Stop.TheVariants.{Refused, Storage}
 use Rattle.clos_machine.specs.Machine.{Leads, Turns, at, denote, inside, resume}
 use Rattle.clos_machine.specs.Meaning.{closed, meaning}
-use Rattle.clos_machine.specs.Outcome.{Out, Run, Eval, Stopped, step_then, stopped}
+use Rattle.clos_machine.specs.Outcome.{Run, Eval, Stopped, step_then, stopped}
 use Rattle.clos_machine.specs.Slots.{slot_answer, slot_applied, slot_called, slot_changed, slot_designated, slot_given, slot_set, slot_stored}
 use Rattle.clos_machine.specs.declared.arguments.Context.{Context}
 use Rattle.clos_machine.specs.declared.callee.SlotFunction.{SlotFunction}

@@ -1,5 +1,5 @@
 -- What the parts of these protocols are told to do.
-use Rattle.std.specs.Prelude.{◌≡◌, ◌==◌, ℕ, codes, drop, Bool, true, false, List, [], ◌∷◌, Option, Some, None, Result, Ok, Err, if◌then◌else◌}
+use Rattle.std.specs.Prelude.{◌≡◌, ℕ, codes, drop, Bool, true, false, List, [], ◌∷◌, Option, Some, None, Result, Ok, Err, if◌then◌else◌}
 use Rattle.lisp_data.specs.Name.{Nam}
 use Rattle.lisp_data.specs.Value.{Val, instance}
 use Rattle.lisp_data.specs.ValueView.{value_of}

@@ -36,7 +36,7 @@ fn initform_for<'a>(
     names: Option<&Value>,
     slot: &'a EffectiveSlot,
 ) -> Option<&'a Form>
-    ensures { filler_of_form (option_copied result) ≡ unbound_filler (is_named (option_map_or (λ v. value_of v.now) names (list nil)) slot.now.name) slot.now.cell (slot_found (seen world.now).store id.0 slot.now.name) slot.now.initform }
+    ensures { filler_of_form (option_copied result) ≡ unbound_filler (is_named (option_map_or (λ v. value_of v.now) names.entry (list nil)) slot.now.name) slot.now.cell (slot_found (seen world.now).store id.0 slot.now.name) slot.now.initform }
 {
     if slot.cell.is_some() {
         return None;

@@ -73,7 +73,7 @@ fn is_listed(items: &Items, name: &Name) -> bool
 
 /// Whether the slot of this name is among them.
 pub fn is_named(names: Option<&Value>, name: &Name) -> bool
-    ensures { result ≡ is_named (option_map_or (λ v. value_of v.now) names (list nil)) name.now }
+    ensures { result ≡ is_named (option_map_or (λ v. value_of v.now) names.entry (list nil)) name.now }
 {
     match names {
         None => false,

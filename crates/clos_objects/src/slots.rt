@@ -260,7 +260,12 @@ fn test(
     match world.store.slot(id, name) {
         None => {
             let arguments = missing_arguments(alloc, world, id, name, &"SLOT-BOUNDP")?;
-            invoke_under(machine, SystemFunction::SlotMissing, arguments, Frame::Truth)
+            invoke_under(
+                machine,
+                SystemFunction::SlotMissing,
+                arguments,
+                Frame::Truth,
+            )
         }
         Some(slot) => Ok(Doing::Give(truth(slot.value().is_some()))),
     }

@@ -1,10 +1,11 @@
 //! What the system's methods do with the arguments of their calls (HyperSpec 7.1.4, 7.3, 7.7).
-ghost use Rattle.std.specs.Prelude.{◌≡◌, ◌∷◌, IfOk, map, option_map};
+ghost use Rattle.std.specs.Prelude.{◌≡◌, ◌∷◌, [], IfOk, MatchOption, map, option_map};
 ghost use Rattle.lisp_data.specs.Value.{instance};
 ghost use Rattle.lisp_data.specs.ValueView.{value_of};
 ghost use Rattle.clos_world.specs.World.{seen};
 ghost use Rattle.clos_machine.specs.Machine.{Grows, Leads, inside};
 ghost use Rattle.clos_machine.specs.Meaning.{meaning};
+ghost use Rattle.clos_machine.specs.Slots.{instance_in};
 ghost use Rattle.clos_machine.specs.SystemMethods.{class_in, initialize, initialize_slots, filled_as, reinitialize, reinitialize_as, shared_initialized, slot_condition, system_method_run, told};
 ghost use Rattle.clos_machine.specs.Filling.{initargs_in, names_in};
 ghost use Rattle.clos_objects.specs.Objects.{TellsCondition};
@@ -29,7 +30,6 @@ use lisp_data::{ClassId, InstanceId, Value};
 use std::alloc::{AllocError, Global};
 
 /// The system's method of this function runs.
-#[tactic(auto, using(crate::proofs::Growing::grows_5_9, clos_machine::proofs::Turns::stopped_through))]
 pub fn run_system_method(
     alloc: Global,
     machine: &mut Machine,
@@ -40,9 +40,27 @@ pub fn run_system_method(
     ensures leads { Leads (inside machine.old (system_method_run (meaning machine.old.room) function arguments.now)) (seen world.now) result machine.new }
     ensures small { Grows 9 machine.old.levels result machine.new }
 {
-    let Some((first, rest)) = arguments.as_slice().split_first() else {
-        return Err(Stop::Refused(plain(alloc, ConditionKind::ProgramError)));
-    };
+    match split(arguments.as_slice()) {
+        None => Err(Stop::Refused(plain(alloc, ConditionKind::ProgramError))),
+        Some((first, rest)) => { run_with(alloc, machine, world, function, first, rest, arguments) }
+    }
+}
+
+/// The same with arguments that begin with this one.
+#[tactic(auto, using(crate::proofs::Growing::grows_5_9, clos_machine::proofs::Turns::stopped_through))]
+fn run_with(
+    alloc: Global,
+    machine: &mut Machine,
+    world: &World,
+    function: SystemFunction,
+    first: &Value,
+    rest: &[Value],
+    arguments: &Arguments,
+) -> Result<Doing, Stop>
+    requires { arguments.now ≡ value_of first.now ∷ map value_of rest.now }
+    ensures leads { Leads (inside machine.old (system_method_run (meaning machine.old.room) function arguments.now)) (seen world.now) result machine.new }
+    ensures small { Grows 9 machine.old.levels result machine.new }
+{
     match function {
         SystemFunction::InitializeInstance => initialize(alloc, machine, world, first, rest),
         SystemFunction::ReinitializeInstance => reinitialize(alloc, machine, world, first, rest),
@@ -57,6 +75,13 @@ pub fn run_system_method(
         }
         SystemFunction::NoApplicableMethod => Err(signal_unmatched(alloc, world, first, rest)),
     }
+}
+
+/// The first of these values, and the others.
+fn split(values: &[Value]) -> Option<(&Value, &[Value])>
+    ensures { MatchOption result (map value_of values.now ≡ []) (λ p. map value_of values.now ≡ value_of p.0.now ∷ map value_of p.1.now) }
+{
+    values.split_first()
 }
 
 /// Shared-initialize is called with these arguments, and then the instance is given.
@@ -176,17 +201,17 @@ fn initialize_slots(
     ensures leads { Leads (inside machine.old (system_method_run (meaning machine.old.room) SharedInitialize arguments.now)) (seen world.now) result machine.new }
     ensures small { Grows 9 machine.old.levels result machine.new }
 {
-    let Some(names) = rest.first() else {
-        return Err(Stop::Refused(plain(alloc, ConditionKind::ProgramError)));
-    };
-    match instance_in(alloc, object) {
-        Err(stop) => Err(stop),
-        Ok(id) => {
-            if !are_slot_names(names) {
-                return Err(Stop::Refused(wrong_type(alloc, names)?));
+    match split(rest) {
+        None => Err(Stop::Refused(plain(alloc, ConditionKind::ProgramError))),
+        Some((names, _)) => match instance_in(alloc, object) {
+            Err(stop) => Err(stop),
+            Ok(id) => {
+                if !are_slot_names(names) {
+                    return Err(Stop::Refused(wrong_type(alloc, names)?));
+                }
+                fill_instance(alloc, machine, world, id, arguments)
             }
-            fill_instance(alloc, machine, world, id, arguments)
-        }
+        },
     }
 }
 

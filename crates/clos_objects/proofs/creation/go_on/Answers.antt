@@ -1,5 +1,4 @@
-use Rattle.std.proofs.Common.{ap, drop, map, sym, ◌∙◌}
-use Rattle.lisp_data.specs.ValueView.{value_of}
+use Rattle.std.proofs.Common.{ap, drop, sym, ◌∙◌}
 use Rattle.clos_machine.specs.Initialization.{defaulted}
 use Rattle.clos_machine.specs.Machine.{at, resume}
 use Rattle.clos_machine.specs.Meaning.{closed, meaning}

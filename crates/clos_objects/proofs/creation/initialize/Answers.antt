@@ -17,3 +17,13 @@ returns-in-Some-clause-leads c = λ run w a h.
     refused_initarg c.args.machine.now c.args.machine.now (meaning c.args.machine.now.room) c.args.class.0 c.args.effective.now c.args.initargs (map value_of c.as_slice.result.now)
     c.args.id.0 (value_of c.in-Some.name.now) c.args.world.now.classes c.refuse.result run w a
     (c.in-Some.ensures ∙ ap (λ l. invalid_initarg l (map value_of c.as_slice.result.now)) c.slots.ensures) c.as_slice.ensures c.refuse.ensures h
+
+pub returns-clause-leads : goal.returns-clause-leads
+returns-clause-leads c = λ run w a h.
+    let m : Machine = c.args.machine.now in
+    c.invoke_under.ensures.leads run w refl (λ t.
+    ap (λ vs. then_do (invoked (meaning m.room) InitializeInstance vs (at m w) t) (λ u. keeping (meaning m.room) m.context c.new.result (instance c.args.id.0))) c.in_ok-push_first.ensures
+    ∙ ap (λ x. then_do (invoked (meaning m.room) InitializeInstance (instance c.args.id.0 ∷ c.args.initargs) (at m w) t) (λ u. keeping (meaning m.room) m.context x (instance c.args.id.0))) c.new.ensures
+    ∙ ap (λ o. initialized (meaning m.room) c.args.class.0 c.args.initargs c.args.id.0 o (at m w) t)
+    (c.in_default.ensures ∙ ap (λ l. invalid_initarg l (map value_of c.as_slice.result.now)) c.slots.ensures ∙ ap (invalid_initarg c.args.effective.now.slots) c.as_slice.ensures)
+    ∙ h t)

@@ -1,4 +1,4 @@
-use Rattle.std.proofs.Common.{◌-◌, Some, arith, ap, drop, refl, sym, ◌∙◌}
+use Rattle.std.proofs.Common.{◌-◌, arith, ap, drop, refl}
 use Rattle.lisp_data.specs.ValueView.{value_of}
 use Rattle.clos_world.specs.World.{seen}
 use Rattle.clos_machine.specs.Filling.{slots_left, subject_of}

@@ -1,6 +1,4 @@
-use Rattle.std.proofs.Common.{Option, ap, ◌∙◌}
 use Rattle.std.specs.Prelude.{option_map}
-use Rattle.lisp_data.specs.Value.{Val}
 use Rattle.lisp_data.specs.ValueView.{value_of}
 use Rattle.clos_store.specs.Store.{slot_found}
 use Rattle.clos_world.specs.World.{seen}

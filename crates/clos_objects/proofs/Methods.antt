@@ -1,0 +1,119 @@
+-- What the system's methods do.
+use Rattle.std.proofs.Common.{◌≡◌, ℕ, List, [], ◌∷◌, true, false, Some, None, Result, Ok, Err, refl, ap, sym, ◌∙◌}
+use Rattle.std.specs.Prelude.{if◌then◌else◌}
+use Rattle.lisp_data.specs.Value.{Val, list, nil}
+use Rattle.clos_class.specs.Slots.{Effective}
+use Rattle.clos_world.specs.Class.{class_name}
+use Rattle.clos_world.specs.World.{State}
+use Rattle.clos_world.specs.declared.condition.Condition.{Condition}
+use Rattle.clos_world.specs.declared.condition.ConditionKind.TheVariants.{ProgramError}
+use Rattle.clos_world.specs.declared.condition.Stop.{Stop}
+use Rattle.clos_world.specs.declared.condition.Stop.TheVariants.{Refused, Storage}
+use Rattle.clos_world.specs.declared.system.SystemFunction.{SystemFunction}
+use Rattle.clos_world.specs.declared.system.SystemFunction.TheVariants.{InitializeInstance, ReinitializeInstance, SharedInitialize, SlotUnbound, SlotMissing, NoApplicableMethod}
+use Rattle.clos_machine.specs.ClassFunctions.{wrong_type}
+use Rattle.clos_machine.specs.Filling.{are_slot_names, initargs_in, names_in}
+use Rattle.clos_machine.specs.Initialization.{invalid_for, invalid_initarg}
+use Rattle.clos_machine.specs.Machine.{Leads, at, inside, resume}
+use Rattle.clos_machine.specs.Meaning.{closed}
+use Rattle.clos_machine.specs.Outcome.{Eval, Run, Stopped, stopped}
+use Rattle.clos_machine.specs.Slots.{instance_in}
+use Rattle.clos_machine.specs.SystemMethods.{class_in, filled_as, if_valid, initialize_slots, reinitialize_as, shared_initialized, system_method_run}
+use Rattle.clos_machine.specs.declared.machine.Doing.{Doing}
+use Rattle.clos_machine.specs.declared.machine.Machine.{Machine}
+use Rattle.clos_machine.proofs.Turns.{leads_same, stopped_through}
+use Rattle.clos_objects.specs.Objects.{DesignatesInstance, TellsCondition}
+
+module _ (m n : Machine) (w : State) where
+  -- a run that stops at once
+  pub leads_stops : (run : Run) (c : Condition) → ((t : ℕ) → run (at m w) t ≡ Stopped c (at m w) t) → Leads (inside m run) w (Err (Refused c)) n
+  leads_stops run c h = λ t. ap (λ o. closed (resume m.levels m.context o)) (h t) ∙ stopped_through m.levels m.context c (at m w) t
+
+  pub leads_refused : (run : Run) (c d : Condition) → ((t : ℕ) → run (at m w) t ≡ Stopped d (at m w) t) → c ≡ d → Leads (inside m run) w (Err (Refused c)) n
+  leads_refused run c d h e = leads_stops run c (λ t. h t ∙ ap (λ x. Stopped x (at m w) t) (sym e))
+
+  -- what is no instance
+  pub no_instance : (go : Result ℕ Condition → Run) (d : Result ℕ Condition) (stop : Stop) → ((c : Condition) (t : ℕ) → go (Err c) (at m w) t ≡ Stopped c (at m w) t)
+      → DesignatesInstance d (Err stop) → Leads (inside m (go d)) w (Err stop) n
+  no_instance go d Storage h e = tt
+  no_instance go d (Refused c) h e = leads_stops (go d) c (λ t. ap (λ x. go x (at m w) t) e ∙ h c t)
+
+  -- ---- no arguments
+
+  none_at : (ev : Eval) (f : SystemFunction) (t : ℕ) → system_method_run ev f [] (at m w) t ≡ stopped ProgramError [] (at m w) t
+  none_at ev InitializeInstance t = refl
+  none_at ev ReinitializeInstance t = refl
+  none_at ev SharedInitialize t = refl
+  none_at ev SlotUnbound t = refl
+  none_at ev SlotMissing t = refl
+  none_at ev NoApplicableMethod t = refl
+
+  pub no_arguments : (ev : Eval) (f : SystemFunction) (vs : List Val) (c : Condition) → vs ≡ [] → c ≡ record { kind = ProgramError; items = [] }
+      → Leads (inside m (system_method_run ev f vs)) w (Err (Refused c)) n
+  no_arguments ev f vs c e k =
+      leads_refused (system_method_run ev f vs) c (record { kind = ProgramError; items = [] }) (λ t. ap (λ x. system_method_run ev f x (at m w) t) e ∙ none_at ev f t) k
+
+  -- ---- an instance that is initialized again
+
+  module _ (ev : Eval) (vs : List Val) (i : ℕ) where
+    abbrev pub again : Run
+    again u = reinitialize_as ev vs i (class_in u i) u
+
+    pub no_class_again : (c : Condition) → None ≡ class_in w i → c ≡ record { kind = ProgramError; items = [] } → Leads (inside m again) w (Err (Refused c)) n
+    no_class_again c e k = leads_refused again c (record { kind = ProgramError; items = [] }) (λ t. ap (λ o. reinitialize_as ev vs i o (at m w) t) (sym e)) k
+
+    pub invalid_again : (p : ℕ × Effective) (k : Val) (stop : Stop) → Some p ≡ class_in w i → Some k ≡ invalid_initarg p.1.slots vs → TellsCondition (invalid_for k (class_name w.classes p.0)) stop
+        → Leads (inside m again) w (Err stop) n
+    invalid_again p k Storage e h d = tt
+    invalid_again p k (Refused c) e h d =
+        leads_refused again c (invalid_for k (class_name w.classes p.0))
+        (λ t. ap (λ o. reinitialize_as ev vs i o (at m w) t) (sym e) ∙ ap (λ o. if_valid p.0 o (shared_initialized ev i (list nil) vs) (at m w) t) (sym h)) d
+
+    pub valid_again : (p : ℕ × Effective) (names : Val) (r : Result Doing Stop) → Some p ≡ class_in w i → None ≡ invalid_initarg p.1.slots vs → names ≡ list nil
+        → Leads (inside m (shared_initialized ev i names vs)) w r n → Leads (inside m again) w r n
+    valid_again p names r e h q l =
+        leads_same (inside m (shared_initialized ev i names vs)) (inside m again) w r n
+        (λ t. ap (λ v. inside m (shared_initialized ev i v vs) w t) q
+        ∙ ap (λ o. inside m (if_valid p.0 o (shared_initialized ev i (list nil) vs)) w t) h ∙ ap (λ o. inside m (reinitialize_as ev vs i o) w t) e) l
+
+  -- ---- slots that are initialized
+
+  pub no_class_to_fill : (ev : Eval) (i : ℕ) (names : Val) (vs : List Val) (c : Condition) → None ≡ class_in w i → c ≡ record { kind = ProgramError; items = [] }
+      → Leads (inside m (λ u. filled_as ev i names vs (class_in u i) u)) w (Err (Refused c)) n
+  no_class_to_fill ev i names vs c e k =
+      leads_refused (λ u. filled_as ev i names vs (class_in u i) u) c (record { kind = ProgramError; items = [] }) (λ t. ap (λ o. filled_as ev i names vs o (at m w) t) (sym e)) k
+
+  module _ (ev : Eval) (v : Val) (us : List Val) where
+    abbrev pub slots_run : Run
+    slots_run = system_method_run ev SharedInitialize us
+
+    pub one_argument : (rest : List Val) (c : Condition) → us ≡ v ∷ rest → rest ≡ [] → c ≡ record { kind = ProgramError; items = [] } → Leads (inside m slots_run) w (Err (Refused c)) n
+    one_argument rest c e h k =
+        leads_refused slots_run c (record { kind = ProgramError; items = [] }) (λ t. ap (λ x. system_method_run ev SharedInitialize x (at m w) t) (e ∙ ap (λ r. v ∷ r) h)) k
+
+    module _ (rest : List Val) (names : Val) (initargs : List Val) (e : us ≡ v ∷ rest) (h : rest ≡ names ∷ initargs) where
+      whole : us ≡ v ∷ names ∷ initargs
+      whole = e ∙ ap (λ r. v ∷ r) h
+
+      runs : (t : ℕ) → initialize_slots ev names initargs (instance_in v) (at m w) t ≡ slots_run (at m w) t
+      runs t = ap (λ x. system_method_run ev SharedInitialize x (at m w) t) (sym whole)
+
+      pub slots_of_none : (stop : Stop) → DesignatesInstance (instance_in v) (Err stop) → Leads (inside m slots_run) w (Err stop) n
+      slots_of_none stop d =
+          leads_same (inside m (initialize_slots ev names initargs (instance_in v))) (inside m slots_run) w (Err stop) n (λ t. ap (λ o. closed (resume m.levels m.context o)) (runs t))
+          (no_instance (initialize_slots ev names initargs) (instance_in v) stop (λ c t. refl) d)
+
+      pub no_slot_names : (i : ℕ) (c : Condition) → instance_in v ≡ Ok i → are_slot_names names ≡ false → c ≡ wrong_type names → Leads (inside m slots_run) w (Err (Refused c)) n
+      no_slot_names i c d b k =
+          leads_refused slots_run c (wrong_type names)
+          (λ t. sym (runs t) ∙ ap (λ x. initialize_slots ev names initargs x (at m w) t) d
+          ∙ ap (λ x. if x then filled_as ev i names initargs (class_in w i) (at m w) t else Stopped (wrong_type names) (at m w) t) b) k
+
+      pub slot_names : (i : ℕ) (r : Result Doing Stop) → instance_in v ≡ Ok i → are_slot_names names ≡ true
+          → Leads (inside m (λ u. filled_as ev i (names_in us) (initargs_in us) (class_in u i) u)) w r n → Leads (inside m slots_run) w r n
+      slot_names i r d b l =
+          leads_same (inside m (λ u. filled_as ev i (names_in us) (initargs_in us) (class_in u i) u)) (inside m slots_run) w r n
+          (λ t. ap (λ o. closed (resume m.levels m.context o))
+          (ap (λ x. filled_as ev i (names_in x) (initargs_in x) (class_in w i) (at m w) t) whole
+          ∙ ap (λ x. if x then filled_as ev i names initargs (class_in w i) (at m w) t else Stopped (wrong_type names) (at m w) t) (sym b)
+          ∙ ap (λ x. initialize_slots ev names initargs x (at m w) t) (sym d) ∙ runs t)) l
