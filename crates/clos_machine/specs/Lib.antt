@@ -2,6 +2,7 @@ pub mod Callee
 pub mod Effective
 pub mod EffectiveCode
 pub mod EffectiveView
+pub mod LocalsCode
 pub mod LocalsView
 pub mod Outcome
 pub mod Fault
@@ -20,5 +21,6 @@ pub mod ParametersView
 pub mod Accessors
 pub mod Calls
 pub mod Functions
+pub mod SlotNames
 pub mod Meaning
 pub mod Machine
