@@ -2,7 +2,7 @@
 ghost use Rattle.std.specs.Prelude.{◌≡◌, ◌∷◌, ◌++◌, [], ℕ, ◌≤◌, length, option_map, OnOk, pos};
 ghost use Rattle.lisp_data.specs.Value.{list, nil};
 ghost use Rattle.lisp_data.specs.ValueView.{value_of};
-ghost use Rattle.clos_world.specs.World.{State, seen, bound_as};
+ghost use Rattle.clos_world.specs.World.{State, seen, held, bound_as};
 ghost use Rattle.clos_machine.specs.Control.{sequence};
 ghost use Rattle.clos_machine.specs.Machine.{Leads, Turns, Grows, Shrinks, at, with_next, inside, loop_of};
 ghost use Rattle.clos_machine.specs.Meaning.{meaning};
@@ -169,7 +169,7 @@ fn bind_one(
     value: Value,
 ) -> Result<Doing, Stop>
     ensures leads { (run : Run)
-        → ((t : ℕ) → in_order (meaning machine.old.room) machine.old.context outer plan forms.now (bound_as ((name, value_of value) ∷ machine.old.locals) (seen world.now)) t ≡ run (at machine.old (seen world.now)) t)
+        → ((t : ℕ) → in_order (meaning machine.old.room) machine.old.context outer plan forms.now (bound_as ((name, held (value_of value)) ∷ machine.old.locals) (seen world.now)) t ≡ run (at machine.old (seen world.now)) t)
         → Leads (inside machine.old run) (seen world.now) result machine.new }
     ensures small { Grows 6 machine.old.levels result machine.new }
 {
@@ -294,7 +294,7 @@ pub fn next_aside(
     value: Value,
 ) -> Result<Doing, Stop>
     ensures leads { (run : Run)
-        → ((t : ℕ) → aside (meaning machine.old.room) machine.old.context outer plan forms.now ((name, value_of value) ∷ locals) (at machine.old (seen world.now)) t ≡ run (at machine.old (seen world.now)) t)
+        → ((t : ℕ) → aside (meaning machine.old.room) machine.old.context outer plan forms.now ((name, held (value_of value)) ∷ locals) (at machine.old (seen world.now)) t ≡ run (at machine.old (seen world.now)) t)
         → Leads (inside machine.old run) (seen world.now) result machine.new }
     ensures small { Grows 6 machine.old.levels result machine.new }
 {

@@ -14,4 +14,6 @@ mod instances;
 #[cfg(test)]
 mod session;
 #[cfg(test)]
+mod slot_names;
+#[cfg(test)]
 mod top;
