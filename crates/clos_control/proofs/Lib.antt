@@ -1,3 +1,4 @@
+pub mod Named
 pub mod Stopping
 pub mod Taken
 pub mod Unset

@@ -1,23 +1,37 @@
 -- Forms whose values are there at once.
-use Rattle.std.proofs.Common.{◌≡◌, ℕ, zero, suc, ◌+◌, ◌-◌, ◌<◌, arith, List, [], ◌∷◌, ◌++◌, Some, Ok, ap, sym, ◌∙◌, add_assoc}
+use Rattle.std.proofs.Common.{◌≡◌, ℕ, zero, suc, ◌+◌, ◌-◌, ◌<◌, arith, List, [], ◌∷◌, ◌++◌, Option, Some, None, Ok, refl, ap, sym, ◌∙◌, add_assoc}
+use Rattle.lisp_data.specs.Name.{Nam}
 use Rattle.lisp_data.specs.Value.{Val}
 use Rattle.clos_forms.specs.Form.{Frm, Frms, cons, operator_in, parts_in}
 use Rattle.clos_forms.specs.Operator as of
 use Rattle.clos_forms.specs.Operator.{Opr}
-use Rattle.clos_world.specs.World.{State}
+use Rattle.clos_world.specs.Globals.{global_value}
+use Rattle.clos_world.specs.World.{State, Denoted, held, in_slot, local_named}
 use Rattle.clos_machine.specs.Machine.{Leads, Turns, Took, at, at_once, inside, resume}
 use Rattle.clos_machine.specs.Meaning.{acted, closed, collect, meaning, operated}
 use Rattle.clos_machine.specs.Outcome.{Eval, Gave, then_do}
-use Rattle.clos_machine.specs.Variables.{variable_value}
+use Rattle.clos_machine.specs.SlotNames.{name_read, place_denoted, slot_place}
+use Rattle.clos_machine.specs.Variables.{found_value, or_global, variable_value}
 use Rattle.clos_machine.specs.declared.arguments.Context.{Context}
 use Rattle.clos_machine.specs.declared.machine.Action.{Action}
 use Rattle.clos_machine.specs.declared.machine.Doing.{Doing}
 use Rattle.clos_machine.specs.declared.machine.Machine.{Machine}
 use Rattle.clos_machine.specs.declared.machine.Task.TheVariants.{Plain}
 
+-- a name with a value of its own stands for no slot
+no_place : (o : Option Denoted) (global : Option Val) (v : Val) → Some v ≡ or_global o global → slot_place o ≡ None
+no_place None global v e = refl
+no_place (Some (held x)) global v e = refl
+no_place (Some (in_slot slot object)) global v e = absurd (cc e)
+
+pub reads_value : (ev : Eval) (env : Context) (name : Nam) (v : Val) (w : State) (t : ℕ) → Some v ≡ found_value w name
+    → name_read ev env name (place_denoted w name) w t ≡ Gave v w t
+reads_value ev env name v w t e =
+    ap (λ o. name_read ev env name o w t) (no_place (local_named w.locals name) (global_value w.globals name) v e) ∙ sym (ap (λ x. variable_value name x w t) e)
+
 gives_at_once : (ev : Eval) (env : Context) (o : Opr) (ps : Frms) (v : Val) (w : State) (t : ℕ) → Some v ≡ at_once w o → operated ev env o ps w t ≡ Gave v w t
 gives_at_once ev env (of.constant u) ps v w t e = cc
-gives_at_once ev env (of.variable name) ps v w t e = sym (ap (λ x. variable_value name x w t) e)
+gives_at_once ev env (of.variable name) ps v w t e = reads_value ev env name v w t e
 gives_at_once ev env of.no_value ps v w t e = cc
 gives_at_once ev env (of.function c) ps v w t e = cc
 gives_at_once ev env of.if_form ps v w t e = cc

@@ -6,7 +6,7 @@ use Rattle.lisp_data.specs.Value as value
 use Rattle.clos_forms.specs.Form.{Frms}
 use Rattle.clos_forms.specs.Operator.{Bound}
 use Rattle.clos_world.specs.Globals.{is_global}
-use Rattle.clos_world.specs.World.{State, Local, bound_as, unbound}
+use Rattle.clos_world.specs.World.{State, held, Local, bound_as, unbound}
 use Rattle.clos_world.specs.declared.condition.Condition.{Condition}
 use Rattle.clos_world.specs.declared.condition.ConditionKind.TheVariants.{Unsupported}
 use Rattle.clos_world.specs.declared.condition.Stop.{Stop}
@@ -30,27 +30,27 @@ module _ (ls : List Level) (c : Context) (ev : Eval) (env : Context) (n : ℕ) (
 
   pub order_skips : (bs : List Bound) (xs : List Local) → skipped (Some (xs, bs)) ≡ skipped (unset w.globals bs xs)
   order_skips [] xs = refl
-  order_skips (b ∷ bs) xs = by b.has_init (is_global w.globals b.name) refl refl (order_skips bs ((b.name, value.list value.nil) ∷ xs))
+  order_skips (b ∷ bs) xs = by b.has_init (is_global w.globals b.name) refl refl (order_skips bs ((b.name, held (value.list value.nil)) ∷ xs))
     where
       first_of : Bool → Out
       first_of h = if h then init_form ev env fs (λ rest v. binding b.name v (in_order ev env n bs rest)) (bound_as xs w) t
           else binding b.name (value.list value.nil) (in_order ev env n bs fs) (bound_as xs w) t
 
       left : Bool → Bool → Option (List Local × List Bound)
-      left h g = if h then Some (xs, b ∷ bs) else if g then None else unset w.globals bs ((b.name, value.list value.nil) ∷ xs)
+      left h g = if h then Some (xs, b ∷ bs) else if g then None else unset w.globals bs ((b.name, held (value.list value.nil)) ∷ xs)
 
       by : (h g : Bool) → h ≡ b.has_init → g ≡ is_global w.globals b.name
-          → skipped (Some ((b.name, value.list value.nil) ∷ xs, bs)) ≡ skipped (unset w.globals bs ((b.name, value.list value.nil) ∷ xs))
+          → skipped (Some ((b.name, held (value.list value.nil)) ∷ xs, bs)) ≡ skipped (unset w.globals bs ((b.name, held (value.list value.nil)) ∷ xs))
           → skipped (Some (xs, b ∷ bs)) ≡ skipped (unset w.globals (b ∷ bs) xs)
       by true g e d r = ap (λ x. skipped (left x (is_global w.globals b.name))) e
       by false true e d r =
           sym (ap (λ x. closed (resume ls c (first_of x))) e)
-          ∙ sym (ap (λ x. closed (resume ls c (if x then stopped Unsupported [] (bound_as xs w) t else in_order ev env n bs fs (bound_as ((b.name, value.list value.nil) ∷ xs) w) t))) d)
+          ∙ sym (ap (λ x. closed (resume ls c (if x then stopped Unsupported [] (bound_as xs w) t else in_order ev env n bs fs (bound_as ((b.name, held (value.list value.nil)) ∷ xs) w) t))) d)
           ∙ stopped_through ls c (record { kind = Unsupported; items = [] }) (bound_as xs w) t
           ∙ ap (λ x. skipped (left false x)) d ∙ ap (λ x. skipped (left x (is_global w.globals b.name))) e
       by false false e d r =
           sym (ap (λ x. closed (resume ls c (first_of x))) e)
-          ∙ sym (ap (λ x. closed (resume ls c (if x then stopped Unsupported [] (bound_as xs w) t else in_order ev env n bs fs (bound_as ((b.name, value.list value.nil) ∷ xs) w) t))) d)
+          ∙ sym (ap (λ x. closed (resume ls c (if x then stopped Unsupported [] (bound_as xs w) t else in_order ev env n bs fs (bound_as ((b.name, held (value.list value.nil)) ∷ xs) w) t))) d)
           ∙ r
           ∙ ap (λ x. skipped (left false x)) d ∙ ap (λ x. skipped (left x (is_global w.globals b.name))) e
 
@@ -69,17 +69,17 @@ module _ (ev : Eval) (env : Context) (n : ℕ) (fs : Frms) (w : State) (t : ℕ)
 
   pub aside_skips : (bs : List Bound) (xs : List Local) → put_aside (xs, bs) ≡ put_aside (unset_aside bs xs)
   aside_skips [] xs = refl
-  aside_skips (b ∷ bs) xs = by b.has_init refl (aside_skips bs ((b.name, value.list value.nil) ∷ xs))
+  aside_skips (b ∷ bs) xs = by b.has_init refl (aside_skips bs ((b.name, held (value.list value.nil)) ∷ xs))
     where
       first_of : Bool → Out
-      first_of h = if h then init_form ev env fs (λ rest v. aside ev env n bs rest ((b.name, v) ∷ xs)) w t
-          else aside ev env n bs fs ((b.name, value.list value.nil) ∷ xs) w t
+      first_of h = if h then init_form ev env fs (λ rest v. aside ev env n bs rest ((b.name, held v) ∷ xs)) w t
+          else aside ev env n bs fs ((b.name, held (value.list value.nil)) ∷ xs) w t
 
       left : Bool → List Local × List Bound
-      left h = if h then (xs, b ∷ bs) else unset_aside bs ((b.name, value.list value.nil) ∷ xs)
+      left h = if h then (xs, b ∷ bs) else unset_aside bs ((b.name, held (value.list value.nil)) ∷ xs)
 
       by : (h : Bool) → h ≡ b.has_init
-          → put_aside ((b.name, value.list value.nil) ∷ xs, bs) ≡ put_aside (unset_aside bs ((b.name, value.list value.nil) ∷ xs))
+          → put_aside ((b.name, held (value.list value.nil)) ∷ xs, bs) ≡ put_aside (unset_aside bs ((b.name, held (value.list value.nil)) ∷ xs))
           → put_aside (xs, b ∷ bs) ≡ put_aside (unset_aside (b ∷ bs) xs)
       by true e r = ap (λ x. put_aside (left x)) e
       by false e r = sym (ap first_of e) ∙ r ∙ ap (λ x. put_aside (left x)) e

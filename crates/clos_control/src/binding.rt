@@ -2,24 +2,25 @@
 ghost use Rattle.std.specs.Prelude.{◌≡◌, ◌∷◌, ◌++◌, [], ℕ, ◌≤◌, length, option_map, OnOk, pos};
 ghost use Rattle.lisp_data.specs.Value.{list, nil};
 ghost use Rattle.lisp_data.specs.ValueView.{value_of};
-ghost use Rattle.clos_world.specs.World.{State, seen, bound_as};
+ghost use Rattle.clos_world.specs.World.{State, seen, held, bound_as};
 ghost use Rattle.clos_machine.specs.Control.{sequence};
 ghost use Rattle.clos_machine.specs.Machine.{Leads, Turns, Grows, Shrinks, at, with_next, inside, loop_of};
 ghost use Rattle.clos_machine.specs.Meaning.{meaning};
 ghost use Rattle.clos_machine.specs.Outcome.{Run, Gave, then_do};
-ghost use Rattle.clos_machine.specs.Variables.{found_value, variable_value, in_order, binding, within, leaving, aside, together, dotimes, repeated, turns, result_value, body_of, counted, with_count};
+ghost use Rattle.clos_machine.specs.Variables.{found_value, in_order, binding, within, leaving, aside, together, dotimes, repeated, turns, result_value, body_of, counted, with_count};
 
 use crate::control::{begin, split};
 use clos_forms::{Bindings, Forms};
 use clos_machine::counter::Counter;
-use clos_machine::locals::{Locals, Plan, bind_unset, put_unset_aside};
+use clos_machine::locals::{Denotation, Locals, Plan, bind_unset, put_unset_aside};
 use clos_machine::machine::{Doing, Frame, Machine, Repetition, Task};
 use clos_machine::truth::nil;
-use clos_world::{ConditionKind, Stop, World, about, about_name, plain};
+use clos_world::{ConditionKind, Stop, World, about, plain};
 use lisp_data::{Name, Value};
 use std::alloc::{AllocError, Global};
 
-/// The value of a variable: of the innermost lexical one of this name, else of the global one.
+/// The value of a variable: of the innermost lexical one of this name, else of the global one. A name that stands for a
+/// slot is none.
 pub fn value_of_variable<'a>(
     machine: &'a Machine,
     world: &'a World,
@@ -28,32 +29,13 @@ pub fn value_of_variable<'a>(
     ensures { option_map (λ v. value_of v.now) result ≡ found_value (at machine.now (seen world.now)) name.now }
 {
     match machine.locals.get(name) {
-        Some(value) => Some(value),
+        Some(Denotation::Held(value)) => Some(value),
+        Some(Denotation::InSlot(_, _)) => None,
         None => world.globals.value(name),
     }
 }
 
-/// A variable gives its value.
-#[tactic(auto, using(clos_machine::proofs::Turns::stopped_through))]
-pub fn variable(
-    alloc: Global,
-    machine: &mut Machine,
-    world: &World,
-    name: &Name,
-) -> Result<Doing, Stop>
-    ensures leads { Leads (inside machine.old (λ w. variable_value name.now (found_value w name.now) w)) (seen world.now) result machine.new }
-    ensures small { Grows 6 machine.old.levels result machine.new }
-{
-    match value_of_variable(machine, world, name) {
-        Some(value) => Ok(Doing::Give(value.copy()?)),
-        None => {
-            let condition = about_name(alloc, ConditionKind::UnboundVariable, name)?;
-            Err(Stop::Refused(condition))
-        }
-    }
-}
-
-/// The forms of a body, within variables that are gone after it.
+/// The forms of a body, within names that are gone after it.
 fn run_within(machine: &mut Machine, outer: usize, forms: &Forms) -> Result<Doing, Stop>
     ensures leads { (run : Run) (w : State)
         → ((t : ℕ) → within (meaning machine.old.room) machine.old.context outer forms.now (list nil) (at machine.old w) t ≡ run (at machine.old w) t)
@@ -187,7 +169,7 @@ fn bind_one(
     value: Value,
 ) -> Result<Doing, Stop>
     ensures leads { (run : Run)
-        → ((t : ℕ) → in_order (meaning machine.old.room) machine.old.context outer plan forms.now (bound_as ((name, value_of value) ∷ machine.old.locals) (seen world.now)) t ≡ run (at machine.old (seen world.now)) t)
+        → ((t : ℕ) → in_order (meaning machine.old.room) machine.old.context outer plan forms.now (bound_as ((name, held (value_of value)) ∷ machine.old.locals) (seen world.now)) t ≡ run (at machine.old (seen world.now)) t)
         → Leads (inside machine.old run) (seen world.now) result machine.new }
     ensures small { Grows 6 machine.old.levels result machine.new }
 {
@@ -283,8 +265,8 @@ fn bind_together(
     run_beside(machine, outer, locals, forms)
 }
 
-/// A body with these variables too.
-fn run_beside(
+/// A body with these names too.
+pub fn run_beside(
     machine: &mut Machine,
     outer: usize,
     locals: Locals,
@@ -312,7 +294,7 @@ pub fn next_aside(
     value: Value,
 ) -> Result<Doing, Stop>
     ensures leads { (run : Run)
-        → ((t : ℕ) → aside (meaning machine.old.room) machine.old.context outer plan forms.now ((name, value_of value) ∷ locals) (at machine.old (seen world.now)) t ≡ run (at machine.old (seen world.now)) t)
+        → ((t : ℕ) → aside (meaning machine.old.room) machine.old.context outer plan forms.now ((name, held (value_of value)) ∷ locals) (at machine.old (seen world.now)) t ≡ run (at machine.old (seen world.now)) t)
         → Leads (inside machine.old run) (seen world.now) result machine.new }
     ensures small { Grows 6 machine.old.levels result machine.new }
 {

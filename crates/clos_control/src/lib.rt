@@ -5,3 +5,4 @@ pub mod arguments;
 pub mod assignment;
 pub mod binding;
 pub mod control;
+pub mod slot_names;

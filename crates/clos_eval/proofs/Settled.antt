@@ -10,7 +10,7 @@ use Rattle.clos_lambda.specs.declared.lambda_list.Keys.{Keys}
 use Rattle.clos_lambda.specs.declared.lambda_list.LambdaList.{LambdaList}
 use Rattle.clos_lambda.specs.declared.lambda_list.Optional.{Optional}
 use Rattle.clos_world.specs.Globals.{is_global}
-use Rattle.clos_world.specs.World.{State, Local, bound_as, unbound}
+use Rattle.clos_world.specs.World.{State, held, Local, bound_as, unbound}
 use Rattle.clos_world.specs.declared.condition.Condition.{Condition}
 use Rattle.clos_world.specs.declared.condition.ConditionKind.TheVariants.{Unsupported}
 use Rattle.clos_world.specs.declared.condition.Stop.{Stop}
@@ -41,15 +41,15 @@ module _ (ls : List Level) (saved : Context) (outer : List Local) (ev : Eval) (e
   settles [] xs = refl
   settles ((n, refused c) ∷ ps) xs = stopped_through ls saved c (bound_as xs w) t
   settles ((n, init f) ∷ ps) xs = refl
-  settles ((n, argument v) ∷ ps) xs = by (is_global w.globals n) refl (settles ps ((n, v) ∷ xs))
+  settles ((n, argument v) ∷ ps) xs = by (is_global w.globals n) refl (settles ps ((n, held v) ∷ xs))
     where
       bound : Bool → Out
-      bound b = if b then stopped Unsupported [] (bound_as xs w) t else parameters_run ev env ps fs (bound_as ((n, v) ∷ xs) w) t
+      bound b = if b then stopped Unsupported [] (bound_as xs w) t else parameters_run ev env ps fs (bound_as ((n, held v) ∷ xs) w) t
 
       left : Bool → Result (List Local × Sources) Condition
-      left b = if b then Err (record { kind = Unsupported; items = [] }) else settled w.globals ps ((n, v) ∷ xs)
+      left b = if b then Err (record { kind = Unsupported; items = [] }) else settled w.globals ps ((n, held v) ∷ xs)
 
-      by : (b : Bool) → b ≡ is_global w.globals n → from (Ok ((n, v) ∷ xs, ps)) ≡ from (settled w.globals ps ((n, v) ∷ xs))
+      by : (b : Bool) → b ≡ is_global w.globals n → from (Ok ((n, held v) ∷ xs, ps)) ≡ from (settled w.globals ps ((n, held v) ∷ xs))
           → from (Ok (xs, (n, argument v) ∷ ps)) ≡ from (settled w.globals ((n, argument v) ∷ ps) xs)
       by true e r =
           sym (ap (λ x. closed (resume ls saved (then_do (bound x) (restoring outer)))) e)
@@ -96,10 +96,10 @@ parameter_stops m saved outer x v ps fs w d e k t =
     ∙ ap (λ c. Stopped c (unbound w) t) (sym k)
 
 pub parameter_bound : (m : Machine) (saved : Context) (outer : List Local) (x : Nam) (v : Val) (ps : Sources) (fs : Frms) (w : State) (r : Result Doing Stop) (p : Machine)
-    → false ≡ is_global w.globals x → Leads (under (record m { locals = (x, v) ∷ m.locals }) saved outer (parameters_run (meaning m.room) m.context ps fs)) w r p
+    → false ≡ is_global w.globals x → Leads (under (record m { locals = (x, held v) ∷ m.locals }) saved outer (parameters_run (meaning m.room) m.context ps fs)) w r p
     → Leads (given_to m (Bind x ps fs saved outer) v) w r p
 parameter_bound m saved outer x v ps fs w r p e h =
-    leads_same (under (record m { locals = (x, v) ∷ m.locals }) saved outer (parameters_run (meaning m.room) m.context ps fs))
+    leads_same (under (record m { locals = (x, held v) ∷ m.locals }) saved outer (parameters_run (meaning m.room) m.context ps fs))
     (given_to m (Bind x ps fs saved outer) v) w r p (λ t. ap (bound_or_not m saved outer x v ps fs w t) e) h
 
 -- a body in a context of its own

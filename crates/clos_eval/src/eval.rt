@@ -7,7 +7,8 @@ ghost use Rattle.clos_world.specs.Values.{last_first};
 ghost use Rattle.clos_world.specs.World.{seen};
 ghost use Rattle.clos_machine.specs.Functions.{called, place_read, place_set};
 ghost use Rattle.clos_machine.specs.Machine.{Answers, Grows, Leads, Shrinks, Takes, Turns, denote, given_to, inside, lift, weight_of};
-ghost use Rattle.clos_machine.specs.Meaning.{acted, begun, body, changed_place, evaluation, meaning, operated};
+ghost use Rattle.clos_machine.specs.Meaning.{acted, begun, body, changed_place, evaluation, meaning, name_changed, operated};
+ghost use Rattle.clos_machine.specs.SlotNames.{name_set, place_denoted};
 ghost use Rattle.clos_machine.specs.declared.machine.Doing.TheVariants.{Start};
 
 use crate::calls::{
@@ -21,9 +22,10 @@ use clos_control::assignment::{
 };
 use clos_control::binding::{
     continue_turn, continue_within, next_aside, next_variable, repeat, start_let,
-    start_let_in_order, start_loop, turn, variable,
+    start_let_in_order, start_loop, turn,
 };
 use clos_control::control::{clause_tested, follow, go_on, keep, next_clause};
+use clos_control::slot_names::{bind_slots, place_denoted, read_name, start_slots};
 use clos_forms::{Form, Forms, Operator};
 use clos_machine::arguments::{Arguments, Context};
 use clos_machine::callee::{Callee, SlotFunction, callee_named};
@@ -69,7 +71,7 @@ fn operate(
 {
     match operator {
         Operator::Constant(value) => Ok(Doing::Give(value.copy()?)),
-        Operator::Variable(name) => variable(alloc, machine, world, name),
+        Operator::Variable(name) => read_name(alloc, machine, world, name),
         Operator::Function(name) => function_named(alloc, machine, world, name),
         Operator::If => go_on(machine, Control::If, parts, nil()),
         Operator::Cond => next_clause(machine, parts),
@@ -99,7 +101,7 @@ fn operate(
         Operator::NoValue => Err(Stop::Refused(plain(alloc, ConditionKind::Unsupported))),
         Operator::Clause => Err(Stop::Refused(plain(alloc, ConditionKind::Unsupported))),
         Operator::Place(_) => Err(Stop::Refused(plain(alloc, ConditionKind::Unsupported))),
-        Operator::WithSlots(_) => Err(Stop::Refused(plain(alloc, ConditionKind::Unsupported))),
+        Operator::WithSlots(_) => start_slots(alloc, machine, form, parts),
         Operator::CallNextMethod => Err(Stop::Refused(plain(alloc, ConditionKind::Unsupported))),
         Operator::NextMethodP => Err(Stop::Refused(plain(alloc, ConditionKind::Unsupported))),
     }
@@ -242,6 +244,59 @@ fn change_by(
     read_place(alloc, machine, world, &read, arguments, steps)
 }
 
+/// A name is set: the place that it stands for, or a variable.
+fn set_name(
+    alloc: Global,
+    machine: &mut Machine,
+    world: &mut World,
+    name: &Name,
+    values: Values,
+    steps: &mut u64,
+) -> Result<Doing, Stop>
+    ensures turns { Turns (inside machine.old (λ w. name_set (meaning machine.old.room) machine.old.context name.now (place_denoted w name.now) values w)) (seen world.old) steps.old result machine.new (seen world.new) steps.new }
+    ensures small { Grows 6 machine.old.levels result machine.new }
+    ensures fewer { steps.new ≤ steps.old }
+{
+    match place_denoted(alloc, machine, name)? {
+        None => store_only(alloc, machine, world, name, &values, steps),
+        Some(mut place) => {
+            place.append(values)?;
+            set_place(alloc, machine, world, &Target::SlotValue, place, steps)
+        }
+    }
+}
+
+/// A name is changed by the amount: the place that it stands for, or a variable.
+fn change_name(
+    alloc: Global,
+    machine: &mut Machine,
+    world: &mut World,
+    primitive: Primitive,
+    name: &Name,
+    values: Values,
+    steps: &mut u64,
+) -> Result<Doing, Stop>
+    ensures turns { Turns (inside machine.old (λ w. name_changed (meaning machine.old.room) machine.old.context primitive name.now (place_denoted w name.now) values w)) (seen world.old) steps.old result machine.new (seen world.new) steps.new }
+    ensures small { Grows 12 machine.old.levels result machine.new }
+    ensures fewer { steps.new ≤ steps.old }
+{
+    match place_denoted(alloc, machine, name)? {
+        None => change_only(alloc, machine, world, primitive, name, &values, steps),
+        Some(mut place) => {
+            place.append(values)?;
+            change_place(
+                alloc,
+                machine,
+                world,
+                primitive,
+                Target::SlotValue,
+                place,
+                steps,
+            )
+        }
+    }
+}
+
 /// An action is done with its values.
 #[tactic(auto, using(clos_machine::proofs::Running::turns_of_leads, crate::proofs::Shrinking::grows_2, crate::proofs::Shrinking::grows_4, crate::proofs::Shrinking::grows_5, crate::proofs::Shrinking::grows_6, crate::proofs::Shrinking::grows_12, crate::proofs::Shrinking::grows_14))]
 fn act(
@@ -259,9 +314,9 @@ fn act(
     match action {
         Action::Call(name) => apply(alloc, machine, world, &name, values, steps),
         Action::Set(target) => set_place(alloc, machine, world, &target, values, steps),
-        Action::Store(name) => store_only(alloc, machine, world, &name, &values, steps),
+        Action::Store(name) => set_name(alloc, machine, world, &name, values, steps),
         Action::Change(primitive, name) => {
-            change_only(alloc, machine, world, primitive, &name, &values, steps)
+            change_name(alloc, machine, world, primitive, &name, values, steps)
         }
         Action::NewValue(target, form) => new_value(machine, target, &form, values),
         Action::Amount(primitive, target, form) => {
@@ -283,6 +338,7 @@ fn act(
             fill_with(alloc, machine, world, filling, value, steps)
         }
         Action::Write(slot) => call_writer(alloc, machine, world, slot, &values, steps),
+        Action::Read(target) => read_place(alloc, machine, world, &target, values, steps),
     }
 }
 
@@ -342,6 +398,7 @@ fn give(
             Ok(Doing::Give(value))
         }
         Frame::Passing => Ok(Doing::Give(value)),
+        Frame::Slots(form, body) => bind_slots(alloc, machine, &form, &body, &value),
     }
 }
 

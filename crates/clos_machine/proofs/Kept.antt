@@ -13,7 +13,7 @@ use Rattle.lisp_prims.specs.declared.primitive.Primitive as of_values
 use Rattle.lisp_prims.specs.declared.primitive.Primitive.TheVariants.{Number}
 use Rattle.clos_forms.specs.Form.{Frm, Frms, nil, cons, parts_in, operator_in}
 use Rattle.clos_forms.specs.Operator as of
-use Rattle.clos_forms.specs.Operator.{Opr, Bound, Plc, variable_place, slot_value_place, call_place}
+use Rattle.clos_forms.specs.Operator.{Opr, Bound, BoundSlot, Plc, variable_place, slot_value_place, call_place}
 use Rattle.clos_forms.specs.Quotation.{name_value}
 use Rattle.clos_world.specs.Definitions.{Same}
 use Rattle.clos_world.specs.FunctionName.{setter_value}
@@ -24,7 +24,7 @@ use Rattle.clos_world.specs.System.{system_number}
 use Rattle.clos_world.specs.declared.system.SystemFunction.{SystemFunction}
 use Rattle.clos_world.specs.declared.system.SystemFunction.TheVariants.{InitializeInstance, ReinitializeInstance, SharedInitialize, SlotUnbound, SlotMissing, NoApplicableMethod}
 use Rattle.clos_world.specs.Values.{only_value, last_first}
-use Rattle.clos_world.specs.World.{State, Local, bound_as, unbound, local_named, names_of, class_of, class_of_instance}
+use Rattle.clos_world.specs.World.{State, Local, bound_as, unbound, local_named, names_of, class_of, class_of_instance, held, lists_of}
 use Rattle.clos_world.specs.declared.condition.Condition.{Condition}
 use Rattle.clos_world.specs.declared.condition.ConditionKind.TheVariants.{DepthLimit, ProgramError}
 use Rattle.clos_world.specs.declared.functions.Function.{Function}
@@ -43,7 +43,7 @@ use Rattle.clos_machine.specs.SystemMethods.{class_in, shared_initialized, initi
 use Rattle.clos_machine.specs.Control.{keeping, sequence, while_true, until_true, branch, followed, going, tested, clause, clauses}
 use Rattle.clos_machine.specs.Effective.{Effective, call_method, progn, prog1}
 use Rattle.clos_machine.specs.Fault.{answered}
-use Rattle.clos_machine.specs.Meaning.{acted, collect, collected, alone, setq, setf, assigned, place_in, with_amount, set_place, changed_from, changed_place, changing, changed_by, other_function, is_plain_function, symbol_function, setter_function, function_value, operated, begun, meaning, closed, evaluation}
+use Rattle.clos_machine.specs.Meaning.{acted, collect, collected, alone, setq, setf, assigned, place_in, with_amount, set_place, changed_from, changed_place, changing, changed_by, other_function, is_plain_function, symbol_function, setter_function, function_value, operated, begun, meaning, closed, evaluation, name_changed}
 use Rattle.clos_machine.specs.Objects.{designated}
 use Rattle.clos_machine.specs.Filling.{are_slot_names, Filler, nothing, initform, filler, filled, filled_with, filled_by, fill, fill_with, is_the_class, slots_left, Subject, subject_of}
 use Rattle.clos_machine.specs.Filling as filler
@@ -62,13 +62,14 @@ use Rattle.clos_world.specs.Class.{effective}
 use Rattle.clos_machine.specs.Outcome.{Out, Gave, Stopped, Run, Eval, then_do, step_then, gave, stopped, is_true}
 use Rattle.clos_machine.specs.Output.{output_of, text_by, written, line_ended}
 use Rattle.clos_machine.specs.Parameters.{Sources, argument, refused, init, are_pairs, fits, required_sources, sources}
-use Rattle.clos_machine.specs.Variables.{Loop, found_value, variable_value, inner, leaving, init_form, within, binding, in_order, together, aside, name_in, counted, body_of, result_value, turns, turns_in, repeated}
+use Rattle.clos_machine.specs.Variables.{Loop, found_value, variable_value, inner, leaving, init_form, within, binding, in_order, together, aside, name_in, counted, body_of, result_value, turns, turns_in, repeated, dotimes}
+use Rattle.clos_machine.specs.SlotNames.{name_read, name_set, place_denoted, slot_locals, within_slots}
 use Rattle.clos_machine.specs.declared.arguments.Context.{Context}
 use Rattle.clos_machine.specs.declared.callee.Callee.{Callee}
 use Rattle.clos_machine.specs.declared.callee.Callee.TheVariants.{Output, Terpri, Primitive, MakeInstance, ClassFunction, SlotFunction, Defined}
 use Rattle.clos_machine.specs.declared.callee.Output as output
 use Rattle.clos_machine.specs.declared.machine.Action.{Action}
-use Rattle.clos_machine.specs.declared.machine.Action.TheVariants.{Call, Set, Store, Change, NewValue, Amount, ChangePlace, Allocate, Fill, FillWith, Write}
+use Rattle.clos_machine.specs.declared.machine.Action.TheVariants.{Call, Set, Store, Change, NewValue, Amount, ChangePlace, Allocate, Fill, FillWith, Write, Read}
 use Rattle.clos_machine.specs.declared.machine.Control.{Control}
 use Rattle.clos_machine.specs.declared.machine.Control.TheVariants.{Progn, Prog1, If, When, Unless, And, Or}
 use Rattle.clos_machine.specs.declared.machine.Task.{Task}
@@ -410,9 +411,9 @@ together_kept ev h env m ls fs w k =
 aside_kept : (ev : Eval) → Keeps ev → (env : Context) (m : ℕ) (bs : List Bound) (fs : Frms) (ls : List Local) (w : State) (k : ℕ) → Kept w (aside ev env m bs fs ls w k)
 aside_kept ev h env m [] fs ls w k = together_kept ev h env m ls fs w k
 aside_kept ev h env m (b ∷ bs) fs ls w k =
-    choice_kept b.has_init w (init_form ev env fs (λ rest v. aside ev env m bs rest ((b.name, v) ∷ ls)) w k) (aside ev env m bs fs ((b.name, none) ∷ ls) w k)
-    (init_kept ev h env fs (λ rest v. aside ev env m bs rest ((b.name, v) ∷ ls)) (λ gs v u j. aside_kept ev h env m bs gs ((b.name, v) ∷ ls) u j) w k)
-    (aside_kept ev h env m bs fs ((b.name, none) ∷ ls) w k)
+    choice_kept b.has_init w (init_form ev env fs (λ rest v. aside ev env m bs rest ((b.name, held v) ∷ ls)) w k) (aside ev env m bs fs ((b.name, held none) ∷ ls) w k)
+    (init_kept ev h env fs (λ rest v. aside ev env m bs rest ((b.name, held v) ∷ ls)) (λ gs v u j. aside_kept ev h env m bs gs ((b.name, held v) ∷ ls) u j) w k)
+    (aside_kept ev h env m bs fs ((b.name, held none) ∷ ls) w k)
 
 result_kept : (ev : Eval) → Keeps ev → (env : Context) (b : Bool) (fs : Frms) (w : State) (k : ℕ) → Kept w (result_value ev env b fs w k)
 result_kept ev h env false fs w k = same w
@@ -498,11 +499,32 @@ amount_kept : (ev : Eval) → Keeps ev → (env : Context) (fs : Frms) (vs : Lis
 amount_kept ev h env nil vs go g w k = g _ w k
 amount_kept ev h env (cons f fs) vs go g w k = collect_kept ev h env (cons f fs) vs go g w k
 
+-- ---- names
+
+name_read_kept : (ev : Eval) → Keeps ev → (env : Context) (name : Nam) (o : Option (List Val)) (w : State) (k : ℕ) → Kept w (name_read ev env name o w k)
+name_read_kept ev h env name None w k = variable_kept name (found_value w name) w k
+name_read_kept ev h env name (Some place) w k = read_kept ev h env target.SlotValue place w k
+
+name_set_kept : (ev : Eval) → Keeps ev → (env : Context) (name : Nam) (o : Option (List Val)) (vs : List Val) (w : State) (k : ℕ) → Kept w (name_set ev env name o vs w k)
+name_set_kept ev h env name None vs w k = stored_only_kept name (only_value vs) w k
+name_set_kept ev h env name (Some place) vs w k = set_kept ev h env target.SlotValue (place ++ vs) w k
+
+name_changed_kept : (ev : Eval) → Keeps ev → (env : Context) (p : of_values.Primitive) (name : Nam) (o : Option (List Val)) (vs : List Val) (w : State) (k : ℕ)
+    → Kept w (name_changed ev env p name o vs w k)
+name_changed_kept ev h env p name None vs w k = changed_kept p name (only_value vs) w k
+name_changed_kept ev h env p name (Some place) vs w k = changed_place_kept ev h env p target.SlotValue (last_first (place ++ vs)) w k
+
+within_slots_kept : (ev : Eval) → Keeps ev → (env : Context) (bs : List BoundSlot) (fs : Frms) (object : Val) (w : State) (k : ℕ)
+    → Kept w (within_slots ev env bs fs object w k)
+within_slots_kept ev h env bs fs object w k = within_kept ev h env (length w.locals) fs none (bound_as (slot_locals bs object ++ w.locals) w) k
+
+-- ---- actions
+
 acted_kept : (ev : Eval) → Keeps ev → (env : Context) (a : Action) (vs : List Val) (w : State) (k : ℕ) → Kept w (acted ev env a vs w k)
 acted_kept ev h env (Call name) vs w k = applied_kept ev h env (callee_of name) name vs w k
 acted_kept ev h env (Set t) vs w k = set_kept ev h env t vs w k
-acted_kept ev h env (Store name) vs w k = stored_only_kept name (only_value vs) w k
-acted_kept ev h env (Change p name) vs w k = changed_kept p name (only_value vs) w k
+acted_kept ev h env (Store name) vs w k = name_set_kept ev h env name (place_denoted w name) vs w k
+acted_kept ev h env (Change p name) vs w k = name_changed_kept ev h env p name (place_denoted w name) vs w k
 acted_kept ev h env (NewValue t f) vs w k =
     collect_kept ev h env (alone f) vs (λ us u j. place_set ev env t us u j) (λ us u j. set_kept ev h env t us u j) w k
 acted_kept ev h env (Amount p t fs) vs w k =
@@ -512,6 +534,7 @@ acted_kept ev h env (Allocate c e) vs w k = allocate_kept ev h env c.0 e vs w k
 acted_kept ev h env (Fill f) vs w k = fill_kept ev h env (subject_of f) (slots_left f) w k
 acted_kept ev h env (FillWith f v) vs w k = fill_with_kept ev h env (subject_of f) (slots_left f) (value_of v) w k
 acted_kept ev h env (Write slot) vs w k = writer_kept ev h env slot vs w k
+acted_kept ev h env (Read t) vs w k = read_kept ev h env t vs w k
 
 collected_kept : (ev : Eval) → Keeps ev → (env : Context) (fs : Frms) (a : Action) (w : State) (k : ℕ) → Kept w (collected ev env fs a w k)
 collected_kept ev h env fs a w k = collect_kept ev h env fs [] (acted ev env a) (λ us u j. acted_kept ev h env a us u j) w k
@@ -569,7 +592,7 @@ value_kept (by_setf name) w k = setter_value_kept name (setter_named w.generics 
 operated_kept : (ev : Eval) → Keeps ev → (env : Context) (o : Opr) (ps : Frms) (w : State) (k : ℕ) → Kept w (operated ev env o ps w k)
 operated_kept ev h env (of.constant v) ps w k = same w
 operated_kept ev h env of.no_value ps w k = same w
-operated_kept ev h env (of.variable name) ps w k = variable_kept name (found_value w name) w k
+operated_kept ev h env (of.variable name) ps w k = name_read_kept ev h env name (place_denoted w name) w k
 operated_kept ev h env (of.function c) ps w k = value_kept c w k
 operated_kept ev h env of.if_form ps w k = going_kept ev h env If ps none w k
 operated_kept ev h env of.cond ps w k = clauses_kept ev h env ps w k
@@ -590,7 +613,8 @@ operated_kept ev h env (of.place p) ps w k = same w
 operated_kept ev h env (of.dotimes n b) ps w k =
     init_kept ev h env ps (λ rest v. repeated ev env (record { outer = length w.locals; name = n; has_result = b; forms = rest }) v)
     (λ gs v u j. repeated_kept ev h env (record { outer = length w.locals; name = n; has_result = b; forms = gs }) v u j) w k
-operated_kept ev h env (of.with_slots bs) ps w k = same w
+operated_kept ev h env (of.with_slots bs) ps w k =
+    init_kept ev h env ps (λ rest object. within_slots ev env bs rest object) (λ gs object u j. within_slots_kept ev h env bs gs object u j) w k
 operated_kept ev h env of.call_next_method ps w k = same w
 operated_kept ev h env of.next_method_p ps w k = same w
 operated_kept ev h env (of.call name) ps w k = collected_kept ev h env ps (Call name) w k

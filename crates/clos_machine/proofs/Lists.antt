@@ -7,9 +7,10 @@ use Rattle.lisp_data.specs.Name.{Nam, same_name}
 use Rattle.lisp_data.specs.Value.{Val}
 use Rattle.lisp_data.specs.ValueView.{value_of}
 use Rattle.lisp_data.specs.declared.value.Value.{Value}
-use Rattle.clos_world.specs.World.{local_named}
+use Rattle.clos_world.specs.World.{Denoted, held, local_named}
 use Rattle.clos_machine.specs.Assignment.{with_local}
-use Rattle.clos_machine.specs.LocalsView.{local_of}
+use Rattle.clos_machine.specs.LocalsView.{denoted_of, local_of}
+use Rattle.clos_machine.specs.declared.locals.Denotation.TheVariants.{Held}
 use Rattle.clos_machine.specs.declared.locals.Local.{Local}
 
 pub as_many : {A B : Type 0} (f : A → B) (xs : List A) → length xs ≡ length (reverse (map f xs))
@@ -22,24 +23,24 @@ pub last_mapped : {A B : Type 0} (f : A → B) (xs : List A) (x : A) (ys : List 
 last_mapped f [] x ys = refl
 last_mapped f (z ∷ xs) x ys = ap (λ l. f z ∷ l) (last_mapped f xs x ys)
 
--- ---- the variables, the innermost first
+-- ---- the lexical names, the innermost first
 
--- past variables of other names
-named_past : (name : Nam) (xs ys : List (Nam × Val)) → local_named xs name ≡ None → local_named (xs ++ ys) name ≡ local_named ys name
+-- past other names
+named_past : (name : Nam) (xs ys : List (Nam × Denoted)) → local_named xs name ≡ None → local_named (xs ++ ys) name ≡ local_named ys name
 named_past name [] ys h = refl
 named_past name (x ∷ xs) ys h =
     elim (same_name x.0 name)
     as (λ b. (if b then Some x.1 else local_named xs name) ≡ None → (if b then Some x.1 else local_named (xs ++ ys) name) ≡ local_named ys name)
     [ true ↦ λ e. absurd (cc e) | false ↦ λ e. named_past name xs ys e ] h
 
-set_past : (name : Nam) (v : Val) (xs ys : List (Nam × Val)) → local_named xs name ≡ None → with_local name v (xs ++ ys) ≡ xs ++ with_local name v ys
+set_past : (name : Nam) (v : Val) (xs ys : List (Nam × Denoted)) → local_named xs name ≡ None → with_local name v (xs ++ ys) ≡ xs ++ with_local name v ys
 set_past name v [] ys h = refl
 set_past name v (x ∷ xs) ys h =
     elim (same_name x.0 name)
-    as (λ b. (if b then Some x.1 else local_named xs name) ≡ None → (if b then (x.0, v) ∷ (xs ++ ys) else x ∷ with_local name v (xs ++ ys)) ≡ x ∷ (xs ++ with_local name v ys))
+    as (λ b. (if b then Some x.1 else local_named xs name) ≡ None → (if b then (x.0, held v) ∷ (xs ++ ys) else x ∷ with_local name v (xs ++ ys)) ≡ x ∷ (xs ++ with_local name v ys))
     [ true ↦ λ e. absurd (cc e) | false ↦ λ e. ap (λ l. x ∷ l) (set_past name v xs ys e) ] h
 
--- the variables round one of them
+-- the names round one of them
 turned_round : (before : List Local) (x : Local) (after : List Local) → reverse (map local_of (before ++ x ∷ after)) ≡ reverse (map local_of after) ++ local_of x ∷ reverse (map local_of before)
 turned_round before x after =
     ap reverse (map-append local_of before (x ∷ after)) ∙ reverse-append (map local_of before) (local_of x ∷ map local_of after)
@@ -50,22 +51,22 @@ other_name : (name : Nam) (x : Local) (after : List Local) → same_name x.name 
     → local_named (reverse (map local_of (x ∷ after))) name ≡ None
 other_name name x after e h =
     ap (λ l. local_named l name) (turned_round [] x after) ∙ named_past name (reverse (map local_of after)) (local_of x ∷ []) h
-    ∙ ap (λ b. if b then Some (value_of x.value) else None) e
+    ∙ ap (λ b. if b then Some (denoted_of x.denotation) else None) e
 
 this_name : (name : Nam) (before : List Local) (x : Local) (after : List Local) → same_name x.name name ≡ true → local_named (reverse (map local_of after)) name ≡ None
     → is_some (local_named (reverse (map local_of (before ++ x ∷ after))) name) ≡ true
 this_name name before x after e h =
     ap is_some (ap (λ l. local_named l name) (turned_round before x after) ∙ named_past name (reverse (map local_of after)) (local_of x ∷ reverse (map local_of before)) h
-    ∙ ap (λ b. if b then Some (value_of x.value) else local_named (reverse (map local_of before)) name) e)
+    ∙ ap (λ b. if b then Some (denoted_of x.denotation) else local_named (reverse (map local_of before)) name) e)
 
 this_set : (name : Nam) (before : List Local) (x : Local) (after : List Local) (value : Value) → same_name x.name name ≡ true → local_named (reverse (map local_of after)) name ≡ None
-    → reverse (map local_of (before ++ (record x { value = value }) ∷ after)) ≡ with_local name (value_of value) (reverse (map local_of (before ++ x ∷ after)))
+    → reverse (map local_of (before ++ (record x { denotation = Held value }) ∷ after)) ≡ with_local name (value_of value) (reverse (map local_of (before ++ x ∷ after)))
 this_set name before x after value e h =
-    turned_round before (record x { value = value }) after
+    turned_round before (record x { denotation = Held value }) after
     ∙ sym (ap (with_local name (value_of value)) (turned_round before x after)
     ∙ set_past name (value_of value) (reverse (map local_of after)) (local_of x ∷ reverse (map local_of before)) h
     ∙ ap (λ l. reverse (map local_of after) ++ l)
-    (ap (λ b. if b then (x.name, value_of value) ∷ reverse (map local_of before) else local_of x ∷ with_local name (value_of value) (reverse (map local_of before))) e))
+    (ap (λ b. if b then (x.name, held (value_of value)) ∷ reverse (map local_of before) else local_of x ∷ with_local name (value_of value) (reverse (map local_of before))) e))
 
 set_split : {A : Type 0} (xs : List A) (i : ℕ) (y : A) → i < length xs → set xs i y ≡ take i xs ++ y ∷ drop (suc i) xs
 set_split [] i y h = absurd (omega (arith, h))
@@ -77,7 +78,7 @@ split_at [] i x h e = absurd (omega (arith, h))
 split_at (y ∷ xs) zero x h e = ap (λ z. z ∷ xs) e
 split_at (y ∷ xs) (suc i) x h e = ap (λ l. y ∷ l) (split_at xs i x (omega (arith, h)) e)
 
--- the variable at a place, where none after it has the name
+-- the one at a place, where none after it has the name
 pub other_at : (name : Nam) (xs : List Local) (i : ℕ) (x : Local) → i < length xs → get_or xs i x ≡ x → same_name x.name name ≡ false
     → local_named (reverse (map local_of (drop (suc i) xs))) name ≡ None → local_named (reverse (map local_of (drop i xs))) name ≡ None
 other_at name xs i x h e n r =
@@ -86,10 +87,10 @@ other_at name xs i x h e n r =
 pub this_at : (name : Nam) (xs : List Local) (i : ℕ) (x : Local) (value : Value) → i < length xs → get_or xs i x ≡ x → same_name x.name name ≡ true
     → local_named (reverse (map local_of (drop (suc i) xs))) name ≡ None
     → (is_some (local_named (reverse (map local_of xs)) name) ≡ true)
-    × (reverse (map local_of (set xs i (record x { value = value }))) ≡ with_local name (value_of value) (reverse (map local_of xs)))
+    × (reverse (map local_of (set xs i (record x { denotation = Held value }))) ≡ with_local name (value_of value) (reverse (map local_of xs)))
 this_at name xs i x value h e n r = (
   ap (λ l. is_some (local_named (reverse (map local_of l)) name)) (split_at xs i x h e) ∙ this_name name (take i xs) x (drop (suc i) xs) n r,
-  ap (λ l. reverse (map local_of l)) (set_split xs i (record x { value = value }) h)
+  ap (λ l. reverse (map local_of l)) (set_split xs i (record x { denotation = Held value }) h)
       ∙ this_set name (take i xs) x (drop (suc i) xs) value n r
       ∙ ap (λ l. with_local name (value_of value) (reverse (map local_of l))) (sym (split_at xs i x h e)),
 )

@@ -10,7 +10,7 @@ use Rattle.lisp_prims.specs.Primitive.{answer, truth}
 use Rattle.lisp_prims.specs.declared.primitive.Primitive as of_values
 use Rattle.clos_forms.specs.Form.{Frm, Frms, nil, cons, operator_in, parts_in}
 use Rattle.clos_forms.specs.Quotation.{name_value}
-use Rattle.clos_forms.specs.Operator.{Bound, Plc, variable_place, slot_value_place, call_place}
+use Rattle.clos_forms.specs.Operator.{Bound, BoundSlot, Plc, variable_place, slot_value_place, call_place}
 use Rattle.clos_world.specs.FunctionName.{setter_value}
 use Rattle.clos_world.specs.Functions.{function_in}
 use Rattle.clos_world.specs.Generic.{function_named, setter_named}
@@ -19,7 +19,7 @@ use Rattle.clos_world.specs.System.{system_number}
 use Rattle.clos_world.specs.declared.system.SystemFunction.{SystemFunction}
 use Rattle.clos_world.specs.declared.system.SystemFunction.TheVariants.{SlotUnbound, SlotMissing, NoApplicableMethod}
 use Rattle.clos_world.specs.Values.{only_value, last_first}
-use Rattle.clos_world.specs.World.{State, Local, unbound, bound_as, local_named, class_of, class_of_instance}
+use Rattle.clos_world.specs.World.{State, Local, unbound, bound_as, local_named, class_of, class_of_instance, held, lists_of}
 use Rattle.clos_world.specs.declared.condition.Condition.{Condition}
 use Rattle.clos_world.specs.declared.condition.ConditionKind.TheVariants.{ProgramError, StepLimit}
 use Rattle.clos_world.specs.declared.functions.Function.{Function}
@@ -33,8 +33,8 @@ use Rattle.clos_machine.specs.Calls.{called_defined, called_setter, called_sette
 use Rattle.clos_machine.specs.GenericCalls.{known, takes, applicable, combination, combined_or, methods_called, unmatched_by, unmatched, called_generic, invoked}
 use Rattle.clos_machine.specs.Control.{keeping, sequence, while_true, until_true, branch, followed, tested, clause, clauses}
 use Rattle.clos_machine.specs.Fault.{answered}
-use Rattle.clos_machine.specs.Machine.{at, below, after, resume, leaves, denote, loop_of, targets}
-use Rattle.clos_machine.specs.Meaning.{acted, collect, collected, alone, with_amount, set_place, changed_from, changed_place, setq, setf, assigned, place_in, meaning, closed}
+use Rattle.clos_machine.specs.Machine.{at, below, after, resume, leaves, denote, loop_of, slot_names, targets}
+use Rattle.clos_machine.specs.Meaning.{acted, collect, collected, alone, with_amount, set_place, changed_from, changed_place, setq, setf, assigned, place_in, meaning, closed, name_changed}
 use Rattle.clos_machine.specs.Objects.{designated}
 use Rattle.clos_machine.specs.Filling.{Filler, nothing, initform, filler, filled_with, filled_by, fill, fill_with, is_the_class, slots_left, Subject, subject_of}
 use Rattle.clos_machine.specs.Filling as filler
@@ -53,19 +53,20 @@ use Rattle.clos_world.specs.Class.{effective}
 use Rattle.clos_machine.specs.Outcome.{Out, Gave, Stopped, Run, then_do, gave, stopped, is_true}
 use Rattle.clos_machine.specs.Output.{output_of, line_ended}
 use Rattle.clos_machine.specs.Parameters.{Sources, argument, refused, init, are_pairs, fits, sources}
+use Rattle.clos_machine.specs.SlotNames.{name_set, place_denoted, slot_locals, within_slots}
 use Rattle.clos_machine.specs.Variables.{Loop, found_value, variable_value, inner, leaving, init_form, within, binding, in_order, together, aside, name_in, counted, result_value, turns, turns_in, repeated}
 use Rattle.clos_machine.specs.declared.arguments.Context.{Context}
 use Rattle.clos_machine.specs.declared.callee.Callee.{Callee}
 use Rattle.clos_machine.specs.declared.callee.Callee.TheVariants.{Output, Terpri, Primitive, MakeInstance, ClassFunction, SlotFunction, Defined}
 use Rattle.clos_machine.specs.declared.callee.Output as output
 use Rattle.clos_machine.specs.declared.machine.Action.{Action}
-use Rattle.clos_machine.specs.declared.machine.Action.TheVariants.{Call, Set, Store, Change, NewValue, Amount, ChangePlace, Allocate, Fill, FillWith, Write}
+use Rattle.clos_machine.specs.declared.machine.Action.TheVariants.{Call, Set, Store, Change, NewValue, Amount, ChangePlace, Allocate, Fill, FillWith, Write, Read}
 use Rattle.clos_machine.specs.declared.machine.Control.{Control}
 use Rattle.clos_machine.specs.declared.machine.Control.TheVariants.{Progn, Prog1, If, When, Unless, And, Or}
 use Rattle.clos_machine.specs.declared.machine.Doing.TheVariants.{Start, Act, Invoke}
 use Rattle.clos_machine.specs.declared.machine.Doing.TheVariants as doing
 use Rattle.clos_machine.specs.declared.machine.Frame.{Frame}
-use Rattle.clos_machine.specs.declared.machine.Frame.TheVariants.{Rest, Keep, Clause, Collect, Body, Bind, Scope, InOrder, Aside, Count, Turn, Setq, Setf, Changed, Default, Filled, Truth, Known, Passing}
+use Rattle.clos_machine.specs.declared.machine.Frame.TheVariants.{Rest, Keep, Clause, Collect, Body, Bind, Scope, InOrder, Aside, Count, Turn, Setq, Setf, Changed, Default, Filled, Truth, Known, Passing, Slots}
 use Rattle.clos_machine.specs.declared.machine.Level.{Level}
 use Rattle.clos_machine.specs.declared.machine.Machine.{Machine}
 use Rattle.clos_machine.specs.declared.machine.Repetition.{Repetition}
@@ -359,13 +360,24 @@ amount_quiet n env p t nil vs w = change_place_quiet n env p t (last_first (vs +
 amount_quiet n env p t (cons f fs) vs w =
     then_quiet n env (Plain f) (λ v. collect (meaning n) env fs (vs ++ v ∷ []) (λ us u k. changed_place (meaning n) env p t (last_first us) u k)) w
 
+-- ---- names
+
+name_set_quiet : (n : ℕ) (env : Context) (name : Nam) (o : Option (List Val)) (vs : List Val) (w : State) → Quiet (name_set (meaning n) env name o vs w 0) w
+name_set_quiet n env name None vs w = stored_only_quiet name (only_value vs) w
+name_set_quiet n env name (Some place) vs w = set_quiet n env target.SlotValue (place ++ vs) w
+
+name_changed_quiet : (n : ℕ) (env : Context) (p : of_values.Primitive) (name : Nam) (o : Option (List Val)) (vs : List Val) (w : State)
+    → Quiet (name_changed (meaning n) env p name o vs w 0) w
+name_changed_quiet n env p name None vs w = changed_quiet p name (only_value vs) w
+name_changed_quiet n env p name (Some place) vs w = change_place_quiet n env p target.SlotValue (last_first (place ++ vs)) w
+
 -- ---- actions
 
 acted_quiet : (n : ℕ) (env : Context) (a : Action) (vs : List Val) (w : State) → Quiet (acted (meaning n) env a vs w 0) w
 acted_quiet n env (Call name) vs w = applied_quiet n env (callee_of name) name vs w
 acted_quiet n env (Set t) vs w = set_quiet n env t vs w
-acted_quiet n env (Store name) vs w = stored_only_quiet name (only_value vs) w
-acted_quiet n env (Change p name) vs w = changed_quiet p name (only_value vs) w
+acted_quiet n env (Store name) vs w = name_set_quiet n env name (place_denoted w name) vs w
+acted_quiet n env (Change p name) vs w = name_changed_quiet n env p name (place_denoted w name) vs w
 acted_quiet n env (NewValue t f) vs w =
     then_quiet n env (Plain f) (λ v. collect (meaning n) env nil (vs ++ v ∷ []) (λ us u k. place_set (meaning n) env t us u k)) w
 acted_quiet n env (Amount p t fs) vs w = amount_quiet n env p t fs vs w
@@ -374,6 +386,7 @@ acted_quiet n env (Allocate c e) vs w = allocate_quiet n env c.0 e vs w
 acted_quiet n env (Fill f) vs w = fill_quiet n env (subject_of f) (slots_left f) w
 acted_quiet n env (FillWith f v) vs w = fill_with_quiet n env (subject_of f) (slots_left f) (value_of v) w
 acted_quiet n env (Write slot) vs w = written_quiet n env slot vs w
+acted_quiet n env (Read t) vs w = read_quiet n env t vs w
 
 collect_quiet : (n : ℕ) (env : Context) (fs : Frms) (vs : List Val) (a : Action) (w : State) → Quiet (collect (meaning n) env fs vs (acted (meaning n) env a) w 0) w
 collect_quiet n env nil vs a w = acted_quiet n env a vs w
@@ -473,9 +486,12 @@ together_quiet n env m ls fs w =
 aside_quiet : (n : ℕ) (env : Context) (m : ℕ) (bs : List Bound) (fs : Frms) (ls : List Local) (w : State) → Quiet (aside (meaning n) env m bs fs ls w 0) w
 aside_quiet n env m [] fs ls w = together_quiet n env m ls fs w
 aside_quiet n env m (b ∷ bs) fs ls w =
-    choice_quiet b.has_init (init_form (meaning n) env fs (λ rest v. aside (meaning n) env m bs rest ((b.name, v) ∷ ls)) w 0) _ w
-    (init_quiet n env fs (λ rest v. aside (meaning n) env m bs rest ((b.name, v) ∷ ls)) w)
-    (aside_quiet n env m bs fs ((b.name, value.list value.nil) ∷ ls) w)
+    choice_quiet b.has_init (init_form (meaning n) env fs (λ rest v. aside (meaning n) env m bs rest ((b.name, held v) ∷ ls)) w 0) _ w
+    (init_quiet n env fs (λ rest v. aside (meaning n) env m bs rest ((b.name, held v) ∷ ls)) w)
+    (aside_quiet n env m bs fs ((b.name, held (value.list value.nil)) ∷ ls) w)
+
+within_slots_quiet : (n : ℕ) (env : Context) (bs : List BoundSlot) (fs : Frms) (object : Val) (w : State) → Quiet (within_slots (meaning n) env bs fs object w 0) w
+within_slots_quiet n env bs fs object w = within_quiet n env (length w.locals) fs (value.list value.nil) (bound_as (slot_locals bs object ++ w.locals) w)
 
 result_quiet : (n : ℕ) (env : Context) (b : Bool) (fs : Frms) (w : State) → Quiet (result_value (meaning n) env b fs w 0) w
 result_quiet n env false fs w = (refl, refl)
@@ -518,7 +534,7 @@ after_quiet n env (Bind name plan body saved locals) v w =
 after_quiet n env (Scope outer rest) v w = within_quiet n env outer rest v w
 after_quiet n env (InOrder outer name plan forms) v w =
     binding_quiet name v (in_order (meaning n) env outer plan forms) w (λ u. order_quiet n env outer plan forms u)
-after_quiet n env (Aside outer locals name plan forms) v w = aside_quiet n env outer plan forms ((name, v) ∷ locals) w
+after_quiet n env (Aside outer locals name plan forms) v w = aside_quiet n env outer plan forms ((name, held v) ∷ locals) w
 after_quiet n env (Count l) v w = repeated_quiet n env (loop_of l) v w
 after_quiet n env (Turn l counter rest) v w = turn_quiet n env (loop_of l) counter.0 counter.1 rest v w
 after_quiet n env (Setq f place rest) v w = setq_quiet n env (drop place (targets (operator_in f))) rest v w
@@ -529,6 +545,7 @@ after_quiet n env (Filled f) v w = fill_with_quiet n env (subject_of f) (slots_l
 after_quiet n env Truth v w = (refl, refl)
 after_quiet n env (Known saved) v w = (refl, refl)
 after_quiet n env Passing v w = (refl, refl)
+after_quiet n env (Slots f rest) v w = within_slots_quiet n env (slot_names (operator_in f)) rest v w
 
 passed_quiet : (n : ℕ) (env : Context) (f : Frame) (o : Out) (w : State) → Quiet o w → Quiet (then_do o (after (meaning n) env f)) w
 passed_quiet n env f o w h = follows_quiet o (after (meaning n) env f) w h (λ v u. after_quiet n env f v u)

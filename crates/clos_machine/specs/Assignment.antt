@@ -6,7 +6,7 @@ use Rattle.lisp_prims.specs.Primitive.{answer}
 use Rattle.lisp_prims.specs.declared.primitive.Primitive.{Primitive}
 use Rattle.clos_forms.specs.Quotation.{name_value}
 use Rattle.clos_world.specs.Globals.{is_global, with_global}
-use Rattle.clos_world.specs.World.{Local, bound_as, local_named}
+use Rattle.clos_world.specs.World.{Local, bound_as, local_named, State, held}
 use Rattle.clos_world.specs.declared.condition.ConditionKind.TheVariants.{ProgramError, UnboundVariable}
 use Rattle.clos_machine.specs.Fault.{answered}
 use Rattle.clos_machine.specs.Outcome.{Gave, Run, then_do, step_then, stopped}
@@ -15,7 +15,7 @@ use Rattle.clos_machine.specs.Variables.{found_value, variable_value}
 -- the innermost variable of this name has this value
 abbrev pub with_local : Nam → Val → List Local → List Local
 with_local name v [] = []
-with_local name v (l ∷ ls) = if same_name l.0 name then (l.0, v) ∷ ls else l ∷ with_local name v ls
+with_local name v (l ∷ ls) = if same_name l.0 name then (l.0, held v) ∷ ls else l ∷ with_local name v ls
 
 abbrev pub global_set : Nam → Val → Run
 global_set name v w s = Gave v (record w { globals = with_global name (Some v) w.globals }) s

@@ -2,6 +2,7 @@ pub mod Callee
 pub mod Effective
 pub mod EffectiveCode
 pub mod EffectiveView
+pub mod LocalsCode
 pub mod LocalsView
 pub mod Outcome
 pub mod Fault
@@ -23,5 +24,6 @@ pub mod Accessors
 pub mod SystemMethods
 pub mod Calls
 pub mod Functions
+pub mod SlotNames
 pub mod Meaning
 pub mod Machine

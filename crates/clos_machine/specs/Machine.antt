@@ -8,9 +8,9 @@ use Rattle.lisp_data.specs.declared.value.Value.{Value}
 use Rattle.lisp_prims.specs.Primitive.{truth}
 use Rattle.clos_forms.specs.Form.{Frm, Frms, operator_in}
 use Rattle.clos_forms.specs.Operator as of
-use Rattle.clos_forms.specs.Operator.{Opr, Bound}
+use Rattle.clos_forms.specs.Operator.{Opr, Bound, BoundSlot}
 use Rattle.clos_world.specs.Globals.{Variables, is_global}
-use Rattle.clos_world.specs.World.{State, Local, bound_as, unbound}
+use Rattle.clos_world.specs.World.{State, held, Local, bound_as, unbound}
 use Rattle.clos_world.specs.declared.condition.Condition.{Condition}
 use Rattle.clos_world.specs.declared.condition.ConditionKind.TheVariants.{Unsupported}
 use Rattle.clos_world.specs.declared.condition.Stop.{Stop}
@@ -23,15 +23,16 @@ use Rattle.clos_machine.specs.Initialization.{default_given}
 use Rattle.clos_machine.specs.Meaning.{acted, changed_from, collect, setq, setf, meaning, closed}
 use Rattle.clos_machine.specs.Outcome.{Out, Gave, Stopped, Run, Eval, then_do, step_then, gave, is_true}
 use Rattle.clos_machine.specs.Parameters.{Sources, argument, refused, init}
+use Rattle.clos_machine.specs.SlotNames.{within_slots}
 use Rattle.clos_machine.specs.Variables.{Loop, found_value, in_order, binding, within, aside, repeated, turns}
 use Rattle.clos_machine.specs.declared.arguments.Context.{Context}
 use Rattle.clos_machine.specs.declared.machine.Action.{Action}
-use Rattle.clos_machine.specs.declared.machine.Action.TheVariants.{Call, Set, Store, Change, NewValue, Amount, ChangePlace, Allocate, Fill, FillWith, Write}
+use Rattle.clos_machine.specs.declared.machine.Action.TheVariants.{Call, Set, Store, Change, NewValue, Amount, ChangePlace, Allocate, Fill, FillWith, Write, Read}
 use Rattle.clos_machine.specs.declared.machine.Doing.{Doing}
 use Rattle.clos_machine.specs.declared.machine.Doing.TheVariants.{Start, Act, Invoke, Give}
 use Rattle.clos_machine.specs.declared.machine.Doing.TheVariants as doing
 use Rattle.clos_machine.specs.declared.machine.Frame.{Frame}
-use Rattle.clos_machine.specs.declared.machine.Frame.TheVariants.{Rest, Keep, Clause, Collect, Body, Bind, Scope, InOrder, Aside, Count, Turn, Setq, Setf, Changed, Default, Filled, Truth, Known, Passing}
+use Rattle.clos_machine.specs.declared.machine.Frame.TheVariants.{Rest, Keep, Clause, Collect, Body, Bind, Scope, InOrder, Aside, Count, Turn, Setq, Setf, Changed, Default, Filled, Truth, Known, Passing, Slots}
 use Rattle.clos_machine.specs.declared.machine.Level.{Level}
 use Rattle.clos_machine.specs.declared.machine.Machine.{Machine}
 use Rattle.clos_machine.specs.declared.machine.Repetition.{Repetition}
@@ -45,6 +46,11 @@ with_next (Some name) bs = (record { name = name; has_init = true }) ∷ bs
 abbrev pub targets : Opr → List Nam
 targets (of.setq names) = names
 targets o = []
+
+-- the names of a with-slots form
+abbrev pub slot_names : Opr → List BoundSlot
+slot_names (of.with_slots bs) = bs
+slot_names o = []
 
 abbrev pub loop_of : Repetition → Loop
 loop_of r = record { outer = r.outer; name = r.name; has_result = r.has_result; forms = r.forms }
@@ -70,6 +76,7 @@ below env (Filled f) = env
 below env Truth = env
 below env (Known saved) = saved
 below env Passing = env
+below env (Slots f rest) = env
 
 -- what a frame does with the value that it waits for
 abbrev pub after : Eval → Context → Frame → Val → Run
@@ -81,7 +88,7 @@ after ev env (Body rest saved locals) = λ v w s. then_do (sequence ev env rest 
 after ev env (Bind name plan body saved locals) = λ v w s. then_do (binding name v (parameters_run ev env plan body) w s) (restoring locals)
 after ev env (Scope outer rest) = λ v. within ev env outer rest v
 after ev env (InOrder outer name plan forms) = λ v. binding name v (in_order ev env outer plan forms)
-after ev env (Aside outer locals name plan forms) = λ v. aside ev env outer plan forms ((name, v) ∷ locals)
+after ev env (Aside outer locals name plan forms) = λ v. aside ev env outer plan forms ((name, held v) ∷ locals)
 after ev env (Count l) = λ v. repeated ev env (loop_of l) v
 after ev env (Turn l counter rest) = λ v w s. then_do (sequence ev env rest v w s) (λ u. turns ev env (loop_of l) counter.0 counter.1)
 after ev env (Setq f place rest) = λ v. setq ev env (drop place (targets (operator_in f))) rest v
@@ -92,6 +99,7 @@ after ev env (Filled f) = λ v. fill_with ev env (subject_of f) (slots_left f) v
 after ev env Truth = λ v. gave (truth (is_true v))
 after ev env (Known saved) = gave
 after ev env Passing = gave
+after ev env (Slots f rest) = λ v. within_slots ev env (slot_names (operator_in f)) rest v
 
 -- what the levels do with an outcome, the top one first
 abbrev pub resume : List Level → Context → Out → Out
@@ -157,7 +165,7 @@ abbrev pub lift : Action → ℕ
 lift (Call name) = 0
 lift (Set t) = 0
 lift (Store name) = 0
-lift (Change p name) = 0
+lift (Change p name) = 5
 lift (NewValue t f) = 0
 lift (Amount p t fs) = 7
 lift (ChangePlace p t) = 5
@@ -165,6 +173,7 @@ lift (Allocate c e) = 0
 lift (Fill f) = 0
 lift (FillWith f v) = 0
 lift (Write slot) = 0
+lift (Read t) = 0
 
 -- What is left to do, which each turn makes smaller: a frame that may lead to an action weighs more, an action yet more.
 abbrev pub weight_of : Frame → ℕ
@@ -187,6 +196,7 @@ weight_of (Filled f) = 4
 weight_of Truth = 2
 weight_of (Known saved) = 2
 weight_of Passing = 2
+weight_of (Slots f rest) = 2
 
 abbrev pub load : List Level → ℕ
 load [] = 0
@@ -237,12 +247,12 @@ Changes change v w s (Err Storage) w' s' = (w' ≡ w) × (s' ≡ s)
 abbrev pub unset : Variables → List Bound → List Local → Option (List Local × List Bound)
 unset gs [] ls = Some (ls, [])
 unset gs (b ∷ bs) ls =
-    if b.has_init then Some (ls, b ∷ bs) else if is_global gs b.name then None else unset gs bs ((b.name, list nil) ∷ ls)
+    if b.has_init then Some (ls, b ∷ bs) else if is_global gs b.name then None else unset gs bs ((b.name, held (list nil)) ∷ ls)
 
 -- the same, where they are only put aside
 abbrev pub unset_aside : List Bound → List Local → List Local × List Bound
 unset_aside [] ls = (ls, [])
-unset_aside (b ∷ bs) ls = if b.has_init then (ls, b ∷ bs) else unset_aside bs ((b.name, list nil) ∷ ls)
+unset_aside (b ∷ bs) ls = if b.has_init then (ls, b ∷ bs) else unset_aside bs ((b.name, held (list nil)) ∷ ls)
 
 -- these are bound, and the next has this name, or one of them may not be
 abbrev pub Skips : Option (List Local × List Bound) → Result (Option Nam) Stop → List Local → List Bound → Type 0
@@ -271,7 +281,7 @@ pub record Took (n : ℕ) (env : Context) (w : State) (fs : Frms) (vs : List Val
 -- the parameters whose values are there, bound up to the next that has an init form
 abbrev pub settled : Variables → Sources → List Local → Result (List Local × Sources) Condition
 settled gs [] ls = Ok (ls, [])
-settled gs ((n, argument v) ∷ ps) ls = if is_global gs n then Err (record { kind = Unsupported; items = [] }) else settled gs ps ((n, v) ∷ ls)
+settled gs ((n, argument v) ∷ ps) ls = if is_global gs n then Err (record { kind = Unsupported; items = [] }) else settled gs ps ((n, held v) ∷ ls)
 settled gs ((n, refused c) ∷ ps) ls = Err c
 settled gs ((n, init f) ∷ ps) ls = Ok (ls, (n, init f) ∷ ps)
 

@@ -21,7 +21,7 @@ use Rattle.clos_world.specs.Values.{only_value, last_first}
 use Rattle.clos_world.specs.World.{State, unbound}
 use Rattle.clos_world.specs.declared.condition.ConditionKind.TheVariants.{ProgramError, UndefinedFunction, Unsupported, DepthLimit}
 use Rattle.clos_machine.specs.Accessors.{written_by}
-use Rattle.clos_machine.specs.Assignment.{stored_only, changed_only}
+use Rattle.clos_machine.specs.Assignment.{changed_only}
 use Rattle.clos_machine.specs.Calls.{combined}
 use Rattle.clos_machine.specs.GenericCalls.{known}
 use Rattle.clos_machine.specs.Control.{going, clauses}
@@ -30,10 +30,11 @@ use Rattle.clos_machine.specs.Filling.{fill, fill_with, slots_left, subject_of}
 use Rattle.clos_machine.specs.Functions.{called, place_read, place_set}
 use Rattle.clos_machine.specs.Initialization.{allocate}
 use Rattle.clos_machine.specs.Outcome.{Out, Gave, Stopped, Run, Eval, then_do, step_then, gave, stopped}
-use Rattle.clos_machine.specs.Variables.{found_value, variable_value, in_order, aside, dotimes}
+use Rattle.clos_machine.specs.SlotNames.{name_read, name_set, place_denoted, with_slots}
+use Rattle.clos_machine.specs.Variables.{in_order, aside, dotimes}
 use Rattle.clos_machine.specs.declared.arguments.Context.{Context}
 use Rattle.clos_machine.specs.declared.machine.Action.{Action}
-use Rattle.clos_machine.specs.declared.machine.Action.TheVariants.{Call, Set, Store, Change, NewValue, Amount, ChangePlace, Allocate, Fill, FillWith, Write}
+use Rattle.clos_machine.specs.declared.machine.Action.TheVariants.{Call, Set, Store, Change, NewValue, Amount, ChangePlace, Allocate, Fill, FillWith, Write, Read}
 use Rattle.clos_machine.specs.declared.machine.Control.TheVariants.{Progn, Prog1, If, When, Unless, And, Or}
 use Rattle.clos_machine.specs.declared.machine.Target.{Target}
 use Rattle.clos_machine.specs.declared.machine.Target.TheVariants as target
@@ -66,12 +67,17 @@ abbrev pub changed_place : Eval → Context → Primitive → Target → List Va
 changed_place ev env p t [] w s = stopped ProgramError [] w s
 changed_place ev env p t (amount ∷ vs) w s = then_do (place_read ev env t vs w s) (λ old. changed_from ev env p t vs amount old)
 
+-- a name that stands for a slot is changed as its place is, another as a variable
+abbrev pub name_changed : Eval → Context → Primitive → Nam → Option (List Val) → List Val → Run
+name_changed ev env p name None vs w s = changed_only p name (only_value vs) w s
+name_changed ev env p name (Some place) vs w s = changed_place ev env p target.SlotValue (last_first (place ++ vs)) w s
+
 -- what is done with the values
 abbrev pub acted : Eval → Context → Action → List Val → Run
 acted ev env (Call name) vs w s = called ev env name vs w s
 acted ev env (Set t) vs w s = place_set ev env t vs w s
-acted ev env (Store name) vs w s = stored_only name (only_value vs) w s
-acted ev env (Change p name) vs w s = changed_only p name (only_value vs) w s
+acted ev env (Store name) vs w s = name_set ev env name (place_denoted w name) vs w s
+acted ev env (Change p name) vs w s = name_changed ev env p name (place_denoted w name) vs w s
 acted ev env (NewValue t f) vs w s = collect ev env (alone f) vs (λ us u k. place_set ev env t us u k) w s
 acted ev env (Amount p t fs) vs w s = with_amount ev env fs vs (λ us u k. changed_place ev env p t (last_first us) u k) w s
 acted ev env (ChangePlace p t) vs w s = changed_place ev env p t (last_first vs) w s
@@ -79,6 +85,7 @@ acted ev env (Allocate c e) vs w s = allocate ev env c.0 e vs w s
 acted ev env (Fill f) vs w s = fill ev env (subject_of f) (slots_left f) w s
 acted ev env (FillWith f v) vs w s = fill_with ev env (subject_of f) (slots_left f) (value_of v) w s
 acted ev env (Write slot) vs w s = written_by ev env slot vs w s
+acted ev env (Read t) vs w s = place_read ev env t vs w s
 
 -- these forms, and then what is done with their values
 abbrev pub collected : Eval → Context → Frms → Action → Run
@@ -146,7 +153,7 @@ function_value (by_setf name) w s = setter_function name (setter_named w.generic
 abbrev pub operated : Eval → Context → Opr → Frms → Run
 operated ev env (of.constant v) ps w s = Gave v w s
 operated ev env of.no_value ps w s = stopped Unsupported [] w s
-operated ev env (of.variable name) ps w s = variable_value name (found_value w name) w s
+operated ev env (of.variable name) ps w s = name_read ev env name (place_denoted w name) w s
 operated ev env (of.function c) ps w s = function_value c w s
 operated ev env of.if_form ps w s = going ev env If ps (list nil) w s
 operated ev env of.cond ps w s = clauses ev env ps w s
@@ -165,7 +172,7 @@ operated ev env of.incf ps w s = changing ev env (Number Sum) ps w s
 operated ev env of.decf ps w s = changing ev env (Number Difference) ps w s
 operated ev env (of.place p) ps w s = stopped Unsupported [] w s
 operated ev env (of.dotimes name has_result) ps w s = dotimes ev env (length w.locals) name has_result ps w s
-operated ev env (of.with_slots bs) ps w s = stopped Unsupported [] w s
+operated ev env (of.with_slots bs) ps w s = with_slots ev env bs ps w s
 operated ev env of.call_next_method ps w s = stopped Unsupported [] w s
 operated ev env of.next_method_p ps w s = stopped Unsupported [] w s
 operated ev env (of.call name) ps w s = collected ev env ps (Call name) w s

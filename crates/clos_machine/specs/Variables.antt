@@ -7,16 +7,17 @@ use Rattle.clos_forms.specs.Form as form
 use Rattle.clos_forms.specs.Operator.{Bound}
 use Rattle.clos_forms.specs.Quotation.{name_value}
 use Rattle.clos_world.specs.Globals.{is_global, global_value, any_global}
-use Rattle.clos_world.specs.World.{State, Local, bound_as, local_named, outermost}
+use Rattle.clos_world.specs.World.{State, Denoted, held, in_slot, Local, bound_as, local_named, outermost}
 use Rattle.clos_world.specs.declared.condition.ConditionKind.TheVariants.{ProgramError, UnboundVariable, TypeError, Unsupported}
 use Rattle.clos_machine.specs.Control.{sequence}
 use Rattle.clos_machine.specs.Outcome.{Gave, Run, Eval, then_do, step_then, stopped}
 use Rattle.clos_machine.specs.declared.arguments.Context.{Context}
 use Rattle.clos_machine.specs.declared.machine.Task.TheVariants.{Plain}
 
--- the innermost lexical variable's value, else the global one's
-abbrev pub or_global : Option Val → Option Val → Option Val
-or_global (Some v) global = Some v
+-- the innermost lexical variable's value, else the global one's; a name that stands for a slot hides both
+abbrev pub or_global : Option Denoted → Option Val → Option Val
+or_global (Some (held v)) global = Some v
+or_global (Some (in_slot slot object)) global = None
 or_global None global = global
 
 abbrev pub found_value : State → Nam → Option Val
@@ -28,17 +29,17 @@ variable_value name (Some v) w s = Gave v w s
 
 -- one more variable, within the others
 abbrev pub inner : Nam → Val → State → State
-inner name v w = bound_as ((name, v) ∷ w.locals) w
+inner name v w = bound_as ((name, held v) ∷ w.locals) w
 
 -- The same, before going on; but a global variable is never bound.
 abbrev pub binding : Nam → Val → Run → Run
 binding name v go w s = if is_global w.globals name then stopped Unsupported [] w s else go (inner name v w) s
 
--- this value, with so many of the outermost variables left
+-- this value, with so many of the outermost names left
 abbrev pub leaving : ℕ → Val → Run
 leaving n v w s = Gave v (bound_as (outermost n w.locals) w) s
 
--- a body within variables of which only so many stay after it
+-- a body within names of which only so many stay after it
 abbrev pub within : Eval → Context → ℕ → Frms → Val → Run
 within ev env n fs v w s = then_do (sequence ev env fs v w s) (leaving n)
 
@@ -69,8 +70,8 @@ together ev env n ls fs w s =
 abbrev pub aside : Eval → Context → ℕ → List Bound → Frms → List Local → Run
 aside ev env n [] fs ls w s = together ev env n ls fs w s
 aside ev env n (b ∷ bs) fs ls w s =
-    if b.has_init then init_form ev env fs (λ rest v. aside ev env n bs rest ((b.name, v) ∷ ls)) w s
-    else aside ev env n bs fs ((b.name, list nil) ∷ ls) w s
+    if b.has_init then init_form ev env fs (λ rest v. aside ev env n bs rest ((b.name, held v) ∷ ls)) w s
+    else aside ev env n bs fs ((b.name, held (list nil)) ∷ ls) w s
 
 -- ---- dotimes
 
@@ -93,7 +94,7 @@ result_value ev env true (form.cons f fs) w s = ev env (Plain f) w s
 
 -- its variable set to the number of turns done
 abbrev pub with_count : Loop → ℤ → List Local → List Local
-with_count l done ls = (l.name, integer done) ∷ outermost l.outer ls
+with_count l done ls = (l.name, held (integer done)) ∷ outermost l.outer ls
 
 abbrev pub counted : Loop → ℤ → State → State
 counted l done w = bound_as (with_count l done w.locals) w

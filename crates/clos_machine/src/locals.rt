@@ -1,30 +1,41 @@
-//! The lexical variables of the body that runs (HyperSpec 3.1.2.1.1).
+//! The lexical names of the body that runs: variables (HyperSpec 3.1.2.1.1), and names that stand for slots (7.7).
 ghost use Rattle.std.specs.Prelude.{◌≡◌, ◌∷◌, ◌++◌, [], IfOk, OnOk, MatchOption, map, option_map, length, is_some, true, false};
 ghost use Rattle.lisp_data.specs.ValueView.{value_of};
-ghost use Rattle.clos_forms.specs.BoundView.{bound};
+ghost use Rattle.clos_forms.specs.BoundView.{bound, bound_slot};
 ghost use Rattle.clos_world.specs.Globals.{any_global};
-ghost use Rattle.clos_world.specs.World.{seen, local_named, outermost};
+ghost use Rattle.clos_world.specs.World.{seen, held, in_slot, local_named, outermost};
 ghost use Rattle.clos_machine.specs.Assignment.{with_local};
+ghost use Rattle.clos_machine.specs.LocalsView.{denoted_of};
 ghost use Rattle.clos_machine.specs.Machine.{Binds, Settles, Skips, settled, unset, unset_aside, with_next};
 ghost use Rattle.clos_machine.specs.Parameters.{required_sources};
+ghost use Rattle.clos_machine.specs.SlotNames.{slot_locals};
 ghost use Rattle.clos_machine.specs.Variables.{name_in};
 
 use crate::parameters::{Origin, Parameter, ParameterPlan};
 use crate::truth::nil;
-use clos_forms::{Binding, Form};
+use clos_forms::{Binding, Form, SlotBinding};
 use clos_world::{ConditionKind, Stop, World, plain};
 use lisp_data::{Name, Value};
 use std::alloc::{AllocError, Global};
 use std::marker::Model;
 
-/// A variable and its value.
+/// What a lexical name denotes.
+#[derive(Drop)]
+pub enum Denotation {
+    /// A variable that holds this value.
+    Held(Value),
+    /// The slot of this name of this object.
+    InSlot(Name, Value),
+}
+
+/// A lexical name, and what it denotes.
 #[derive(Drop)]
 pub struct Local {
     pub name: Name,
-    pub value: Value,
+    pub denotation: Denotation,
 }
 
-/// The variables in scope. Contracts see the list, the innermost first.
+/// The lexical names in scope. Contracts see the list, the innermost first.
 #[derive(Drop)]
 pub struct Locals {
     locals: Vec<Local>,
@@ -32,15 +43,12 @@ pub struct Locals {
 
 impl Model for Locals {
     ghost use Rattle.std.specs.Prelude.{List, map, reverse};
-    ghost use Rattle.std.specs.Coded.{coded_list, coded×};
-    ghost use Rattle.lisp_data.specs.Name.{Nam};
-    ghost use Rattle.lisp_data.specs.NameCode.{name_code};
-    ghost use Rattle.lisp_data.specs.Value.{Val};
-    ghost use Rattle.lisp_data.specs.ValueCode.{value_code};
+    ghost use Rattle.clos_world.specs.World as world;
+    ghost use Rattle.clos_machine.specs.LocalsCode.{locals_code};
 
-    ghost Value = { List (Nam × Val) };
+    ghost Value = { List world.Local };
 
-    ghost coded = { coded_list (coded× name_code value_code) };
+    ghost coded = { locals_code };
 
     ghost use Rattle.clos_machine.specs.LocalsView.{local_of};
 
@@ -48,7 +56,7 @@ impl Model for Locals {
 }
 
 impl Locals {
-    /// No variables.
+    /// No names.
     pub fn new(alloc: Global) -> Locals
         ensures { result ≡ [] }
     {
@@ -59,9 +67,19 @@ impl Locals {
 
     /// One more variable, within the others.
     pub fn push(&mut self, name: Name, value: Value) -> Result<(), AllocError>
-        ensures { OnOk result (self.new ≡ (name, value_of value) ∷ self.old) }
+        ensures { OnOk result (self.new ≡ (name, held (value_of value)) ∷ self.old) }
     {
-        self.locals.push(Local { name, value })?;
+        let denotation = Denotation::Held(value);
+        self.locals.push(Local { name, denotation })?;
+        Ok(())
+    }
+
+    /// One more name, within the others, which stands for the slot of this name of the object.
+    fn push_slot(&mut self, name: Name, slot: Name, object: Value) -> Result<(), AllocError>
+        ensures { OnOk result (self.new ≡ (name, in_slot slot (value_of object)) ∷ self.old) }
+    {
+        let denotation = Denotation::InSlot(slot, object);
+        self.locals.push(Local { name, denotation })?;
         Ok(())
     }
 
@@ -81,22 +99,22 @@ impl Locals {
         self.locals.truncate(outer);
     }
 
-    /// The value of the innermost variable of this name.
-    pub fn get(&self, name: &Name) -> Option<&Value>
-        ensures { option_map (λ v. value_of v.now) result ≡ local_named self.now name.now }
+    /// What the innermost of this name denotes.
+    pub fn get(&self, name: &Name) -> Option<&Denotation>
+        ensures { option_map (λ d. denoted_of d.now) result ≡ local_named self.now name.now }
     {
         let locals = self.locals.as_slice();
         let mut place = locals.len();
         while place > 0 {
             place -= 1;
             if locals[place].name.is(name) {
-                return Some(&locals[place].value);
+                return Some(&locals[place].denotation);
             }
         }
         None
     }
 
-    /// Gives the innermost variable of this name this value; where there is none, the value comes back.
+    /// Makes the innermost of this name hold this value; where there is none, the value comes back.
     pub fn set(&mut self, name: &Name, value: Value) -> Option<Value>
         ensures { MatchOption result
             ((is_some (local_named self.old name.now) ≡ true) × (self.new ≡ with_local name.now (value_of value) self.old))
@@ -106,14 +124,14 @@ impl Locals {
         while place > 0 {
             place -= 1;
             if self.locals[place].name.is(name) {
-                self.locals[place].value = value;
+                self.locals[place].denotation = Denotation::Held(value);
                 return None;
             }
         }
         Some(value)
     }
 
-    /// Whether one of the variables has the name of a global one.
+    /// Whether one of them is the name of a global variable.
     pub fn any_global(&self, world: &World) -> bool
         ensures { result ≡ any_global (seen world.now).globals (map name_in self.now) }
     {
@@ -135,6 +153,26 @@ impl Locals {
         self.locals.append(&mut more.locals)?;
         Ok(())
     }
+}
+
+/// The names of a `with-slots` form, which stand for the slots of this object.
+#[tactic(auto, using(crate::proofs::Lists::last_mapped))]
+pub fn slots_of(
+    alloc: Global,
+    bindings: &[SlotBinding],
+    object: &Value,
+) -> Result<Locals, AllocError>
+    ensures { IfOk result (λ r. r ≡ slot_locals (map bound_slot bindings.now) (value_of object.now)) }
+{
+    let mut locals = Locals::new(alloc);
+    let mut rest = bindings;
+    while let Some((last, before)) = rest.split_last() {
+        let variable = last.variable.copy()?;
+        let slot = last.slot.copy()?;
+        locals.push_slot(variable, slot, object.copy()?)?;
+        rest = before;
+    }
+    Ok(locals)
 }
 
 /// These names bound to the values in turn, unless one of them is a global variable's.

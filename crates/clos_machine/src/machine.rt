@@ -67,6 +67,8 @@ pub enum Action {
     FillWith(Filling, Value),
     /// They are a new value and an instance, whose slot of this name gets it.
     Write(Name),
+    /// They are the arguments of a place, which is read.
+    Read(Target),
 }
 
 /// A loop of `dotimes`: how many variables are outside it, its own, whether it has a result form, and that form, where
@@ -156,6 +158,8 @@ pub enum Frame {
     Known(Context),
     /// Nothing.
     Passing,
+    /// It is the object for whose slots the names of this `with-slots` form stand, before these forms.
+    Slots(Form, Forms),
 }
 
 /// A frame, and the room for depth of what it waits for.

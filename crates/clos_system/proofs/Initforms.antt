@@ -9,7 +9,7 @@ use Rattle.clos_syntax.specs.declared.class.ClassDefinition.{ClassDefinition}
 use Rattle.clos_world.specs.World.{State, unbound}
 use Rattle.clos_world.specs.declared.condition.Stop.{Stop}
 use Rattle.clos_world.specs.declared.condition.Stop.TheVariants.{Refused, Storage}
-use Rattle.clos_machine.specs.Calls.{known}
+use Rattle.clos_machine.specs.GenericCalls.{known}
 use Rattle.clos_machine.specs.Machine.{Answers, Takes, leaves}
 use Rattle.clos_machine.specs.Meaning.{evaluation}
 use Rattle.clos_machine.specs.Outcome.{Out, Gave, Stopped, Run, then_do}

@@ -79,7 +79,7 @@ serves of.incf = true
 serves of.decf = true
 serves (of.place p) = true
 serves (of.dotimes n b) = true
-serves (of.with_slots bs) = false
+serves (of.with_slots bs) = true
 serves of.call_next_method = false
 serves of.next_method_p = false
 

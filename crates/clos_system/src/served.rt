@@ -346,7 +346,7 @@ fn serves(operator: &Operator) -> bool
         Operator::Decf => true,
         Operator::Place(_) => true,
         Operator::Dotimes(_, _) => true,
-        Operator::WithSlots(_) => false,
+        Operator::WithSlots(_) => true,
         Operator::CallNextMethod => false,
         Operator::NextMethodP => false,
     }

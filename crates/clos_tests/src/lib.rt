@@ -16,6 +16,8 @@ mod session;
 #[cfg(test)]
 mod shared_slots;
 #[cfg(test)]
+mod slot_names;
+#[cfg(test)]
 mod system_functions;
 #[cfg(test)]
 mod top;

@@ -48,7 +48,7 @@ const ORDERS: &str =
 const UNSUPPORTED: &str = "; 28 (UNSUPPORTED)~";
 
 const NOT_SERVED: &str = "(defvar x (princ (change-class 1 'a)))
-(with-slots (a) (princ 1) a)
+(with-slots (a) (princ 1) (change-class a 'b))
 (f (princ 1) (change-class 1 'a))
 (progn (princ 1) (cond (nil (incf (slot-value (change-class 1 'a) 'b)))))
 (progn (princ 1) (setf (slot-value (make-instance 'a) 'b) (change-class 1 'a)))

@@ -16,9 +16,14 @@ use Rattle.clos_store.specs.Store.{Contents}
 use Rattle.clos_store.specs.Store as store
 use Rattle.clos_world.specs.Class.{precedence_or_none, class_name}
 
--- a lexical variable and its value (3.1.2.1.1)
+-- what a lexical name denotes: a variable that holds a value (3.1.2.1.1), or the slot of this name of an object (7.7 with-slots)
+pub data Denoted : Type 0 where
+  held : Val → Denoted
+  in_slot : Nam → Val → Denoted
+
+-- a lexical name, and what it denotes
 abbrev pub Local : Type 0
-Local = Nam × Val
+Local = Nam × Denoted
 
 pub record State : Type 0 where
   pub classes : Table
@@ -30,7 +35,7 @@ pub record State : Type 0 where
   pub store : Contents  -- the instances, and the cells of shared slots
   pub written : List ℕ
   pub limits : Limits
-  pub locals : List Local  -- the variables of the body that runs, the innermost first; between forms none
+  pub locals : List Local  -- the lexical names of the body that runs, the innermost first; between forms none
 
 -- a session's tables as lists
 abbrev pub seen : World → State
@@ -47,7 +52,7 @@ seen w = record {
   locals = [];
 }
 
--- the same, with these variables
+-- the same, with these lexical names
 abbrev pub bound_as : List Local → State → State
 bound_as locals w = record w { locals = locals }
 
@@ -55,12 +60,12 @@ bound_as locals w = record w { locals = locals }
 abbrev pub unbound : State → State
 unbound w = bound_as [] w
 
--- the value of the innermost variable of this name
-abbrev pub local_named : List Local → Nam → Option Val
+-- what the innermost of this name denotes
+abbrev pub local_named : List Local → Nam → Option Denoted
 local_named [] name = None
 local_named (l ∷ ls) name = if same_name l.0 name then Some l.1 else local_named ls name
 
--- so many of the outermost variables
+-- so many of the outermost
 abbrev pub outermost : ℕ → List Local → List Local
 outermost n ls = reverse (take n (reverse ls))
 

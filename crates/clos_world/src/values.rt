@@ -100,6 +100,14 @@ impl Values {
         Ok(Values { values })
     }
 
+    /// These too, after the others.
+    pub fn append(&mut self, mut more: Values) -> Result<(), AllocError>
+        ensures { OnOk result (self.new ≡ self.old ++ more) }
+    {
+        self.values.append(&mut more.values)?;
+        Ok(())
+    }
+
     /// Takes off the first value.
     pub fn take_first(&mut self) -> Option<Value>
         ensures { MatchOption result (self.old ≡ []) (λ v. self.old ≡ value_of v ∷ self.new) }

@@ -3,7 +3,7 @@ use Rattle.lisp_data.specs.ValueView.{value_of}
 use Rattle.clos_world.specs.World.{seen}
 use Rattle.clos_machine.specs.Machine.{Leads, given_to, after}
 use Rattle.clos_machine.specs.Meaning.{meaning}
-use Rattle.clos_machine.specs.declared.machine.Frame.TheVariants.{Rest, Keep, Clause, Collect, Scope, InOrder, Aside, Count, Turn, Setq, Setf}
+use Rattle.clos_machine.specs.declared.machine.Frame.TheVariants.{Rest, Keep, Clause, Collect, Scope, InOrder, Aside, Count, Turn, Setq, Setf, Slots}
 use Rattle.clos_eval.proofs.eval.give.Goals as goal
 
 pub returns-in-Rest-clause-leads : goal.returns-in-Rest-clause-leads
@@ -70,3 +70,8 @@ pub returns-in-Default-clause-leads : goal.returns-in-Default-clause-leads
 returns-in-Default-clause-leads c =
     subst (λ f. Leads (given_to c.args.machine.now f (value_of c.args.value)) (seen c.args.world.now) c.next_default.result c.next_default.new.machine) (sym c.in-Default.is)
     (c.next_default.ensures.leads (seen c.args.world.now))
+
+pub returns-in-Slots-clause-leads : goal.returns-in-Slots-clause-leads
+returns-in-Slots-clause-leads c =
+    subst (λ f. Leads (given_to c.args.machine.now f (value_of c.args.value)) (seen c.args.world.now) c.bind_slots.result c.bind_slots.new.machine) (sym c.in-Slots.is)
+    (c.bind_slots.ensures.leads (λ u k. after (meaning c.args.machine.now.room) c.args.machine.now.context (Slots c.in-Slots.form c.in-Slots.body) (value_of c.args.value) u k) (seen c.args.world.now) (λ t. refl))

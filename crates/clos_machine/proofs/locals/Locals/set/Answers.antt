@@ -4,6 +4,7 @@ use Rattle.lisp_data.specs.ValueView.{value_of}
 use Rattle.clos_machine.specs.Assignment.{with_local}
 use Rattle.clos_world.specs.World.{local_named}
 use Rattle.clos_machine.specs.LocalsView.{local_of}
+use Rattle.clos_machine.specs.declared.locals.Denotation.TheVariants.{Held}
 use Rattle.clos_machine.specs.declared.locals.Local.{Local}
 use Rattle.clos_machine.proofs.Lists.{other_at, this_at, same_at}
 use Rattle.clos_machine.proofs.locals.Locals.set.Goals as goal
@@ -33,7 +34,7 @@ returns-then-is c =
     ap (λ l. same_name l.name c.args.name.now) (same_at items place c.index_mut.result.now c.index.result.now within there at)
     ∙ sym c.is.ensures.test ∙ c.if-is.true in
     subst (λ ls. (is_some (local_named ls c.args.name.now) ≡ true)
-    × (reverse (map local_of (set items place (record c.index_mut.result.now { value = c.args.value }))) ≡ with_local c.args.name.now (value_of c.args.value) ls))
+    × (reverse (map local_of (set items place (record c.index_mut.result.now { denotation = Held c.args.value }))) ≡ with_local c.args.name.now (value_of c.args.value) ls))
     (ap (λ s. reverse (map local_of s.locals.items)) c.loop-place.invariant.0 ∙ c.self.view_is)
     (this_at c.args.name.now items place c.index_mut.result.now c.args.value within there named
     (subst (λ i. local_named (reverse (map local_of (drop i items))) c.args.name.now ≡ None) next c.loop-place.invariant.2))

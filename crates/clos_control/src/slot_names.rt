@@ -1,0 +1,127 @@
+//! Names that stand for the slots of an object (HyperSpec 7.7 `with-slots`), and names in general.
+ghost use Rattle.std.specs.Prelude.{◌≡◌, ◌∷◌, [], ℕ, IfOk, map, None};
+ghost use Rattle.lisp_data.specs.ValueView.{value_of};
+ghost use Rattle.clos_forms.specs.BoundView.{bound_slot};
+ghost use Rattle.clos_forms.specs.Form.{operator_in};
+ghost use Rattle.clos_forms.specs.Quotation.{name_value};
+ghost use Rattle.clos_world.specs.World.{State, seen};
+ghost use Rattle.clos_machine.specs.Machine.{Grows, Leads, at, inside, slot_names};
+ghost use Rattle.clos_machine.specs.Meaning.{meaning};
+ghost use Rattle.clos_machine.specs.Outcome.{Run};
+ghost use Rattle.clos_machine.specs.SlotNames.{name_read, place_denoted, with_slots, within_slots};
+ghost use Rattle.clos_machine.specs.Variables.{found_value};
+
+use crate::binding::{run_beside, value_of_variable};
+use crate::control::{begin, split};
+use clos_forms::{Form, Forms, Operator, SlotBinding, value_named};
+use clos_machine::locals::{Denotation, slots_of};
+use clos_machine::machine::{Action, Doing, Frame, Machine, Target, Task};
+use clos_world::{ConditionKind, Stop, Values, World, about_name, plain};
+use lisp_data::{Name, Value};
+use std::alloc::{AllocError, Global};
+
+/// The arguments of the place that a name stands for, the object and the slot's name, where it does not name a variable.
+pub fn place_denoted(
+    alloc: Global,
+    machine: &Machine,
+    name: &Name,
+) -> Result<Option<Values>, AllocError>
+    ensures { (w : State) → IfOk result (λ r. r ≡ place_denoted (at machine.now w) name.now) }
+{
+    match machine.locals.get(name) {
+        Some(Denotation::InSlot(slot, object)) => Ok(Some(slot_place(alloc, slot, object)?)),
+        Some(Denotation::Held(_)) => Ok(None),
+        None => Ok(None),
+    }
+}
+
+fn slot_place(alloc: Global, slot: &Name, object: &Value) -> Result<Values, AllocError>
+    ensures { IfOk result (λ r. r ≡ value_of object.now ∷ name_value slot.now ∷ []) }
+{
+    let mut place = Values::new(alloc);
+    place.push(object.copy()?)?;
+    place.push(value_named(slot)?)?;
+    Ok(place)
+}
+
+/// A name is read.
+pub fn read_name(
+    alloc: Global,
+    machine: &mut Machine,
+    world: &World,
+    name: &Name,
+) -> Result<Doing, Stop>
+    ensures leads { Leads (inside machine.old (λ w. name_read (meaning machine.old.room) machine.old.context name.now (place_denoted w name.now) w)) (seen world.now) result machine.new }
+    ensures small { Grows 9 machine.old.levels result machine.new }
+{
+    match value_of_variable(machine, world, name) {
+        Some(value) => Ok(Doing::Give(value.copy()?)),
+        None => read_place(alloc, machine, name),
+    }
+}
+
+/// A name that is no variable with a value is read.
+#[tactic(auto, using(clos_machine::proofs::Turns::stopped_through))]
+fn read_place(alloc: Global, machine: &mut Machine, name: &Name) -> Result<Doing, Stop>
+    ensures leads { (w : State) → None ≡ found_value (at machine.old w) name.now
+        → Leads (inside machine.old (λ w. name_read (meaning machine.old.room) machine.old.context name.now (place_denoted w name.now) w)) w result machine.new }
+    ensures small { Grows 9 machine.old.levels result machine.new }
+{
+    match place_denoted(alloc, machine, name)? {
+        Some(place) => Ok(Doing::Act(Action::Read(Target::SlotValue), place)),
+        None => {
+            let condition = about_name(alloc, ConditionKind::UnboundVariable, name)?;
+            Err(Stop::Refused(condition))
+        }
+    }
+}
+
+/// A `with-slots` form begins with that of the object.
+#[tactic(auto, using(clos_machine::proofs::Turns::stopped_through))]
+pub fn start_slots(
+    alloc: Global,
+    machine: &mut Machine,
+    form: &Form,
+    parts: &Forms,
+) -> Result<Doing, Stop>
+    ensures leads { (run : Run) (w : State)
+        → ((t : ℕ) → with_slots (meaning machine.old.room) machine.old.context (slot_names (operator_in form.now)) parts.now (at machine.old w) t ≡ run (at machine.old w) t)
+        → Leads (inside machine.old run) w result machine.new }
+    ensures small { Grows 6 machine.old.levels result machine.new }
+{
+    match split(parts)? {
+        None => Err(Stop::Refused(plain(alloc, ConditionKind::ProgramError))),
+        Some((object, rest)) => {
+            let frame = Frame::Slots(form.copy()?, rest);
+            begin(machine, Task::Plain(object), frame)
+        }
+    }
+}
+
+/// The names of a `with-slots` form.
+fn slot_bindings(form: &Form) -> &[SlotBinding]
+    ensures { map bound_slot result.now ≡ slot_names (operator_in form.now) }
+{
+    match form.operator() {
+        Operator::WithSlots(bindings) => bindings.as_slice(),
+        _ => &[],
+    }
+}
+
+/// The object is there, for whose slots the names of this `with-slots` form stand in its body.
+pub fn bind_slots(
+    alloc: Global,
+    machine: &mut Machine,
+    form: &Form,
+    body: &Forms,
+    object: &Value,
+) -> Result<Doing, Stop>
+    ensures leads { (run : Run) (w : State)
+        → ((t : ℕ) → within_slots (meaning machine.old.room) machine.old.context (slot_names (operator_in form.now)) body.now (value_of object.now) (at machine.old w) t ≡ run (at machine.old w) t)
+        → Leads (inside machine.old run) w result machine.new }
+    ensures small { Grows 6 machine.old.levels result machine.new }
+{
+    let outer = machine.locals.len();
+    let locals = slots_of(alloc, slot_bindings(form), object)?;
+    run_beside(machine, outer, locals, body)
+}
