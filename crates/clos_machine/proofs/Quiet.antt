@@ -1,5 +1,5 @@
 -- With no step left nothing changes.
-use Rattle.std.proofs.Common.{◌≡◌, ℕ, zero, suc, drop, List, [], ◌∷◌, ◌++◌, map, Option, Some, None, Result, Ok, Err, Bool, true, false, slice_get, refl, sym, subst}
+use Rattle.std.proofs.Common.{length, ◌≡◌, ℕ, zero, suc, drop, List, [], ◌∷◌, ◌++◌, map, Option, Some, None, Result, Ok, Err, Bool, true, false, slice_get, refl, sym, subst}
 use Rattle.std.specs.Prelude.{codes, pos, is_some, if◌then◌else◌}
 use Rattle.lisp_data.specs.Name.{Nam}
 use Rattle.lisp_data.specs.Value.{Val}
