@@ -27,7 +27,8 @@ const BODIES: &str =
 (with-slots (x) *i* (princ (list x (if x x 0) (+ x x)))) => (1 1 2)
 (let ((v 2)) (with-slots (x) *i* (setq v x x 6)) (princ v)) (princ (slot-value *i* 'x)) => 16";
 
-const ASSIGNMENTS: &str = "(with-slots (x) *i* (princ (incf x)) (princ (decf x 5)) (princ x)) => 2-3-3
+const ASSIGNMENTS: &str =
+    "(with-slots (x) *i* (princ (incf x)) (princ (decf x 5)) (princ x)) => 2-3-3
 (with-slots (x y) *i* (princ (setf x 4 y (+ x 1))) (princ (list x y))) => 5(4 5)
 (with-slots (x y) *i* (princ (setq y x x 3)) (princ (list x y))) => 3(3 1)
 (with-slots (x) *i* (setq x (+ x x)) (princ x)) => 2
@@ -50,7 +51,8 @@ const CONDITIONS: &str = "(with-slots (x) 5 (princ 1)) => 1
 (with-slots (x) *i* (incf x 'n)) => ; 4 (TYPE-ERROR N)~
 (with-slots (x) *i* (setq x 'm) (incf x 'n)) => ; 4 (TYPE-ERROR M)~";
 
-const LIMITED: &str = "steps 9: (defclass a () ((x :initform 1))) (with-slots (x) (make-instance 'a) x)
+const LIMITED: &str =
+    "steps 9: (defclass a () ((x :initform 1))) (with-slots (x) (make-instance 'a) x)
 steps 8: (defclass a () ((x :initform 1))) (with-slots (x) (make-instance 'a) x) => ; 29 (STEP-LIMIT)~
 steps 11: (defclass a () ((x :initform 1))) (with-slots (x) (make-instance 'a) (setq x 2))
 steps 10: (defclass a () ((x :initform 1))) (with-slots (x) (make-instance 'a) (setq x 2)) => ; 29 (STEP-LIMIT)~

@@ -1,0 +1,16 @@
+use Rattle.std.proofs.Common.{sym, ◌∙◌}
+use Rattle.clos_world.specs.World.{seen}
+use Rattle.clos_eval.proofs.Naming.{place_is_changed, variable_is_changed}
+use Rattle.clos_eval.proofs.eval.change_name.Goals as goal
+
+pub returns-in-None-clause-turns : goal.returns-in-None-clause-turns
+returns-in-None-clause-turns c =
+    variable_is_changed c.args.machine.now c.args.name.now c.args.values (seen c.args.world.now) c.args.steps.now c.change_only.result c.change_only.new.machine
+    (seen c.change_only.new.world) c.change_only.new.steps c.args.primitive (sym c.in-None.is ∙ c.in_ok-place_denoted.ensures (seen c.args.world.now))
+    c.change_only.ensures.turns
+
+pub returns-in_ok-append-in-Some-clause-turns : goal.returns-in_ok-append-in-Some-clause-turns
+returns-in_ok-append-in-Some-clause-turns c =
+    place_is_changed c.args.machine.now c.args.name.now c.args.values (seen c.args.world.now) c.args.steps.now c.change_place.result c.change_place.new.machine
+    (seen c.change_place.new.world) c.change_place.new.steps c.args.primitive c.in-Some.place c.append.new.self
+    (sym c.in-Some.is ∙ c.in_ok-place_denoted.ensures (seen c.args.world.now)) c.in_ok-append-in-Some.ensures c.change_place.ensures.turns
