@@ -2,9 +2,10 @@
 use Rattle.std.proofs.Common.{◌≡◌, ℕ, ◌-◌, Bool, true, false, List, Option, Some, None, Result, Ok, Err, length, arith, refl, ap, sym, ◌∙◌}
 use Rattle.std.specs.Prelude.{max, if◌then◌else◌}
 use Rattle.lisp_data.specs.Value.{Val, class}
+use Rattle.lisp_data.specs.declared.ids.CellId.{CellId}
 use Rattle.clos_class.specs.Table.{number, refusal}
 use Rattle.clos_class_core.specs.Table.{Refusal}
-use Rattle.clos_store.specs.Store.{has_room_for}
+use Rattle.clos_store.specs.Store.{cells_from, has_room_for}
 use Rattle.clos_syntax.specs.declared.class.ClassDefinition.{ClassDefinition}
 use Rattle.clos_world.specs.World.{State}
 use Rattle.clos_world.specs.declared.condition.Condition.{Condition}
@@ -79,3 +80,6 @@ pub reserved_first : (d : ClassDefinition) (vs : List (Option Val)) (w : State)
 reserved_first d vs w =
     let e : max w.store.reserved (length vs) - length vs ≡ w.store.reserved - length vs = omega arith in
     ap (λ m. record (with_class d vs w) { store = record (with_class d vs w).store { reserved = m } }) e
+
+pub counted : (ids : List CellId) (first n m : ℕ) → ids ≡ cells_from first n → n ≡ m → ids ≡ cells_from first m
+counted ids first n m h e = h ∙ ap (cells_from first) e
