@@ -6,5 +6,5 @@ pub mod Runs
 pub mod Evaluations
 pub mod Serving
 pub mod Refusing
-pub mod Initforms
+pub mod FirstValues
 pub mod Making

@@ -2,9 +2,10 @@
 use Rattle.std.proofs.Common.{◌≡◌, ℕ, ◌-◌, Bool, true, false, List, Option, Some, None, Result, Ok, Err, length, arith, refl, ap, sym, ◌∙◌}
 use Rattle.std.specs.Prelude.{max, if◌then◌else◌}
 use Rattle.lisp_data.specs.Value.{Val, class}
-use Rattle.clos_class.specs.Table.{number, refusal}
+use Rattle.lisp_data.specs.declared.ids.CellId.{CellId}
+use Rattle.clos_class.specs.Table.{Table, number, refusal, with_definition}
 use Rattle.clos_class_core.specs.Table.{Refusal}
-use Rattle.clos_store.specs.Store.{has_room_for}
+use Rattle.clos_store.specs.Store.{Contents, cells_from, has_room_for, with_cells}
 use Rattle.clos_syntax.specs.declared.class.ClassDefinition.{ClassDefinition}
 use Rattle.clos_world.specs.World.{State}
 use Rattle.clos_world.specs.declared.condition.Condition.{Condition}
@@ -79,3 +80,18 @@ pub reserved_first : (d : ClassDefinition) (vs : List (Option Val)) (w : State)
 reserved_first d vs w =
     let e : max w.store.reserved (length vs) - length vs ≡ w.store.reserved - length vs = omega arith in
     ap (λ m. record (with_class d vs w) { store = record (with_class d vs w).store { reserved = m } }) e
+
+pub counted : (ids : List CellId) (first n m : ℕ) → ids ≡ cells_from first n → n ≡ m → ids ≡ cells_from first m
+counted ids first n m h e = h ∙ ap (cells_from first) e
+
+pub made : (d : ClassDefinition) (vs : List (Option Val)) (w : State) (ids : List CellId) (t : Table) (st : Contents) → t ≡ with_definition w.classes d ids
+    → ids ≡ cells_from (length w.store.cells) (length vs) → st ≡ with_cells vs w.store → record w { classes = t; store = st } ≡ with_class d vs w
+made d vs w ids t st e h g =
+    ap (λ x. record w { classes = x; store = st }) (e ∙ ap (λ x. with_definition w.classes d x) h)
+    ∙ ap (λ x. record w { classes = with_definition w.classes d (cells_from (length w.store.cells) (length vs)); store = x }) g
+
+pub in_room : (d : ClassDefinition) (vs : List (Option Val)) (w : State) (st : Contents) (n : ℕ) → st ≡ record w.store { reserved = max w.store.reserved n } → n ≡ length vs
+    → with_class d vs (record w { store = st }) ≡ with_class d vs w
+in_room d vs w st n h e =
+    ap (λ x. with_class d vs (record w { store = x })) (h ∙ ap (λ m. record w.store { reserved = max w.store.reserved m }) e)
+    ∙ reserved_first d vs w

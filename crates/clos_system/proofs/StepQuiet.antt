@@ -40,7 +40,7 @@ use Rattle.clos_system.specs.declared.served.Served.{Served}
 use Rattle.clos_system.specs.declared.served.Served.TheVariants.{DefineClass, DefineMethod, DefineFunction, DefineVariable, Nothing, Expression}
 use Rattle.clos_machine.proofs.Quiet.{evaluation_quiet}
 use Rattle.clos_system.proofs.Effects.{class_made_quiet, effect_quiet, either}
-use Rattle.clos_system.proofs.Initforms.{initforms_quiet}
+use Rattle.clos_system.proofs.FirstValues.{initforms_quiet}
 
 unless_quiet : (o : Option Condition) (go : Run) (w : State) → leaves (go w 0) w 0 → leaves (unless o go w 0) w 0
 unless_quiet None go w h = h

@@ -1,5 +1,6 @@
 //! A class that is made, with the cells of its shared slots (HyperSpec 7.5.3): its effect is one step.
-ghost use Rattle.std.specs.Prelude.{◌≡◌, ◌≤◌, ◌-◌, Bool, OnOk, OnErr, length};
+ghost use Rattle.std.specs.Prelude.{◌≡◌, ◌≤◌, ◌-◌, Bool, IfOk, OnOk, OnErr, length};
+ghost use Rattle.clos_store.specs.Store.{cells_from};
 ghost use Rattle.clos_store.specs.StoreFault.{Refuses};
 ghost use Rattle.clos_world.specs.World.{seen};
 ghost use Rattle.clos_system.specs.Class.{StopsForRoom, cells_fault, fault_of, with_class, with_room_for};
@@ -9,7 +10,8 @@ use crate::effect::{allow, is_within_limits};
 use clos_store::{Slot, StoreFault};
 use clos_syntax::ClassDefinition;
 use clos_world::{ConditionKind, Stop, World, plain};
-use std::alloc::Global;
+use lisp_data::CellId;
+use std::alloc::{AllocError, Global};
 
 /// Whether there are no more generic functions and methods than there may be, and so many more cells may be made, or that
 /// a table is full.
@@ -67,7 +69,7 @@ fn make_reserved(
     match allow(alloc, world, *steps) {
         Err(stop) => Err(stop),
         Ok(()) => {
-            let numbers = world.store.next_cells(alloc, cells.len() as u64)?;
+            let numbers = numbers_for(alloc, world, &cells)?;
             let Ok(_) = world.classes.define(alloc, definition, &numbers) else {
                 return Err(Stop::Storage);
             };
@@ -76,6 +78,16 @@ fn make_reserved(
             Ok(())
         }
     }
+}
+
+/// The numbers that these cells will have, which are reserved.
+#[tactic(auto, using(crate::proofs::Making::counted))]
+fn numbers_for(alloc: Global, world: &World, cells: &[Slot]) -> Result<Vec<CellId>, AllocError>
+    requires { length cells.now ≤ (seen world.now).store.reserved }
+    ensures { IfOk result (λ r. r.items ≡ cells_from (length (seen world.now).store.cells) (length cells.now)) }
+{
+    let numbers = world.store.next_cells(alloc, cells.len() as u64)?;
+    Ok(numbers)
 }
 
 /// Why no cells can be reserved.

@@ -88,7 +88,7 @@ fn define_accepted(
 }
 
 /// Evaluates the initforms of these cells, and then makes the class.
-#[tactic(auto, using(crate::proofs::Initforms::initforms_stop, crate::proofs::Initforms::initforms_go_on))]
+#[tactic(auto, using(crate::proofs::FirstValues::initforms_stop, crate::proofs::FirstValues::initforms_go_on))]
 fn define_with_initforms(
     alloc: Global,
     world: &mut World,

@@ -11,7 +11,7 @@ use clos_world::{Stop, World};
 use std::alloc::Global;
 
 /// Evaluates the initforms of these slots, one after another. A slot without one is unbound.
-#[tactic(auto, using(crate::proofs::Initforms::none_yet, crate::proofs::Initforms::one_more, crate::proofs::Initforms::one_stops, crate::proofs::Initforms::between))]
+#[tactic(auto, using(crate::proofs::FirstValues::none_yet, crate::proofs::FirstValues::one_more, crate::proofs::FirstValues::one_stops, crate::proofs::FirstValues::between))]
 pub fn evaluate_initforms(
     alloc: Global,
     world: &mut World,
@@ -32,7 +32,7 @@ pub fn evaluate_initforms(
 }
 
 /// Evaluates the initform of a slot, where there is one.
-#[tactic(auto, using(crate::proofs::Initforms::no_initform, crate::proofs::Initforms::not_begun, crate::proofs::Initforms::initform_stops, crate::proofs::Initforms::initform_gives))]
+#[tactic(auto, using(crate::proofs::FirstValues::no_initform, crate::proofs::FirstValues::not_begun, crate::proofs::FirstValues::initform_stops, crate::proofs::FirstValues::initform_gives))]
 fn evaluate_initform(
     alloc: Global,
     world: &mut World,
@@ -45,7 +45,9 @@ fn evaluate_initform(
     let Some(form) = initform else {
         return Ok(Slot::new(None));
     };
-    let form = form.copy()?;
+    let Ok(form) = form.copy() else {
+        return Err(Stop::Storage);
+    };
     let room = world.limits.depth.min(4_000).saturating_sub(1);
     let value = evaluate(alloc, world, form, room, steps)?;
     Ok(Slot::new(Some(value)))

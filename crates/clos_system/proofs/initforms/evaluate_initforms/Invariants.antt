@@ -1,6 +1,6 @@
 use Rattle.std.proofs.Common.{length}
 use Rattle.clos_world.specs.World.{seen}
-use Rattle.clos_system.proofs.Initforms.{Comes}
+use Rattle.clos_system.proofs.FirstValues.{Comes}
 use Rattle.clos_system.proofs.initforms.evaluate_initforms.Given as goal
 
 abbrev pub invariant-loop-cell : goal.invariant-loop-cell
