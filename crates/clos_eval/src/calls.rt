@@ -1,5 +1,5 @@
 //! Calls of functions, of generic functions and of methods (HyperSpec 3.1.2.1.2.3, 7.6.6).
-ghost use Rattle.std.specs.Prelude.{◌≡◌, ◌∷◌, ◌++◌, ◌+◌, [], ℕ, IfOk, Some, slice_get, option_copied, true};
+ghost use Rattle.std.specs.Prelude.{◌≡◌, ◌∷◌, ◌++◌, ◌+◌, [], ℕ, IfOk, Some, drop, map, slice_get, option_copied, true};
 ghost use Rattle.std.specs.List.{list_any};
 ghost use Rattle.lisp_data.specs.Value.{list, nil};
 ghost use Rattle.lisp_data.specs.ValueView.{value_of};
@@ -320,26 +320,39 @@ pub fn next_parameter(
 }
 
 /// Whether a generic function takes these arguments (HyperSpec 7.6.5).
+#[tactic(auto, using(std::proofs::lemmas::Grind::common_steps))]
 fn takes(generic: &Generic, arguments: &[Value]) -> bool
     ensures { result ≡ takes generic.now (map value_of arguments.now) }
 {
-    if (arguments.len() as u64) < generic.required {
-        return false;
-    }
-    takes_rest(generic.rest, generic.optional, &arguments[generic.required as usize..])
+    generic.required <= arguments.len() as u64
+        && takes_rest(
+            generic.rest,
+            generic.optional,
+            after(arguments, generic.required),
+        )
 }
 
 /// Whether these follow the arguments of required parameters.
+#[tactic(auto, using(std::proofs::lemmas::Grind::common_steps))]
 fn takes_rest(rest: Rest, optional: u64, arguments: &[Value]) -> bool
     ensures { result ≡ takes_rest rest optional (map value_of arguments.now) }
 {
     match rest {
         Rest::Nothing => arguments.len() as u64 <= optional,
         Rest::Anything => true,
-        Rest::Keywords => {
-            (arguments.len() as u64) < optional || are_pairs(&arguments[optional as usize..])
-        }
+        Rest::Keywords => are_pairs(after(arguments, optional)),
     }
+}
+
+/// The arguments after the first so many.
+#[tactic(auto, using(crate::proofs::Counted::none_after))]
+fn after(arguments: &[Value], count: u64) -> &[Value]
+    ensures { map value_of result.now ≡ drop count (map value_of arguments.now) }
+{
+    if arguments.len() as u64 <= count {
+        return &[];
+    }
+    &arguments[count as usize..]
 }
 
 /// A call of a generic function: its applicable methods are worked out and combined (HyperSpec 7.6.6).

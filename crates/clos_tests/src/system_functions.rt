@@ -7,7 +7,8 @@ const CLASSES: &str =
 (defvar *a* (make-instance 'a :x 5))
 ";
 
-const INITIALIZATION: &str = "(slot-makunbound *a* 'y) (princ (shared-initialize *a* t :x 6)) (princ (list (slot-value *a* 'x) (slot-value *a* 'y))) => #<A 1>(6 2)
+const INITIALIZATION: &str =
+    "(slot-makunbound *a* 'y) (princ (shared-initialize *a* t :x 6)) (princ (list (slot-value *a* 'x) (slot-value *a* 'y))) => #<A 1>(6 2)
 (slot-makunbound *a* 'x) (slot-makunbound *a* 'y) (shared-initialize *a* '(x z)) (princ (list (slot-value *a* 'x) (slot-boundp *a* 'y))) => X(1 NIL)
 (slot-makunbound *a* 'x) (shared-initialize *a* nil :y 3) (princ (list (slot-boundp *a* 'x) (slot-value *a* 'y))) => (NIL 3)
 (shared-initialize *a* t :q 3 :y 4) (princ (slot-value *a* 'y)) => 4
@@ -33,7 +34,8 @@ const INITIALIZATION: &str = "(slot-makunbound *a* 'y) (princ (shared-initialize
 (let ((y 3)) (slot-makunbound *a* 'x) (shared-initialize *a* '(x)) (princ (list y (slot-value *a* 'x)))) => X(3 1)
 (defun f (i) (shared-initialize i t) (princ i)) (f *a*) => #<A 1>";
 
-const UNBOUND: &str = "(defmethod slot-unbound (c (i a) n) (list (class-name c) n)) (princ (slot-value *a* 'z)) => (A Z)
+const UNBOUND: &str =
+    "(defmethod slot-unbound (c (i a) n) (list (class-name c) n)) (princ (slot-value *a* 'z)) => (A Z)
 (defmethod slot-unbound ((c standard-class) (i a) (n symbol)) (princ n) 7) (princ (+ 1 (slot-value *a* 'z))) (princ (slot-boundp *a* 'z)) => Z8NIL
 (defmethod slot-unbound (c (i a) n) 3) (incf (slot-value *a* 'z)) (princ (slot-value *a* 'z)) => 4
 (defclass r () ((x :accessor x))) (defmethod slot-unbound (c (i r) n) n) (princ (x (make-instance 'r))) => X
