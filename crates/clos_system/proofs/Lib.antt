@@ -8,3 +8,4 @@ pub mod Serving
 pub mod Refusing
 pub mod FirstValues
 pub mod Making
+pub mod Undefined
