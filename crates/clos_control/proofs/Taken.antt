@@ -16,7 +16,6 @@ use Rattle.clos_machine.specs.declared.arguments.Context.{Context}
 use Rattle.clos_machine.specs.declared.machine.Action.{Action}
 use Rattle.clos_machine.specs.declared.machine.Doing.{Doing}
 use Rattle.clos_machine.specs.declared.machine.Machine.{Machine}
-use Rattle.clos_machine.specs.declared.machine.Task.TheVariants.{Plain}
 
 -- a name with a value of its own stands for no slot
 no_place : (o : Option Denoted) (global : Option Val) (v : Val) → Some v ≡ or_global o global → slot_place o ≡ None
@@ -59,10 +58,10 @@ gives_at_once ev env (of.call name) ps v w t e = cc
 one_more : (t : ℕ) → 1 + t ≡ suc t
 one_more t = omega arith
 
-ready : (n : ℕ) (env : Context) (f : Frm) (v : Val) (w : State) (t : ℕ) → 0 < n → Some v ≡ at_once w (operator_in f) → meaning n env (Plain f) w (1 + t) ≡ Gave v w t
+ready : (n : ℕ) (env : Context) (f : Frm) (v : Val) (w : State) (t : ℕ) → 0 < n → Some v ≡ at_once w (operator_in f) → meaning n env f w (1 + t) ≡ Gave v w t
 ready zero env f v w t h e = absurd (omega (arith, h))
 ready (suc n) env f v w t h e =
-    ap (meaning (suc n) env (Plain f) w) (one_more t) ∙ gives_at_once (meaning n) env (operator_in f) (parts_in f) v w t e
+    ap (meaning (suc n) env f w) (one_more t) ∙ gives_at_once (meaning n) env (operator_in f) (parts_in f) v w t e
 
 -- one more form is taken
 pub took_one : (n : ℕ) (env : Context) (w : State) (fs : Frms) (vs : List Val) (s : ℕ) (f : Frm) (fs' : Frms) (vs' : List Val) (s' : ℕ) (v : Val)

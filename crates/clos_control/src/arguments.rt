@@ -10,7 +10,7 @@ ghost use Rattle.clos_machine.specs.Outcome.{Run};
 use crate::binding::value_of_variable;
 use crate::control::{begin, give_up, split};
 use clos_forms::{Forms, Operator};
-use clos_machine::machine::{Action, Doing, Frame, Machine, Task};
+use clos_machine::machine::{Action, Doing, Frame, Machine};
 use clos_world::{Stop, Values, World};
 use lisp_data::Value;
 use std::alloc::AllocError;
@@ -78,7 +78,7 @@ fn begin_next(
         None => Ok(Doing::Act(action, values)),
         Some((first, rest)) => {
             let frame = Frame::Collect(action, rest, values);
-            begin(machine, Task::Plain(first), frame)
+            begin(machine, first, frame)
         }
     }
 }

@@ -18,7 +18,7 @@ use crate::binding::value_of_variable;
 use crate::control::{act_under, begin_under, collect_next, done};
 use clos_forms::{Form, Forms, Operator, Place};
 use clos_machine::fault::of_function;
-use clos_machine::machine::{Action, Doing, Frame, Machine, Target, Task};
+use clos_machine::machine::{Action, Doing, Frame, Machine, Target};
 use clos_world::{ConditionKind, Stop, Values, World, about_name, plain};
 use lisp_data::{Name, Value};
 use lisp_prims::Primitive;
@@ -88,7 +88,7 @@ fn set_target(
             let action = Action::Store(name);
             let frame = Frame::Collect(action, Forms::new(), Values::new(alloc));
             let outer = Frame::Setq(form, next, others);
-            begin_under(machine, Task::Plain(value), frame, outer)
+            begin_under(machine, value, frame, outer)
         }
     }
 }
@@ -196,7 +196,7 @@ fn set_variable(
     let name = name.copy()?;
     let others = others.copy()?;
     let inner = Frame::Collect(Action::Store(name), Forms::new(), Values::new(alloc));
-    begin_under(machine, Task::Plain(value), inner, Frame::Setf(others))
+    begin_under(machine, value, inner, Frame::Setf(others))
 }
 
 /// A place with arguments gets the value of a form, which comes after them; then the next one of these places its own.
@@ -234,7 +234,7 @@ fn set_alone(
     let value = form.copy()?;
     let others = others.copy()?;
     let inner = Frame::Collect(Action::Set(target), Forms::new(), Values::new(alloc));
-    begin_under(machine, Task::Plain(value), inner, Frame::Setf(others))
+    begin_under(machine, value, inner, Frame::Setf(others))
 }
 
 fn set_after(
@@ -273,7 +273,7 @@ fn set_by(
     let others = others.copy()?;
     let rest = rest.copy()?;
     let inner = Frame::Collect(Action::NewValue(target, form), rest, Values::new(alloc));
-    begin_under(machine, Task::Plain(next), inner, Frame::Setf(others))
+    begin_under(machine, next, inner, Frame::Setf(others))
 }
 
 /// A place is changed by an amount.

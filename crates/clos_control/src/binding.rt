@@ -13,7 +13,7 @@ use crate::control::{begin, split};
 use clos_forms::{Bindings, Forms};
 use clos_machine::counter::Counter;
 use clos_machine::locals::{Denotation, Locals, Plan, bind_unset, put_unset_aside};
-use clos_machine::machine::{Doing, Frame, Machine, Repetition, Task};
+use clos_machine::machine::{Doing, Frame, Machine, Repetition};
 use clos_machine::truth::nil;
 use clos_world::{ConditionKind, Stop, World, about, plain};
 use lisp_data::{Name, Value};
@@ -64,7 +64,7 @@ pub fn continue_within(
         }
         Some((first, rest)) => {
             drop(value);
-            begin(machine, Task::Plain(first), Frame::Scope(outer, rest))
+            begin(machine, first, Frame::Scope(outer, rest))
         }
     }
 }
@@ -128,7 +128,7 @@ fn bind_next(
             None => Err(Stop::Refused(plain(alloc, ConditionKind::ProgramError))),
             Some((init, rest)) => {
                 let frame = Frame::InOrder(outer, name, plan, rest);
-                begin(machine, Task::Plain(init), frame)
+                begin(machine, init, frame)
             }
         },
     }
@@ -238,7 +238,7 @@ fn aside_next(
             None => Err(Stop::Refused(plain(alloc, ConditionKind::ProgramError))),
             Some((init, rest)) => {
                 let frame = Frame::Aside(outer, locals, name, plan, rest);
-                begin(machine, Task::Plain(init), frame)
+                begin(machine, init, frame)
             }
         },
     }
@@ -325,7 +325,7 @@ pub fn start_loop(
                 has_result,
                 forms,
             };
-            begin(machine, Task::Plain(count), Frame::Count(repetition))
+            begin(machine, count, Frame::Count(repetition))
         }
     }
 }
@@ -400,7 +400,7 @@ pub fn continue_turn(
         None => Ok(Doing::Turn(repetition, counter)),
         Some((first, rest)) => {
             let frame = Frame::Turn(repetition, counter, rest);
-            begin(machine, Task::Plain(first), frame)
+            begin(machine, first, frame)
         }
     }
 }
@@ -449,7 +449,7 @@ fn run_result(machine: &mut Machine, repetition: &Repetition) -> Result<Doing, S
             Ok(Doing::Give(nil()))
         }
         Some((form, _)) => {
-            let next = Task::Plain(form.copy()?);
+            let next = form.copy()?;
             begin(machine, next, Frame::Scope(repetition.outer, Forms::new()))
         }
     }

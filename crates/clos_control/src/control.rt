@@ -12,7 +12,7 @@ ghost use Rattle.clos_machine.specs.Outcome.{Run, Gave, then_do};
 ghost use Rattle.clos_machine.specs.declared.machine.Doing.TheVariants.{Act};
 
 use clos_forms::{Form, Forms};
-use clos_machine::machine::{Action, Control, Doing, Frame, Level, Levels, Machine, Task};
+use clos_machine::machine::{Action, Control, Doing, Frame, Level, Levels, Machine};
 use clos_machine::truth::{is_true, nil};
 use clos_world::{Stop, SystemFunction, Values};
 use lisp_data::Value;
@@ -42,7 +42,7 @@ pub fn split(forms: &Forms) -> Result<Option<(Form, Forms)>, AllocError>
 }
 
 /// Evaluates this next, and then does what the frame does with its value.
-pub fn begin(machine: &mut Machine, next: Task, frame: Frame) -> Result<Doing, Stop>
+pub fn begin(machine: &mut Machine, next: Form, frame: Frame) -> Result<Doing, Stop>
     ensures leads { (run : Run) (w : State) → below machine.old.context frame ≡ machine.old.context
         → ((t : ℕ) → then_do (meaning machine.old.room machine.old.context next (at machine.old w) t) (after (meaning machine.old.room) machine.old.context frame) ≡ run (at machine.old w) t)
         → Leads (inside machine.old run) w result machine.new }
@@ -67,7 +67,7 @@ fn push_both(levels: &mut Levels, frame: Frame, outer: Frame, room: u64) -> Resu
 /// The same, and after the frame what another does with its value.
 pub fn begin_under(
     machine: &mut Machine,
-    next: Task,
+    next: Form,
     frame: Frame,
     outer: Frame,
 ) -> Result<Doing, Stop>
@@ -131,7 +131,7 @@ pub fn done(machine: &Machine, value: Value) -> Doing
 }
 
 /// Evaluates this next, whose value is the machine's.
-pub fn turn_to(machine: &Machine, next: Task) -> Doing
+pub fn turn_to(machine: &Machine, next: Form) -> Doing
     ensures leads { (run : Run) (w : State) → ((t : ℕ) → meaning machine.now.room machine.now.context next (at machine.now w) t ≡ run (at machine.now w) t)
         → Leads (inside machine.now run) w (Ok result) machine.now }
     ensures small { Grows 6 machine.now.levels (Ok result) machine.now }
@@ -175,7 +175,7 @@ pub fn go_on(
         None => Ok(done(machine, value)),
         Some((first, rest)) => {
             drop(value);
-            begin(machine, Task::Plain(first), Frame::Rest(control, rest))
+            begin(machine, first, Frame::Rest(control, rest))
         }
     }
 }
@@ -236,7 +236,7 @@ fn branch(machine: &mut Machine, holds: bool, forms: &Forms) -> Result<Doing, St
         None => Ok(done(machine, nil())),
         Some((first, others)) => {
             if holds {
-                return Ok(turn_to(machine, Task::Plain(first.copy()?)));
+                return Ok(turn_to(machine, first.copy()?));
             }
             go_on(machine, Control::Progn, others, nil())
         }
@@ -252,7 +252,7 @@ pub fn keep(machine: &mut Machine, forms: &Forms, value: Value) -> Result<Doing,
 {
     match split(forms)? {
         None => Ok(done(machine, value)),
-        Some((first, rest)) => begin(machine, Task::Plain(first), Frame::Keep(rest, value)),
+        Some((first, rest)) => begin(machine, first, Frame::Keep(rest, value)),
     }
 }
 
@@ -280,7 +280,7 @@ fn test_clause(machine: &mut Machine, forms: &Forms, others: &Forms) -> Result<D
         None => Ok(done(machine, nil())),
         Some((test, body)) => {
             let others = others.copy()?;
-            begin(machine, Task::Plain(test), Frame::Clause(body, others))
+            begin(machine, test, Frame::Clause(body, others))
         }
     }
 }

@@ -15,7 +15,7 @@ use crate::binding::{run_beside, value_of_variable};
 use crate::control::{begin, split};
 use clos_forms::{Form, Forms, Operator, SlotBinding, value_named};
 use clos_machine::locals::{Denotation, slots_of};
-use clos_machine::machine::{Action, Doing, Frame, Machine, Target, Task};
+use clos_machine::machine::{Action, Doing, Frame, Machine, Target};
 use clos_world::{ConditionKind, Stop, Values, World, about_name, plain};
 use lisp_data::{Name, Value};
 use std::alloc::{AllocError, Global};
@@ -93,7 +93,7 @@ pub fn start_slots(
         None => Err(Stop::Refused(plain(alloc, ConditionKind::ProgramError))),
         Some((object, rest)) => {
             let frame = Frame::Slots(form.copy()?, rest);
-            begin(machine, Task::Plain(object), frame)
+            begin(machine, object, frame)
         }
     }
 }

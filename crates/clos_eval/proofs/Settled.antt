@@ -28,7 +28,6 @@ use Rattle.clos_machine.specs.declared.machine.Doing.{Doing}
 use Rattle.clos_machine.specs.declared.machine.Frame.TheVariants.{Bind}
 use Rattle.clos_machine.specs.declared.machine.Level.{Level}
 use Rattle.clos_machine.specs.declared.machine.Machine.{Machine}
-use Rattle.clos_machine.specs.declared.machine.Task.TheVariants.{Plain}
 use Rattle.clos_machine.proofs.Turns.{leads_same, stopped_through}
 
 module _ (ls : List Level) (saved : Context) (outer : List Local) (ev : Eval) (env : Context) (fs : Frms) (w : State) (t : ℕ) where
@@ -76,11 +75,11 @@ then_then (Gave v w s) f g = refl
 then_then (Stopped c w s) f g = refl
 
 pub init_begins : (m : Machine) (saved : Context) (outer : List Local) (x : Nam) (f : Frm) (ps : Sources) (fs : Frms) (w : State) (t : ℕ)
-    → closed (resume (record { frame = Bind x ps fs saved outer; room = m.room } ∷ m.levels) m.context (meaning m.room m.context (Plain f) (at m w) t))
+    → closed (resume (record { frame = Bind x ps fs saved outer; room = m.room } ∷ m.levels) m.context (meaning m.room m.context f (at m w) t))
     ≡ under m saved outer (parameters_run (meaning m.room) m.context ((x, init f) ∷ ps) fs) w t
 init_begins m saved outer x f ps fs w t =
     ap (λ o. closed (resume m.levels saved o))
-    (sym (then_then (meaning m.room m.context (Plain f) (at m w) t) (λ v u k. if is_global u.globals x then stopped Unsupported [] u k else parameters_run (meaning m.room) m.context ps fs (inner x v u) k)
+    (sym (then_then (meaning m.room m.context f (at m w) t) (λ v u k. if is_global u.globals x then stopped Unsupported [] u k else parameters_run (meaning m.room) m.context ps fs (inner x v u) k)
     (restoring outer)))
 
 -- one parameter

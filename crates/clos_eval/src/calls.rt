@@ -22,7 +22,6 @@ ghost use Rattle.clos_machine.specs.Outcome.{Run, then_do};
 ghost use Rattle.clos_machine.specs.Parameters.{required_sources, sources};
 ghost use Rattle.clos_machine.specs.declared.machine.Action.TheVariants.{Call};
 ghost use Rattle.clos_machine.specs.declared.machine.Frame.TheVariants.{Bind, Body};
-ghost use Rattle.clos_machine.specs.declared.machine.Task.TheVariants.{Plain};
 
 use clos_control::control::{begin, collect_next, done, give_up, split};
 use clos_forms::{Form, Forms, FunctionName, is_function, is_system_function, value_named};
@@ -30,7 +29,7 @@ use clos_machine::arguments::{Arguments, Context};
 use clos_machine::effective::{EffectiveForm, EffectiveNode, combined};
 use clos_machine::fault::of_function;
 use clos_machine::locals::{Locals, bind, settle};
-use clos_machine::machine::{Action, Doing, Frame, Level, Machine, Target, Task};
+use clos_machine::machine::{Action, Doing, Frame, Level, Machine, Target};
 use clos_machine::parameters::{ParameterPlan, are_pairs, fits, plan_for, requires_only};
 use clos_machine::truth::nil;
 use clos_objects::slots::call_reader;
@@ -92,7 +91,7 @@ pub fn new_value(
         → Leads (inside machine.old run) w result machine.new }
     ensures small { Grows 4 machine.old.levels result machine.new }
 {
-    let next = Task::Plain(form.copy()?);
+    let next = form.copy()?;
     begin(
         machine,
         next,
@@ -292,7 +291,7 @@ fn bind_parameters(
             let body = body.copy()?;
             let frame = Frame::Bind(name, plan, body, saved, outer);
             machine.levels.push(Level { frame, room })?;
-            Ok(Doing::Start(Task::Plain(form)))
+            Ok(Doing::Start(form))
         }
     }
 }
@@ -437,7 +436,7 @@ pub fn invoke(
 
 /// Evaluates this next in a context of its own; the machine's comes back after it.
 #[tactic(auto, using(clos_machine::proofs::Turns::stopped_through, clos_machine::proofs::Turns::then_gave))]
-fn enter_effect(machine: &mut Machine, context: Context, next: Task) -> Result<Doing, Stop>
+fn enter_effect(machine: &mut Machine, context: Context, next: Form) -> Result<Doing, Stop>
     ensures leads { (run : Run) (w : State)
         → ((t : ℕ) → meaning machine.old.room context next (at machine.old w) t ≡ run (at machine.old w) t)
         → Leads (inside machine.old run) w result machine.new }
@@ -592,7 +591,7 @@ fn enter_body(
     rest: Forms,
 ) -> Result<Doing, Stop>
     ensures leads { (run : Run) (w : State)
-        → ((t : ℕ) → then_do (then_do (meaning machine.old.room context (Plain first) (bound_as locals w) t) (λ v. sequence (meaning machine.old.room) context rest v)) (restoring machine.old.locals) ≡ run (at machine.old w) t)
+        → ((t : ℕ) → then_do (then_do (meaning machine.old.room context first (bound_as locals w) t) (λ v. sequence (meaning machine.old.room) context rest v)) (restoring machine.old.locals) ≡ run (at machine.old w) t)
         → Leads (inside machine.old run) w result machine.new }
     ensures small { Grows 6 machine.old.levels result machine.new }
 {
@@ -600,7 +599,7 @@ fn enter_body(
     let room = machine.room;
     let frame = Frame::Body(rest, saved, outer);
     machine.levels.push(Level { frame, room })?;
-    Ok(Doing::Start(Task::Plain(first)))
+    Ok(Doing::Start(first))
 }
 
 /// The rest of a body follows the value of one of its forms.
@@ -627,7 +626,7 @@ pub fn next_of_body(
             let room = machine.room;
             let frame = Frame::Body(rest, saved, outer);
             machine.levels.push(Level { frame, room })?;
-            Ok(Doing::Start(Task::Plain(first)))
+            Ok(Doing::Start(first))
         }
     }
 }

@@ -30,7 +30,7 @@ use clos_forms::{Form, Forms, Operator};
 use clos_machine::arguments::{Arguments, Context};
 use clos_machine::callee::{Callee, SlotFunction, callee_named};
 use clos_machine::locals::Locals;
-use clos_machine::machine::{Action, Control, Doing, Frame, Level, Levels, Machine, Target, Task};
+use clos_machine::machine::{Action, Control, Doing, Frame, Level, Levels, Machine, Target};
 use clos_machine::truth::{is_true, nil, t};
 use clos_objects::class_functions::{call_class_function, truth};
 use clos_objects::creation::{allocate, make_instance, next_default};
@@ -404,12 +404,12 @@ fn give(
 
 /// A task begins, with less room.
 #[tactic(auto, using(clos_machine::proofs::Turns::grows_6_16, clos_machine::proofs::Turns::grows_9_16))]
-fn start(alloc: Global, machine: &mut Machine, world: &World, task: Task) -> Result<Doing, Stop>
+fn start(alloc: Global, machine: &mut Machine, world: &World, form: Form) -> Result<Doing, Stop>
     ensures leads { Leads (inside machine.old (begun (meaning machine.old.room) machine.old.context task)) (seen world.now) result machine.new }
     ensures small { Grows 16 machine.old.levels result machine.new }
 {
     match task {
-        Task::Plain(form) => start_form(alloc, machine, world, &form),
+        form => start_form(alloc, machine, world, &form),
         Task::Effect(form) => start_effective(alloc, machine, world, &form),
     }
 }
@@ -419,7 +419,7 @@ fn begin_task(
     alloc: Global,
     machine: &mut Machine,
     world: &World,
-    task: Task,
+    form: Form,
     steps: &mut u64,
 ) -> Result<Doing, Stop>
     ensures turns { Turns (denote machine.old (Start task)) (seen world.now) steps.old result machine.new (seen world.now) steps.new }
@@ -470,7 +470,7 @@ pub fn evaluate(
         locals: Locals::new(alloc),
         room,
     };
-    let mut doing = Doing::Start(Task::Plain(form));
+    let mut doing = Doing::Start(form);
     loop {
         match doing {
             Doing::Start(task) => match begin_task(alloc, &mut machine, world, task, steps) {

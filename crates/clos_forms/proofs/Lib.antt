@@ -4,3 +4,4 @@ pub mod Parts
 pub mod Quoting
 pub mod Room
 pub mod WellFormed
+pub mod Next

@@ -2,6 +2,7 @@ pub mod Names
 pub mod Special
 pub mod Operator
 pub mod OperatorCode
+pub mod CallMethodView
 pub mod BoundView
 pub mod OperatorView
 pub mod Form

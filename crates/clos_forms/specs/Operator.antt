@@ -1,5 +1,5 @@
 -- The operators of forms (HyperSpec 3.1.2.1).
-use Rattle.std.specs.Prelude.{Bool, List}
+use Rattle.std.specs.Prelude.{ℕ, Bool, List}
 use Rattle.lisp_data.specs.Name.{Nam}
 use Rattle.lisp_data.specs.Print.{Called}
 use Rattle.lisp_data.specs.Value.{Val}
@@ -19,6 +19,11 @@ pub data Plc : Type 0 where
   variable_place : Nam → Plc
   slot_value_place : Plc  -- an instance and a slot's name
   call_place : Nam → Plc  -- the arguments of a function that is set by another
+
+-- what call-method calls, or what comes next in it (7.6.6.2): the method of this number, or one that is made of a form
+pub data Callable : Type 0 where
+  the_method : ℕ → Callable
+  made : Callable
 
 -- an operator, its parts apart. The comment says what these are
 pub data Opr : Type 0 where
@@ -47,3 +52,4 @@ pub data Opr : Type 0 where
   call_next_method : Opr  -- the arguments
   next_method_p : Opr  -- none
   call : Nam → Opr  -- the arguments
+  call_method : Callable → List Callable → Opr  -- the forms of those that are made; the method that is called, and its next methods

@@ -8,7 +8,7 @@ use Rattle.lisp_data.specs.NameCode.{name_code}
 use Rattle.lisp_data.specs.Print.{Called, by_symbol, by_setf}
 use Rattle.lisp_data.specs.Value.{Val}
 use Rattle.lisp_data.specs.ValueCode.{value_code}
-use Rattle.clos_forms.specs.Operator.{Bound, BoundSlot, Plc, variable_place, slot_value_place, call_place, Opr, constant, no_value, variable, function, if_form, cond, clause, when, unless, and_form, or_form, progn, prog1, let_form, let_in_order, setq, setf, incf, decf, place, dotimes, with_slots, call_next_method, next_method_p, call}
+use Rattle.clos_forms.specs.Operator.{Bound, BoundSlot, Callable, the_method, made, Plc, variable_place, slot_value_place, call_place, Opr, constant, no_value, variable, function, if_form, cond, clause, when, unless, and_form, or_form, progn, prog1, let_form, let_in_order, setq, setf, incf, decf, place, dotimes, with_slots, call_next_method, next_method_p, call, call_method}
 
 abbrev pub bounds_code : Coded (List Bound)
 bounds_code =
@@ -17,6 +17,24 @@ bounds_code =
 abbrev pub bound_slots_code : Coded (List BoundSlot)
 bound_slots_code =
     coded_list (code_by (Nam × Nam) (coded× name_code name_code) (λ b. (b.variable, b.slot)) (λ p. record { variable = p.0; slot = p.1 }) (λ _. refl))
+
+abbrev callable_to : Callable → ℕ ⊎ Unit {0}
+callable_to (the_method n) = inl n
+callable_to made = inr tt
+
+abbrev callable_from : ℕ ⊎ Unit {0} → Callable
+callable_from (inl n) = the_method n
+callable_from (inr u) = made
+
+pub callable_back : (c : Callable) → callable_from (callable_to c) ≡ c
+callable_back (the_method n) = refl
+callable_back made = refl
+
+abbrev callable_code : Coded Callable
+callable_code = code_by (ℕ ⊎ Unit {0}) (coded⊎ coded_ℕ coded_unit) callable_to callable_from callable_back
+
+abbrev pub callables_code : Coded (List Callable)
+callables_code = coded_list callable_code
 
 abbrev called_to : Called → Nam ⊎ Nam
 called_to (by_symbol n) = inl n
@@ -53,12 +71,12 @@ place_code = code_by (Nam ⊎ (Nam ⊎ Unit {0})) (coded⊎ name_code (coded⊎ 
 
 abbrev Kind : Type 0
 Kind =
-    ℕ ⊎ (Val ⊎ (Nam ⊎ (Called ⊎ (List Bound ⊎ (List Bound ⊎ (List Nam ⊎ (Plc ⊎ ((Nam × Bool) ⊎ (List BoundSlot ⊎ Nam)))))))))
+    ℕ ⊎ (Val ⊎ (Nam ⊎ (Called ⊎ (List Bound ⊎ (List Bound ⊎ (List Nam ⊎ (Plc ⊎ ((Nam × Bool) ⊎ (List BoundSlot ⊎ (Nam ⊎ (Callable × List Callable)))))))))))
 
 abbrev kind_code : Coded Kind
 kind_code =
     coded⊎ coded_ℕ (coded⊎ value_code (coded⊎ name_code (coded⊎ called_code (coded⊎ bounds_code (coded⊎ bounds_code (coded⊎ (coded_list name_code)
-    (coded⊎ place_code (coded⊎ (coded× name_code coded_bool) (coded⊎ bound_slots_code name_code)))))))))
+    (coded⊎ place_code (coded⊎ (coded× name_code coded_bool) (coded⊎ bound_slots_code (coded⊎ name_code (coded× callable_code callables_code)))))))))))
 
 abbrev kind_of : Opr → Kind
 kind_of no_value = inl 0
@@ -85,7 +103,8 @@ kind_of (setq ns) = inr (inr (inr (inr (inr (inr (inl ns))))))
 kind_of (place p) = inr (inr (inr (inr (inr (inr (inr (inl p)))))))
 kind_of (dotimes n b) = inr (inr (inr (inr (inr (inr (inr (inr (inl (n, b)))))))))
 kind_of (with_slots bs) = inr (inr (inr (inr (inr (inr (inr (inr (inr (inl bs)))))))))
-kind_of (call n) = inr (inr (inr (inr (inr (inr (inr (inr (inr (inr n)))))))))
+kind_of (call n) = inr (inr (inr (inr (inr (inr (inr (inr (inr (inr (inl n))))))))))
+kind_of (call_method m ns) = inr (inr (inr (inr (inr (inr (inr (inr (inr (inr (inr (m, ns)))))))))))
 
 -- the operators that carry nothing, in the order of their numbers
 abbrev bare : List Opr
@@ -108,7 +127,8 @@ of_kind (inr (inr (inr (inr (inr (inr (inl ns))))))) = setq ns
 of_kind (inr (inr (inr (inr (inr (inr (inr (inl p)))))))) = place p
 of_kind (inr (inr (inr (inr (inr (inr (inr (inr (inl p))))))))) = dotimes p.0 p.1
 of_kind (inr (inr (inr (inr (inr (inr (inr (inr (inr (inl bs)))))))))) = with_slots bs
-of_kind (inr (inr (inr (inr (inr (inr (inr (inr (inr (inr n)))))))))) = call n
+of_kind (inr (inr (inr (inr (inr (inr (inr (inr (inr (inr (inl n))))))))))) = call n
+of_kind (inr (inr (inr (inr (inr (inr (inr (inr (inr (inr (inr p))))))))))) = call_method p.0 p.1
 
 pub of_kind_back : (o : Opr) → of_kind (kind_of o) ≡ o
 of_kind_back no_value = refl
@@ -136,6 +156,7 @@ of_kind_back (place p) = refl
 of_kind_back (dotimes n b) = refl
 of_kind_back (with_slots bs) = refl
 of_kind_back (call n) = refl
+of_kind_back (call_method m ns) = refl
 
 abbrev pub operator_code : Coded Opr
 operator_code = code_by Kind kind_code kind_of of_kind of_kind_back

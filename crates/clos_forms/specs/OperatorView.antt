@@ -1,6 +1,7 @@
 -- The operator that an `Operator` stands for.
 use Rattle.lisp_data.specs.ValueView.{value_of}
 use Rattle.lisp_data.specs.Print.{Called, by_symbol, by_setf}
+use Rattle.clos_forms.specs.CallMethodView.{callable}
 use Rattle.clos_forms.specs.Operator.{Opr, Plc}
 use Rattle.clos_forms.specs.Operator as of
 use Rattle.clos_forms.specs.declared.operator.FunctionName as named
@@ -8,7 +9,7 @@ use Rattle.clos_forms.specs.declared.operator.FunctionName.TheVariants.{Symbol, 
 use Rattle.clos_forms.specs.declared.operator.Place as in_code
 use Rattle.clos_forms.specs.declared.operator.Place.TheVariants.{Variable as VariablePlace, SlotValue, Call as CallPlace}
 use Rattle.clos_forms.specs.declared.operator.Operator.{Operator}
-use Rattle.clos_forms.specs.declared.operator.Operator.TheVariants.{Constant, NoValue, Variable, Function, If, Cond, Clause, When, Unless, And, Or, Progn, Prog1, Let, LetInOrder, Setq, Setf, Incf, Decf, Place, Dotimes, WithSlots, CallNextMethod, NextMethodP, Call}
+use Rattle.clos_forms.specs.declared.operator.Operator.TheVariants.{Constant, NoValue, Variable, Function, If, Cond, Clause, When, Unless, And, Or, Progn, Prog1, Let, LetInOrder, Setq, Setf, Incf, Decf, Place, Dotimes, WithSlots, CallNextMethod, NextMethodP, Call, CallMethod}
 
 abbrev pub called_of : named.FunctionName → Called
 called_of (Symbol name) = by_symbol name
@@ -45,3 +46,4 @@ operator_of (WithSlots bindings) = of.with_slots bindings
 operator_of CallNextMethod = of.call_next_method
 operator_of NextMethodP = of.next_method_p
 operator_of (Call name) = of.call name
+operator_of (CallMethod method next) = of.call_method (callable method) next

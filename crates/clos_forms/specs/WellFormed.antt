@@ -3,7 +3,7 @@
 use Rattle.std.specs.Prelude.{ℕ, List, [], ◌∷◌, length, Bool, true, false, nat_le, ◌==◌, ◌&&◌, if◌then◌else◌}
 use Rattle.lisp_data.specs.Name.{Nam}
 use Rattle.clos_forms.specs.Form.{Frm, form, Frms, nil, cons, operator_in}
-use Rattle.clos_forms.specs.Operator.{Bound, Plc, variable_place, slot_value_place, call_place, Opr, constant, no_value, variable, function, if_form, cond, clause, when, unless, and_form, or_form, progn, prog1, let_form, let_in_order, setq, setf, incf, decf, place, dotimes, with_slots, call_next_method, next_method_p, call}
+use Rattle.clos_forms.specs.Operator.{Bound, Plc, variable_place, slot_value_place, call_place, Opr, constant, no_value, variable, function, if_form, cond, clause, when, unless, and_form, or_form, progn, prog1, let_form, let_in_order, setq, setf, incf, decf, place, dotimes, with_slots, call_next_method, next_method_p, call, call_method}
 use Rattle.clos_forms.specs.Part.{in_method}
 use Rattle.clos_forms.specs.declared.part.Context.{Context}
 use Rattle.clos_forms.specs.declared.part.Role.{Role}
@@ -36,6 +36,7 @@ role_of (with_slots bs) = Expression
 role_of call_next_method = Expression
 role_of next_method_p = Expression
 role_of (call n) = Expression
+role_of (call_method m ns) = Expression
 
 abbrev pub is_expression : Role → Bool
 is_expression Expression = true
@@ -136,6 +137,8 @@ takes context (with_slots bs) rs = first_if true are_expressions rs
 takes context call_next_method rs = in_method context && are_expressions rs
 takes context next_method_p rs = in_method context && none rs
 takes context (call n) rs = are_expressions rs
+-- in effective forms alone, which are not read
+takes context (call_method m ns) rs = false
 
 abbrev pub roles_of : Frms → List Role
 roles_of nil = []

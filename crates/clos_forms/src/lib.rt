@@ -4,6 +4,7 @@
 mod binding;
 mod body;
 pub mod bound;
+pub mod call_method;
 mod distinct;
 pub mod fault;
 pub mod form;
@@ -21,6 +22,7 @@ pub mod tree;
 
 pub use body::{is_declaration, is_string};
 pub use bound::{Binding, Bindings, Names, SlotBinding, SlotBindings};
+pub use call_method::{CalledMethod, NextMethods};
 pub use distinct::{are_among, are_distinct};
 pub use fault::SyntaxFault;
 pub use form::{Form, Forms};

@@ -1,6 +1,7 @@
 //! The operators of forms.
 
 use crate::bound::{Bindings, Names, SlotBindings};
+use crate::call_method::{CalledMethod, NextMethods};
 use lisp_data::{Name, Value};
 
 /// What a function is called (HyperSpec glossary, "function name").
@@ -75,4 +76,7 @@ pub enum Operator {
     NextMethodP,
     /// A call of a function: the arguments (HyperSpec 3.1.2.1.2.3).
     Call(Name),
+    /// A call of a method with its next methods, of which only effective forms are made: the forms of those that are made
+    /// (HyperSpec 7.6.6.2, 7.7 `call-method`).
+    CallMethod(CalledMethod, NextMethods),
 }

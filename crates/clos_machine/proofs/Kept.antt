@@ -43,7 +43,7 @@ use Rattle.clos_machine.specs.SystemMethods.{class_in, shared_initialized, initi
 use Rattle.clos_machine.specs.Control.{keeping, sequence, while_true, until_true, branch, followed, going, tested, clause, clauses}
 use Rattle.clos_machine.specs.Effective.{Effective, call_method, progn, prog1}
 use Rattle.clos_machine.specs.Fault.{answered}
-use Rattle.clos_machine.specs.Meaning.{acted, collect, collected, alone, setq, setf, assigned, place_in, with_amount, set_place, changed_from, changed_place, changing, changed_by, other_function, is_plain_function, symbol_function, setter_function, function_value, operated, begun, meaning, closed, evaluation, name_changed}
+use Rattle.clos_machine.specs.Meaning.{acted, collect, collected, alone, setq, setf, assigned, place_in, with_amount, set_place, changed_from, changed_place, changing, changed_by, other_function, is_plain_function, symbol_function, setter_function, function_value, operated, body, meaning, closed, evaluation, name_changed}
 use Rattle.clos_machine.specs.Objects.{designated}
 use Rattle.clos_machine.specs.Filling.{are_slot_names, Filler, nothing, initform, filler, filled, filled_with, filled_by, fill, fill_with, is_the_class, slots_left, Subject, subject_of}
 use Rattle.clos_machine.specs.Filling as filler
@@ -72,8 +72,6 @@ use Rattle.clos_machine.specs.declared.machine.Action.{Action}
 use Rattle.clos_machine.specs.declared.machine.Action.TheVariants.{Call, Set, Store, Change, NewValue, Amount, ChangePlace, Allocate, Fill, FillWith, Write, Read}
 use Rattle.clos_machine.specs.declared.machine.Control.{Control}
 use Rattle.clos_machine.specs.declared.machine.Control.TheVariants.{Progn, Prog1, If, When, Unless, And, Or}
-use Rattle.clos_machine.specs.declared.machine.Task.{Task}
-use Rattle.clos_machine.specs.declared.machine.Task.TheVariants.{Plain, Effect}
 
 pub same : (w : State) → Same w w
 same w = (refl, refl, refl, refl, refl)
@@ -87,7 +85,7 @@ Kept w (Gave v u k) = Same w u
 Kept w (Stopped c u k) = Same w u
 
 abbrev Keeps : Eval → Type 0
-Keeps ev = (env : Context) (task : Task) (w : State) (k : ℕ) → Kept w (ev env task w k)
+Keeps ev = (env : Context) (f : Frm) (w : State) (k : ℕ) → Kept w (ev env f w k)
 
 shifted : (w u : State) (o : Out) → Same w u → Kept u o → Kept w o
 shifted w u (Gave v t k) h g = same_then w u t h g
@@ -110,23 +108,23 @@ step_kept run w (suc k) h = h k
 keeping_kept : (ev : Eval) → Keeps ev → (env : Context) (fs : Frms) (v : Val) (w : State) (k : ℕ) → Kept w (keeping ev env fs v w k)
 keeping_kept ev h env nil v w k = same w
 keeping_kept ev h env (cons f fs) v w k =
-    then_kept w (ev env (Plain f) w k) (λ u. keeping ev env fs v) (h env (Plain f) w k) (λ x u j. keeping_kept ev h env fs v u j)
+    then_kept w (ev env f w k) (λ u. keeping ev env fs v) (h env f w k) (λ x u j. keeping_kept ev h env fs v u j)
 
 sequence_kept : (ev : Eval) → Keeps ev → (env : Context) (fs : Frms) (v : Val) (w : State) (k : ℕ) → Kept w (sequence ev env fs v w k)
 sequence_kept ev h env nil v w k = same w
 sequence_kept ev h env (cons f fs) v w k =
-    then_kept w (ev env (Plain f) w k) (λ u. sequence ev env fs u) (h env (Plain f) w k) (λ x u j. sequence_kept ev h env fs x u j)
+    then_kept w (ev env f w k) (λ u. sequence ev env fs u) (h env f w k) (λ x u j. sequence_kept ev h env fs x u j)
 
 while_kept : (ev : Eval) → Keeps ev → (env : Context) (fs : Frms) (v : Val) (w : State) (k : ℕ) → Kept w (while_true ev env fs v w k)
 while_kept ev h env nil v w k = same w
 while_kept ev h env (cons f fs) v w k =
-    then_kept w (ev env (Plain f) w k) (λ u t j. if is_true u then while_true ev env fs u t j else Gave u t j) (h env (Plain f) w k)
+    then_kept w (ev env f w k) (λ u t j. if is_true u then while_true ev env fs u t j else Gave u t j) (h env f w k)
     (λ x u j. choice_kept (is_true x) u (while_true ev env fs x u j) (Gave x u j) (while_kept ev h env fs x u j) (same u))
 
 until_kept : (ev : Eval) → Keeps ev → (env : Context) (fs : Frms) (v : Val) (w : State) (k : ℕ) → Kept w (until_true ev env fs v w k)
 until_kept ev h env nil v w k = same w
 until_kept ev h env (cons f fs) v w k =
-    then_kept w (ev env (Plain f) w k) (λ u t j. if is_true u then Gave u t j else until_true ev env fs u t j) (h env (Plain f) w k)
+    then_kept w (ev env f w k) (λ u t j. if is_true u then Gave u t j else until_true ev env fs u t j) (h env f w k)
     (λ x u j. choice_kept (is_true x) u (Gave x u j) (until_true ev env fs x u j) (same u) (until_kept ev h env fs x u j))
 
 abbrev none : Val
@@ -135,7 +133,7 @@ none = value.list value.nil
 branch_kept : (ev : Eval) → Keeps ev → (env : Context) (b : Bool) (fs : Frms) (w : State) (k : ℕ) → Kept w (branch ev env b fs w k)
 branch_kept ev h env b nil w k = same w
 branch_kept ev h env b (cons f fs) w k =
-    choice_kept b w (ev env (Plain f) w k) (sequence ev env fs none w k) (h env (Plain f) w k) (sequence_kept ev h env fs none w k)
+    choice_kept b w (ev env f w k) (sequence ev env fs none w k) (h env f w k) (sequence_kept ev h env fs none w k)
 
 followed_kept : (ev : Eval) → Keeps ev → (env : Context) (c : Control) (fs : Frms) (v : Val) (w : State) (k : ℕ) → Kept w (followed ev env c fs v w k)
 followed_kept ev h env Progn fs v w k = sequence_kept ev h env fs v w k
@@ -151,14 +149,14 @@ followed_kept ev h env Or fs v w k = choice_kept (is_true v) w (Gave v w k) (unt
 going_kept : (ev : Eval) → Keeps ev → (env : Context) (c : Control) (fs : Frms) (v : Val) (w : State) (k : ℕ) → Kept w (going ev env c fs v w k)
 going_kept ev h env c nil v w k = same w
 going_kept ev h env c (cons f fs) v w k =
-    then_kept w (ev env (Plain f) w k) (λ u. followed ev env c fs u) (h env (Plain f) w k) (λ x u j. followed_kept ev h env c fs x u j)
+    then_kept w (ev env f w k) (λ u. followed ev env c fs u) (h env f w k) (λ x u j. followed_kept ev h env c fs x u j)
 
 -- ---- the clauses of a cond form
 
 clause_kept : (ev : Eval) → Keeps ev → (env : Context) (fs : Frms) (rest : Run) → ((u : State) (j : ℕ) → Kept u (rest u j)) → (w : State) (k : ℕ) → Kept w (clause ev env fs rest w k)
 clause_kept ev h env nil rest g w k = same w
 clause_kept ev h env (cons f fs) rest g w k =
-    then_kept w (ev env (Plain f) w k) (λ v. tested ev env fs rest v) (h env (Plain f) w k)
+    then_kept w (ev env f w k) (λ v. tested ev env fs rest v) (h env f w k)
     (λ v u j. choice_kept (is_true v) u (sequence ev env fs v u j) (rest u j) (sequence_kept ev h env fs v u j) (g u j))
 
 clauses_kept : (ev : Eval) → Keeps ev → (env : Context) (cs : Frms) (w : State) (k : ℕ) → Kept w (clauses ev env cs w k)
@@ -171,12 +169,12 @@ clauses_kept ev h env (cons c cs) w k =
 collect_kept : (ev : Eval) → Keeps ev → (env : Context) (fs : Frms) (vs : List Val) (go : List Val → Run) → ((us : List Val) (u : State) (j : ℕ) → Kept u (go us u j)) → (w : State) (k : ℕ) → Kept w (collect ev env fs vs go w k)
 collect_kept ev h env nil vs go g w k = g vs w k
 collect_kept ev h env (cons f fs) vs go g w k =
-    then_kept w (ev env (Plain f) w k) (λ v. collect ev env fs (vs ++ v ∷ []) go) (h env (Plain f) w k)
+    then_kept w (ev env f w k) (λ v. collect ev env fs (vs ++ v ∷ []) go) (h env f w k)
     (λ v u j. collect_kept ev h env fs (vs ++ v ∷ []) go g u j)
 
-combined_kept_or : (ev : Eval) → Keeps ev → (vs : List Val) (other : Run) (o : Option Task) (w : State) (k : ℕ) → Kept w (other w k) → Kept w (combined_or ev vs other o w k)
+combined_kept_or : (ev : Eval) → Keeps ev → (vs : List Val) (other : Run) (o : Option Frm) (w : State) (k : ℕ) → Kept w (other w k) → Kept w (combined_or ev vs other o w k)
 combined_kept_or ev h vs other None w k g = g
-combined_kept_or ev h vs other (Some task) w k g = h (known vs) task w k
+combined_kept_or ev h vs other (Some f) w k g = h (known vs) f w k
 
 methods_kept : (ev : Eval) → Keeps ev → (vs : List Val) (other : Run) (g : Generic) (w : State) (k : ℕ) → Kept w (other w k) → Kept w (methods_called ev vs other g w k)
 methods_kept ev h vs other g w k e = combined_kept_or ev h vs other (combination (applicable w vs g)) w k e
@@ -207,7 +205,7 @@ parameters_kept ev h env ((x, argument v) ∷ ps) fs w k =
     binding_kept x v (parameters_run ev env ps fs) (λ u j. parameters_kept ev h env ps fs u j) w k
 parameters_kept ev h env ((x, refused c) ∷ ps) fs w k = same w
 parameters_kept ev h env ((x, init f) ∷ ps) fs w k =
-    then_kept w (ev env (Plain f) w k) (λ v. binding x v (parameters_run ev env ps fs)) (h env (Plain f) w k)
+    then_kept w (ev env f w k) (λ v. binding x v (parameters_run ev env ps fs)) (h env f w k)
     (λ v u j. binding_kept x v (parameters_run ev env ps fs) (λ t i. parameters_kept ev h env ps fs t i) u j)
 
 body_kept : (ev : Eval) → Keeps ev → (vs : List Val) (ps : Sources) (fs : Frms) (w : State) (k : ℕ) → Kept w (body_run ev vs ps fs w k)
@@ -314,7 +312,7 @@ filled_kept : (ev : Eval) → Keeps ev → (env : Context) (f : Subject) (slot :
 filled_kept ev h env f slot rest g nothing w k = g w k
 filled_kept ev h env f slot rest g (filler.value v) w k = stored_kept_then f slot rest g v w k
 filled_kept ev h env f slot rest r (initform g) w k =
-    then_kept w (ev env (Plain g) w k) (λ v. filled_with f slot rest v) (h env (Plain g) w k) (λ v u j. filled_with_kept f slot rest r v u j)
+    then_kept w (ev env g w k) (λ v. filled_with f slot rest v) (h env g w k) (λ v u j. filled_with_kept f slot rest r v u j)
 
 fill_kept : (ev : Eval) → Keeps ev → (env : Context) (f : Subject) (slots : List EffectiveSlot) (w : State) (k : ℕ) → Kept w (fill ev env f slots w k)
 fill_kept ev h env f [] w k = same w
@@ -340,7 +338,7 @@ defaulted_kept : (ev : Eval) → Keeps ev → (env : Context) (c : ℕ) (e : Who
 defaulted_kept ev h env c e [] vs w k = allocate_kept ev h env c e vs w k
 defaulted_kept ev h env c e (d ∷ ds) vs w k =
     choice_kept (is_given vs d) w (defaulted ev env c e ds vs w k) _ (defaulted_kept ev h env c e ds vs w k)
-    (then_kept w (ev env (Plain d.form) w k) (λ v. defaulted ev env c e ds (vs ++ name_value d.name ∷ v ∷ [])) (h env (Plain d.form) w k)
+    (then_kept w (ev env d.form w k) (λ v. defaulted ev env c e ds (vs ++ name_value d.name ∷ v ∷ [])) (h env d.form w k)
     (λ v u j. defaulted_kept ev h env c e ds (vs ++ name_value d.name ∷ v ∷ []) u j))
 
 making_of_kept : (ev : Eval) → Keeps ev → (vs : List Val) (c : ℕ) (o : Option Whole) (w : State) (k : ℕ) → Kept w (making_of ev vs c o w k)
@@ -390,7 +388,7 @@ left_kept m w (Stopped c u k) h = h
 
 init_kept : (ev : Eval) → Keeps ev → (env : Context) (fs : Frms) (go : Frms → Val → Run) → ((gs : Frms) (v : Val) (u : State) (j : ℕ) → Kept u (go gs v u j)) → (w : State) (k : ℕ) → Kept w (init_form ev env fs go w k)
 init_kept ev h env nil go g w k = same w
-init_kept ev h env (cons f fs) go g w k = then_kept w (ev env (Plain f) w k) (λ v. go fs v) (h env (Plain f) w k) (λ v u j. g fs v u j)
+init_kept ev h env (cons f fs) go g w k = then_kept w (ev env f w k) (λ v. go fs v) (h env f w k) (λ v u j. g fs v u j)
 
 within_kept : (ev : Eval) → Keeps ev → (env : Context) (m : ℕ) (fs : Frms) (v : Val) (w : State) (k : ℕ) → Kept w (within ev env m fs v w k)
 within_kept ev h env m fs v w k = left_kept m w (sequence ev env fs v w k) (sequence_kept ev h env fs v w k)
@@ -418,7 +416,7 @@ aside_kept ev h env m (b ∷ bs) fs ls w k =
 result_kept : (ev : Eval) → Keeps ev → (env : Context) (b : Bool) (fs : Frms) (w : State) (k : ℕ) → Kept w (result_value ev env b fs w k)
 result_kept ev h env false fs w k = same w
 result_kept ev h env true nil w k = same w
-result_kept ev h env true (cons f fs) w k = h env (Plain f) w k
+result_kept ev h env true (cons f fs) w k = h env f w k
 
 turns_kept : (ev : Eval) → Keeps ev → (env : Context) (l : Loop) (left done : ℕ) (w : State) (k : ℕ) → Kept w (turns ev env l left done w k)
 turns_kept ev h env l zero done w k =
@@ -589,36 +587,6 @@ value_kept : (c : Called) (w : State) (k : ℕ) → Kept w (function_value c w k
 value_kept (by_symbol name) w k = symbol_kept name (function_named w.generics name) w k
 value_kept (by_setf name) w k = setter_value_kept name (setter_named w.generics name) w k
 
-operated_kept : (ev : Eval) → Keeps ev → (env : Context) (o : Opr) (ps : Frms) (w : State) (k : ℕ) → Kept w (operated ev env o ps w k)
-operated_kept ev h env (of.constant v) ps w k = same w
-operated_kept ev h env of.no_value ps w k = same w
-operated_kept ev h env (of.variable name) ps w k = name_read_kept ev h env name (place_denoted w name) w k
-operated_kept ev h env (of.function c) ps w k = value_kept c w k
-operated_kept ev h env of.if_form ps w k = going_kept ev h env If ps none w k
-operated_kept ev h env of.cond ps w k = clauses_kept ev h env ps w k
-operated_kept ev h env of.clause ps w k = same w
-operated_kept ev h env of.when ps w k = going_kept ev h env When ps none w k
-operated_kept ev h env of.unless ps w k = going_kept ev h env Unless ps none w k
-operated_kept ev h env of.and_form ps w k = going_kept ev h env And ps _ w k
-operated_kept ev h env of.or_form ps w k = going_kept ev h env Or ps none w k
-operated_kept ev h env of.progn ps w k = going_kept ev h env Progn ps none w k
-operated_kept ev h env of.prog1 ps w k = going_kept ev h env Prog1 ps none w k
-operated_kept ev h env (of.let_form bs) ps w k = aside_kept ev h env (length w.locals) bs ps [] w k
-operated_kept ev h env (of.let_in_order bs) ps w k = order_kept ev h env (length w.locals) bs ps w k
-operated_kept ev h env (of.setq ns) ps w k = setq_kept ev h env ns ps none w k
-operated_kept ev h env of.setf ps w k = setf_kept ev h env ps none w k
-operated_kept ev h env of.incf ps w k = changing_kept ev h env (Number Sum) ps w k
-operated_kept ev h env of.decf ps w k = changing_kept ev h env (Number Difference) ps w k
-operated_kept ev h env (of.place p) ps w k = same w
-operated_kept ev h env (of.dotimes n b) ps w k =
-    init_kept ev h env ps (λ rest v. repeated ev env (record { outer = length w.locals; name = n; has_result = b; forms = rest }) v)
-    (λ gs v u j. repeated_kept ev h env (record { outer = length w.locals; name = n; has_result = b; forms = gs }) v u j) w k
-operated_kept ev h env (of.with_slots bs) ps w k =
-    init_kept ev h env ps (λ rest object. within_slots ev env bs rest object) (λ gs object u j. within_slots_kept ev h env bs gs object u j) w k
-operated_kept ev h env of.call_next_method ps w k = same w
-operated_kept ev h env of.next_method_p ps w k = same w
-operated_kept ev h env (of.call name) ps w k = collected_kept ev h env ps (Call name) w k
-
 -- ---- the system's methods
 
 shared_kept : (ev : Eval) → Keeps ev → (i : ℕ) (names : Val) (vs : List Val) (w : State) (k : ℕ) → Kept w (shared_initialized ev i names vs w k)
@@ -667,7 +635,7 @@ system_kept ev h SlotMissing vs w k = same w
 system_kept ev h NoApplicableMethod [] w k = same w
 system_kept ev h NoApplicableMethod (v ∷ vs) w k = same w
 
--- ---- methods and tasks
+-- ---- methods
 
 method_body_kept : (ev : Eval) → Keeps ev → (env : Context) (b : MethodBody) (w : State) (k : ℕ) → Kept w (method_body_run ev env b w k)
 method_body_kept ev h env (Forms ps fs) w k = body_kept ev h env.arguments (required_sources ps env.arguments) fs w k
@@ -679,18 +647,50 @@ method_kept : (ev : Eval) → Keeps ev → (env : Context) (o : Option Method) (
 method_kept ev h env None w k = same w
 method_kept ev h env (Some m) w k = method_body_kept ev h env m.body w k
 
-combined_kept : (ev : Eval) → Keeps ev → (env : Context) (e : Effective) (w : State) (k : ℕ) → Kept w (combined ev env e w k)
-combined_kept ev h env (call_method m ns) w k = method_kept ev h env (slice_get w.methods m) w k
-combined_kept ev h env (progn e) w k = h env (Effect e) w k
-combined_kept ev h env (prog1 e) w k = h env (Effect e) w k
+made_kept : (ev : Eval) → Keeps ev → (env : Context) (fs : Frms) (w : State) (k : ℕ) → Kept w (made_run ev env fs w k)
+made_kept ev h env nil w k = same w
+made_kept ev h env (cons f fs) w k = h env f w k
 
-begun_kept : (ev : Eval) → Keeps ev → (env : Context) (task : Task) (w : State) (k : ℕ) → Kept w (begun ev env task w k)
-begun_kept ev h env (Plain f) w k = operated_kept ev h env (operator_in f) (parts_in f) w k
-begun_kept ev h env (Effect e) w k = combined_kept ev h env e w k
+called_kept_method : (ev : Eval) → Keeps ev → (env : Context) (m : Callable) (fs : Frms) (w : State) (k : ℕ) → Kept w (method_called ev env m fs w k)
+called_kept_method ev h env (the_method m) fs w k = method_kept ev h env (slice_get w.methods m) w k
+called_kept_method ev h env made fs w k = made_kept ev h env fs w k
+
+-- ---- forms
+
+operated_kept : (ev : Eval) → Keeps ev → (env : Context) (o : Opr) (ps : Frms) (w : State) (k : ℕ) → Kept w (operated ev env o ps w k)
+operated_kept ev h env (of.constant v) ps w k = same w
+operated_kept ev h env of.no_value ps w k = same w
+operated_kept ev h env (of.variable name) ps w k = name_read_kept ev h env name (place_denoted w name) w k
+operated_kept ev h env (of.function c) ps w k = value_kept c w k
+operated_kept ev h env of.if_form ps w k = going_kept ev h env If ps none w k
+operated_kept ev h env of.cond ps w k = clauses_kept ev h env ps w k
+operated_kept ev h env of.clause ps w k = same w
+operated_kept ev h env of.when ps w k = going_kept ev h env When ps none w k
+operated_kept ev h env of.unless ps w k = going_kept ev h env Unless ps none w k
+operated_kept ev h env of.and_form ps w k = going_kept ev h env And ps _ w k
+operated_kept ev h env of.or_form ps w k = going_kept ev h env Or ps none w k
+operated_kept ev h env of.progn ps w k = going_kept ev h env Progn ps none w k
+operated_kept ev h env of.prog1 ps w k = going_kept ev h env Prog1 ps none w k
+operated_kept ev h env (of.let_form bs) ps w k = aside_kept ev h env (length w.locals) bs ps [] w k
+operated_kept ev h env (of.let_in_order bs) ps w k = order_kept ev h env (length w.locals) bs ps w k
+operated_kept ev h env (of.setq ns) ps w k = setq_kept ev h env ns ps none w k
+operated_kept ev h env of.setf ps w k = setf_kept ev h env ps none w k
+operated_kept ev h env of.incf ps w k = changing_kept ev h env (Number Sum) ps w k
+operated_kept ev h env of.decf ps w k = changing_kept ev h env (Number Difference) ps w k
+operated_kept ev h env (of.place p) ps w k = same w
+operated_kept ev h env (of.dotimes n b) ps w k =
+    init_kept ev h env ps (λ rest v. repeated ev env (record { outer = length w.locals; name = n; has_result = b; forms = rest }) v)
+    (λ gs v u j. repeated_kept ev h env (record { outer = length w.locals; name = n; has_result = b; forms = gs }) v u j) w k
+operated_kept ev h env (of.with_slots bs) ps w k =
+    init_kept ev h env ps (λ rest object. within_slots ev env bs rest object) (λ gs object u j. within_slots_kept ev h env bs gs object u j) w k
+operated_kept ev h env of.call_next_method ps w k = same w
+operated_kept ev h env of.next_method_p ps w k = same w
+operated_kept ev h env (of.call name) ps w k = collected_kept ev h env ps (Call name) w k
+operated_kept ev h env (of.call_method m ns) ps w k = called_kept_method ev h env m ps w k
 
 meaning_kept : (n : ℕ) → Keeps (meaning n)
-meaning_kept zero env task w k = step_kept (stopped DepthLimit []) w k (λ j. same w)
-meaning_kept (suc n) env task w k = step_kept (begun (meaning n) env task) w k (λ j. begun_kept (meaning n) (meaning_kept n) env task w j)
+meaning_kept zero env f w k = step_kept (stopped DepthLimit []) w k (λ j. same w)
+meaning_kept (suc n) env f w k = step_kept (body (meaning n) env f) w k (λ j. operated_kept (meaning n) (meaning_kept n) env (operator_in f) (parts_in f) w j)
 
 closed_kept : (w : State) (o : Out) → Kept w o → Kept w (closed o)
 closed_kept w (Gave v u k) h = h
@@ -698,4 +698,4 @@ closed_kept w (Stopped c u k) h = h
 
 pub evaluation_kept : (room : ℕ) (f : Frm) (w : State) (k : ℕ) → Kept w (evaluation room f w k)
 evaluation_kept room f w k =
-    closed_kept w (meaning room (known []) (Plain f) (unbound w) k) (meaning_kept room (known []) (Plain f) (unbound w) k)
+    closed_kept w (meaning room (known []) f (unbound w) k) (meaning_kept room (known []) f (unbound w) k)

@@ -70,23 +70,21 @@ use Rattle.clos_machine.specs.declared.machine.Frame.TheVariants.{Rest, Keep, Cl
 use Rattle.clos_machine.specs.declared.machine.Level.{Level}
 use Rattle.clos_machine.specs.declared.machine.Machine.{Machine}
 use Rattle.clos_machine.specs.declared.machine.Repetition.{Repetition}
-use Rattle.clos_machine.specs.declared.machine.Task.{Task}
-use Rattle.clos_machine.specs.declared.machine.Task.TheVariants.{Plain}
 
 -- where the outcome leaves the world
 abbrev Quiet : Out → State → Type 0
 Quiet o w = leaves (closed o) (unbound w) 0
 
--- no step is left for a task
-pub no_step : (n : ℕ) (env : Context) (task : Task) (w : State) → meaning n env task w 0 ≡ stopped StepLimit [] w 0
-no_step zero env task w = refl
-no_step (suc n) env task w = refl
+-- no step is left for a f
+pub no_step : (n : ℕ) (env : Context) (f : Frm) (w : State) → meaning n env f w 0 ≡ stopped StepLimit [] w 0
+no_step zero env f w = refl
+no_step (suc n) env f w = refl
 
-task_quiet : (n : ℕ) (env : Context) (task : Task) (w : State) → leaves (closed (meaning n env task w 0)) (unbound w) 0
-task_quiet n env task w = subst (λ o. leaves (closed o) (unbound w) 0) (sym (no_step n env task w)) (refl, refl)
+task_quiet : (n : ℕ) (env : Context) (f : Frm) (w : State) → leaves (closed (meaning n env f w 0)) (unbound w) 0
+task_quiet n env f w = subst (λ o. leaves (closed o) (unbound w) 0) (sym (no_step n env f w)) (refl, refl)
 
-then_quiet : (n : ℕ) (env : Context) (task : Task) (go : Val → Run) (w : State) → leaves (closed (then_do (meaning n env task w 0) go)) (unbound w) 0
-then_quiet n env task go w = subst (λ o. leaves (closed (then_do o go)) (unbound w) 0) (sym (no_step n env task w)) (refl, refl)
+then_quiet : (n : ℕ) (env : Context) (f : Frm) (go : Val → Run) (w : State) → leaves (closed (then_do (meaning n env f w 0) go)) (unbound w) 0
+then_quiet n env f go w = subst (λ o. leaves (closed (then_do o go)) (unbound w) 0) (sym (no_step n env f w)) (refl, refl)
 
 choice_quiet : (b : Bool) (x y : Out) (w : State) → leaves (closed x) (unbound w) 0 → leaves (closed y) (unbound w) 0 → leaves (closed (if b then x else y)) (unbound w) 0
 choice_quiet true x y w p q = p
@@ -96,9 +94,9 @@ choice_quiet false x y w p q = q
 abbrev Halts : State → Out → Type 0
 Halts w o = (c : Condition) × (o ≡ Stopped c w 0)
 
-halts : (n : ℕ) (env : Context) (task : Task) (go : Val → Run) (w : State) → Halts w (then_do (meaning n env task w 0) go)
-halts n env task go w =
-    subst (λ o. Halts w (then_do o go)) (sym (no_step n env task w)) (record { kind = StepLimit; items = [] }, refl)
+halts : (n : ℕ) (env : Context) (f : Frm) (go : Val → Run) (w : State) → Halts w (then_do (meaning n env f w 0) go)
+halts n env f go w =
+    subst (λ o. Halts w (then_do o go)) (sym (no_step n env f w)) (record { kind = StepLimit; items = [] }, refl)
 
 halted : (o : Out) (go : Val → Run) (w : State) → Halts w o → Quiet (then_do o go) w
 halted o go w h = subst (λ x. Quiet (then_do x go) w) (sym h.1) (refl, refl)
@@ -114,9 +112,9 @@ follows_quiet (Stopped c u k) go w h g = h
 follows_quiet (Gave v u k) go w h g =
     subst (λ x. leaves (closed (go v u k)) x 0) h.0 (subst (λ j. leaves (closed (go v u j)) (unbound u) 0) (sym h.1) (g v u))
 
-combined_quiet : (n : ℕ) (vs : List Val) (other : Run) (o : Option Task) (w : State) → Quiet (other w 0) w → Quiet (combined_or (meaning n) vs other o w 0) w
+combined_quiet : (n : ℕ) (vs : List Val) (other : Run) (o : Option Frm) (w : State) → Quiet (other w 0) w → Quiet (combined_or (meaning n) vs other o w 0) w
 combined_quiet n vs other None w h = h
-combined_quiet n vs other (Some task) w h = task_quiet n (known vs) task w
+combined_quiet n vs other (Some f) w h = task_quiet n (known vs) f w
 
 methods_quiet : (n : ℕ) (vs : List Val) (other : Run) (g : Generic) (w : State) → Quiet (other w 0) w → Quiet (methods_called (meaning n) vs other g w 0) w
 methods_quiet n vs other g w h = combined_quiet n vs other (combination (applicable w vs g)) w h
@@ -136,7 +134,7 @@ invoked_quiet n f vs w = generic_quiet n vs (system_number f) (slice_get w.gener
 
 sequence_quiet : (n : ℕ) (env : Context) (fs : Frms) (v : Val) (w : State) → Quiet (sequence (meaning n) env fs v w 0) w
 sequence_quiet n env nil v w = (refl, refl)
-sequence_quiet n env (cons f fs) v w = then_quiet n env (Plain f) (λ u. sequence (meaning n) env fs u) w
+sequence_quiet n env (cons f fs) v w = then_quiet n env f (λ u. sequence (meaning n) env fs u) w
 
 restored_quiet : (l : List Local) (o : Out) (w : State) → Quiet o w → Quiet (then_do o (restoring l)) w
 restored_quiet l (Gave v u k) w h = h
@@ -149,7 +147,7 @@ parameters_quiet : (n : ℕ) (env : Context) (ps : Sources) (fs : Frms) (w : Sta
 parameters_quiet n env [] fs w = sequence_quiet n env fs (value.list value.nil) w
 parameters_quiet n env ((x, argument v) ∷ ps) fs w = binding_quiet x v (parameters_run (meaning n) env ps fs) w (λ u. parameters_quiet n env ps fs u)
 parameters_quiet n env ((x, refused c) ∷ ps) fs w = (refl, refl)
-parameters_quiet n env ((x, init f) ∷ ps) fs w = then_quiet n env (Plain f) (λ v. binding x v (parameters_run (meaning n) env ps fs)) w
+parameters_quiet n env ((x, init f) ∷ ps) fs w = then_quiet n env f (λ v. binding x v (parameters_run (meaning n) env ps fs)) w
 
 body_quiet : (n : ℕ) (vs : List Val) (ps : Sources) (fs : Frms) (w : State) → Quiet (body_run (meaning n) vs ps fs w 0) w
 body_quiet n vs ps fs w =
@@ -251,7 +249,7 @@ filled_quiet : (n : ℕ) (env : Context) (f : Subject) (slot : EffectiveSlot) (r
     → Quiet (filled_by (meaning n) env f slot rest x w 0) w
 filled_quiet n env f slot rest nothing w h = h
 filled_quiet n env f slot rest (filler.value v) w h = (refl, refl)
-filled_quiet n env f slot rest (initform g) w h = then_quiet n env (Plain g) (λ v. filled_with f slot rest v) w
+filled_quiet n env f slot rest (initform g) w h = then_quiet n env g (λ v. filled_with f slot rest v) w
 
 fill_quiet : (n : ℕ) (env : Context) (f : Subject) (slots : List EffectiveSlot) (w : State) → Quiet (fill (meaning n) env f slots w 0) w
 fill_quiet n env f [] w = (refl, refl)
@@ -269,7 +267,7 @@ defaulted_quiet : (n : ℕ) (env : Context) (c : ℕ) (e : Whole) (ds : List Def
 defaulted_quiet n env c e [] vs w = allocate_quiet n env c e vs w
 defaulted_quiet n env c e (d ∷ ds) vs w =
     choice_quiet (is_given vs d) (defaulted (meaning n) env c e ds vs w 0) _ w (defaulted_quiet n env c e ds vs w)
-    (then_quiet n env (Plain d.form) (λ v. defaulted (meaning n) env c e ds (vs ++ name_value d.name ∷ v ∷ [])) w)
+    (then_quiet n env d.form (λ v. defaulted (meaning n) env c e ds (vs ++ name_value d.name ∷ v ∷ [])) w)
 
 default_given_quiet : (n : ℕ) (env : Context) (c : ℕ) (e : Whole) (ds : List DefaultInitarg) (vs : List Val) (v : Val) (w : State)
     → Quiet (default_given (meaning n) env c e ds vs v w 0) w
@@ -358,7 +356,7 @@ amount_quiet : (n : ℕ) (env : Context) (p : of_values.Primitive) (t : Target) 
     → Quiet (with_amount (meaning n) env fs vs (λ us u k. changed_place (meaning n) env p t (last_first us) u k) w 0) w
 amount_quiet n env p t nil vs w = change_place_quiet n env p t (last_first (vs ++ value.integer (pos 1) ∷ [])) w
 amount_quiet n env p t (cons f fs) vs w =
-    then_quiet n env (Plain f) (λ v. collect (meaning n) env fs (vs ++ v ∷ []) (λ us u k. changed_place (meaning n) env p t (last_first us) u k)) w
+    then_quiet n env f (λ v. collect (meaning n) env fs (vs ++ v ∷ []) (λ us u k. changed_place (meaning n) env p t (last_first us) u k)) w
 
 -- ---- names
 
@@ -379,7 +377,7 @@ acted_quiet n env (Set t) vs w = set_quiet n env t vs w
 acted_quiet n env (Store name) vs w = name_set_quiet n env name (place_denoted w name) vs w
 acted_quiet n env (Change p name) vs w = name_changed_quiet n env p name (place_denoted w name) vs w
 acted_quiet n env (NewValue t f) vs w =
-    then_quiet n env (Plain f) (λ v. collect (meaning n) env nil (vs ++ v ∷ []) (λ us u k. place_set (meaning n) env t us u k)) w
+    then_quiet n env f (λ v. collect (meaning n) env nil (vs ++ v ∷ []) (λ us u k. place_set (meaning n) env t us u k)) w
 acted_quiet n env (Amount p t fs) vs w = amount_quiet n env p t fs vs w
 acted_quiet n env (ChangePlace p t) vs w = change_place_quiet n env p t (last_first vs) w
 acted_quiet n env (Allocate c e) vs w = allocate_quiet n env c.0 e vs w
@@ -390,22 +388,22 @@ acted_quiet n env (Read t) vs w = read_quiet n env t vs w
 
 collect_quiet : (n : ℕ) (env : Context) (fs : Frms) (vs : List Val) (a : Action) (w : State) → Quiet (collect (meaning n) env fs vs (acted (meaning n) env a) w 0) w
 collect_quiet n env nil vs a w = acted_quiet n env a vs w
-collect_quiet n env (cons f fs) vs a w = then_quiet n env (Plain f) (λ v. collect (meaning n) env fs (vs ++ v ∷ []) (acted (meaning n) env a)) w
+collect_quiet n env (cons f fs) vs a w = then_quiet n env f (λ v. collect (meaning n) env fs (vs ++ v ∷ []) (acted (meaning n) env a)) w
 
 setq_quiet : (n : ℕ) (env : Context) (ns : List Nam) (fs : Frms) (v : Val) (w : State) → Quiet (setq (meaning n) env ns fs v w 0) w
 setq_quiet n env [] fs v w = (refl, refl)
 setq_quiet n env (x ∷ ns) nil v w = (refl, refl)
 setq_quiet n env (x ∷ ns) (cons f fs) v w =
     halted (collected (meaning n) env (alone f) (Store x) w 0) (λ u. setq (meaning n) env ns fs u) w
-    (halts n env (Plain f) (λ v. collect (meaning n) env nil (v ∷ []) (acted (meaning n) env (Store x))) w)
+    (halts n env f (λ v. collect (meaning n) env nil (v ∷ []) (acted (meaning n) env (Store x))) w)
 
 placed_halts : (n : ℕ) (env : Context) (t : Target) (ps : Frms) (f : Frm) (w : State) → Halts w (collected (meaning n) env ps (NewValue t f) w 0)
-placed_halts n env t nil f w = halts n env (Plain f) (λ v. collect (meaning n) env nil (v ∷ []) (λ us u k. place_set (meaning n) env t us u k)) w
-placed_halts n env t (cons p ps) f w = halts n env (Plain p) (λ v. collect (meaning n) env ps (v ∷ []) (acted (meaning n) env (NewValue t f))) w
+placed_halts n env t nil f w = halts n env f (λ v. collect (meaning n) env nil (v ∷ []) (λ us u k. place_set (meaning n) env t us u k)) w
+placed_halts n env t (cons p ps) f w = halts n env p (λ v. collect (meaning n) env ps (v ∷ []) (acted (meaning n) env (NewValue t f))) w
 
 assigned_halts : (n : ℕ) (env : Context) (o : Option Plc) (ps : Frms) (f : Frm) (w : State) → Halts w (assigned (meaning n) env o ps f w 0)
 assigned_halts n env None ps f w = (_, refl)
-assigned_halts n env (Some (variable_place x)) ps f w = halts n env (Plain f) (λ v. collect (meaning n) env nil (v ∷ []) (acted (meaning n) env (Store x))) w
+assigned_halts n env (Some (variable_place x)) ps f w = halts n env f (λ v. collect (meaning n) env nil (v ∷ []) (acted (meaning n) env (Store x))) w
 assigned_halts n env (Some slot_value_place) ps f w = placed_halts n env target.SlotValue ps f w
 assigned_halts n env (Some (call_place x)) ps f w = placed_halts n env (target.Call x) ps f w
 
@@ -420,19 +418,19 @@ setf_quiet n env (cons p (cons f fs)) v w =
 
 while_quiet : (n : ℕ) (env : Context) (fs : Frms) (v : Val) (w : State) → leaves (closed (while_true (meaning n) env fs v w 0)) (unbound w) 0
 while_quiet n env nil v w = (refl, refl)
-while_quiet n env (cons f fs) v w = then_quiet n env (Plain f) (λ u t k. if is_true u then while_true (meaning n) env fs u t k else Gave u t k) w
+while_quiet n env (cons f fs) v w = then_quiet n env f (λ u t k. if is_true u then while_true (meaning n) env fs u t k else Gave u t k) w
 
 until_quiet : (n : ℕ) (env : Context) (fs : Frms) (v : Val) (w : State) → leaves (closed (until_true (meaning n) env fs v w 0)) (unbound w) 0
 until_quiet n env nil v w = (refl, refl)
-until_quiet n env (cons f fs) v w = then_quiet n env (Plain f) (λ u t k. if is_true u then Gave u t k else until_true (meaning n) env fs u t k) w
+until_quiet n env (cons f fs) v w = then_quiet n env f (λ u t k. if is_true u then Gave u t k else until_true (meaning n) env fs u t k) w
 
 keeping_quiet : (n : ℕ) (env : Context) (fs : Frms) (v : Val) (w : State) → leaves (closed (keeping (meaning n) env fs v w 0)) (unbound w) 0
 keeping_quiet n env nil v w = (refl, refl)
-keeping_quiet n env (cons f fs) v w = then_quiet n env (Plain f) (λ u. keeping (meaning n) env fs v) w
+keeping_quiet n env (cons f fs) v w = then_quiet n env f (λ u. keeping (meaning n) env fs v) w
 
 branch_quiet : (n : ℕ) (env : Context) (b : Bool) (fs : Frms) (w : State) → leaves (closed (branch (meaning n) env b fs w 0)) (unbound w) 0
 branch_quiet n env b nil w = (refl, refl)
-branch_quiet n env true (cons f fs) w = task_quiet n env (Plain f) w
+branch_quiet n env true (cons f fs) w = task_quiet n env f w
 branch_quiet n env false (cons f fs) w = sequence_quiet n env fs (value.list value.nil) w
 
 followed_quiet : (n : ℕ) (env : Context) (c : Control) (fs : Frms) (v : Val) (w : State) → leaves (closed (followed (meaning n) env c fs v w 0)) (unbound w) 0
@@ -448,7 +446,7 @@ followed_quiet n env Or fs v w = choice_quiet (is_true v) _ (until_true (meaning
 
 clause_quiet : (n : ℕ) (env : Context) (fs : Frms) (rest : Run) (w : State) → leaves (closed (clause (meaning n) env fs rest w 0)) (unbound w) 0
 clause_quiet n env nil rest w = (refl, refl)
-clause_quiet n env (cons f fs) rest w = then_quiet n env (Plain f) (λ v. tested (meaning n) env fs rest v) w
+clause_quiet n env (cons f fs) rest w = then_quiet n env f (λ v. tested (meaning n) env fs rest v) w
 
 clauses_quiet : (n : ℕ) (env : Context) (cs : Frms) (w : State) → leaves (closed (clauses (meaning n) env cs w 0)) (unbound w) 0
 clauses_quiet n env nil w = (refl, refl)
@@ -466,7 +464,7 @@ left_quiet m (Stopped c u k) w h = h
 
 init_quiet : (n : ℕ) (env : Context) (fs : Frms) (go : Frms → Val → Run) (w : State) → leaves (closed (init_form (meaning n) env fs go w 0)) (unbound w) 0
 init_quiet n env nil go w = (refl, refl)
-init_quiet n env (cons f fs) go w = then_quiet n env (Plain f) (λ v. go fs v) w
+init_quiet n env (cons f fs) go w = then_quiet n env f (λ v. go fs v) w
 
 within_quiet : (n : ℕ) (env : Context) (m : ℕ) (fs : Frms) (v : Val) (w : State) → Quiet (within (meaning n) env m fs v w 0) w
 within_quiet n env m fs v w = left_quiet m (sequence (meaning n) env fs v w 0) w (sequence_quiet n env fs v w)
@@ -496,7 +494,7 @@ within_slots_quiet n env bs fs object w = within_quiet n env (length w.locals) f
 result_quiet : (n : ℕ) (env : Context) (b : Bool) (fs : Frms) (w : State) → Quiet (result_value (meaning n) env b fs w 0) w
 result_quiet n env false fs w = (refl, refl)
 result_quiet n env true nil w = (refl, refl)
-result_quiet n env true (cons f fs) w = task_quiet n env (Plain f) w
+result_quiet n env true (cons f fs) w = task_quiet n env f w
 
 turns_quiet : (n : ℕ) (env : Context) (l : Loop) (left done : ℕ) (w : State) → Quiet (turns (meaning n) env l left done w 0) w
 turns_quiet n env l zero done w =
@@ -518,7 +516,7 @@ turn_quiet : (n : ℕ) (env : Context) (l : Loop) (left done : ℕ) (fs : Frms) 
     → Quiet (then_do (sequence (meaning n) env fs v w 0) (λ u. turns (meaning n) env l left done)) w
 turn_quiet n env l left done nil v w = turns_quiet n env l left done w
 turn_quiet n env l left done (cons f fs) v w =
-    halted (sequence (meaning n) env (cons f fs) v w 0) (λ u. turns (meaning n) env l left done) w (halts n env (Plain f) (λ u. sequence (meaning n) env fs u) w)
+    halted (sequence (meaning n) env (cons f fs) v w 0) (λ u. turns (meaning n) env l left done) w (halts n env f (λ u. sequence (meaning n) env fs u) w)
 
 -- ---- frames
 
@@ -571,14 +569,14 @@ loop_quiet m l counter w =
     resume_quiet m.levels m.context (turns (meaning m.room) m.context (loop_of l) counter.0 counter.1 (at m w) 0) (at m w)
     (turns_quiet m.room m.context (loop_of l) counter.0 counter.1 (at m w))
 
--- where the machine starts a task, or gives a value
-pub start_quiet : (m : Machine) (task : Task) (w : State) → leaves (denote m (Start task) w 0) (unbound w) 0
-start_quiet m task w =
-    resume_quiet m.levels m.context (meaning m.room m.context task (at m w) 0) (at m w) (task_quiet m.room m.context task (at m w))
+-- where the machine starts a f, or gives a value
+pub start_quiet : (m : Machine) (f : Frm) (w : State) → leaves (denote m (Start f) w 0) (unbound w) 0
+start_quiet m f w =
+    resume_quiet m.levels m.context (meaning m.room m.context f (at m w) 0) (at m w) (task_quiet m.room m.context f (at m w))
 
 pub frame_quiet : (ls : List Level) (n : ℕ) (env below_it : Context) (f : Frame) (v : Val) (w : State)
     → leaves (closed (resume ls below_it (after (meaning n) env f v w 0))) (unbound w) 0
 frame_quiet ls n env below_it f v w = resume_quiet ls below_it (after (meaning n) env f v w 0) w (after_quiet n env f v w)
 
-pub evaluation_quiet : (n : ℕ) (env : Context) (task : Task) (w : State) → leaves (closed (meaning n env task w 0)) (unbound w) 0
+pub evaluation_quiet : (n : ℕ) (env : Context) (f : Frm) (w : State) → leaves (closed (meaning n env f w 0)) (unbound w) 0
 evaluation_quiet = task_quiet

@@ -15,6 +15,7 @@ use Rattle.lisp_prims.specs.declared.fault.PrimFault.TheVariants.{Memory}
 use Rattle.clos_forms.specs.Quotation.{name_value}
 use Rattle.clos_world.specs.Globals.{is_global}
 use Rattle.clos_machine.specs.Assignment.{stored, stored_globally, stored_only, made_of, changed, changed_only, global_set}
+use Rattle.clos_forms.specs.Form.{Frm}
 use Rattle.clos_world.specs.World.{State, unbound}
 use Rattle.clos_world.specs.declared.condition.Condition.{Condition}
 use Rattle.clos_world.specs.declared.condition.ConditionKind.TheVariants.{ProgramError, UnboundVariable, StepLimit, DepthLimit}
@@ -22,7 +23,7 @@ use Rattle.clos_world.specs.declared.condition.Stop.{Stop}
 use Rattle.clos_world.specs.declared.condition.Stop.TheVariants.{Refused, Storage}
 use Rattle.clos_machine.specs.Fault.{Signals, answered}
 use Rattle.clos_machine.specs.Machine.{at, resume, inside, denote, given_to, leaves, Leads, Turns, Becomes, Changes, Answers, Reached}
-use Rattle.clos_machine.specs.Meaning.{closed, meaning, begun}
+use Rattle.clos_machine.specs.Meaning.{closed, meaning, body}
 use Rattle.clos_machine.specs.Control.{sequence}
 use Rattle.clos_machine.specs.Variables.{Loop, body_of, counted, found_value, variable_value, leaving, result_value, turns}
 use Rattle.clos_machine.specs.Outcome.{Gave, Stopped, Run, Eval, then_do, step_then, stopped}
@@ -33,7 +34,6 @@ use Rattle.clos_machine.specs.declared.machine.Doing.{Doing}
 use Rattle.clos_machine.specs.declared.machine.Doing.TheVariants.{Start, Give}
 use Rattle.clos_machine.specs.declared.machine.Level.{Level}
 use Rattle.clos_machine.specs.declared.machine.Machine.{Machine}
-use Rattle.clos_machine.specs.declared.machine.Task.{Task}
 use Rattle.clos_world.specs.declared.functions.Function.{Function}
 use Rattle.clos_machine.specs.Bodies.{body_run}
 use Rattle.clos_machine.specs.Calls.{applied_to}
@@ -113,37 +113,37 @@ not_computed m m' x f Storage w a h k = tt
 not_computed m m' x f (Refused d) w a h k = λ t.
     ap (λ o. closed (resume m.levels m.context o)) (not_made x f (Refused d) (at m w) a h k t) ∙ stopped_through m.levels m.context d (at m w) t
 
--- ---- a task begins
+-- ---- a f begins
 
-pub start_no_step : (m : Machine) (task : Task) (w : State) (s : ℕ) → s ≡ 0 → denote m (Start task) w s ≡ stopped StepLimit [] (unbound w) s
-start_no_step m task w s e =
-    ap (denote m (Start task) w) e ∙ ap (λ o. closed (resume m.levels m.context o)) (no_step m.room m.context task (at m w))
+pub start_no_step : (m : Machine) (f : Frm) (w : State) (s : ℕ) → s ≡ 0 → denote m (Start f) w s ≡ stopped StepLimit [] (unbound w) s
+start_no_step m f w s e =
+    ap (denote m (Start f) w) e ∙ ap (λ o. closed (resume m.levels m.context o)) (no_step m.room m.context f (at m w))
     ∙ stopped_through m.levels m.context (record { kind = StepLimit; items = [] }) (at m w) 0 ∙ ap (stopped StepLimit [] (unbound w)) (sym e)
 
-too_deep : (n : ℕ) (env : Context) (task : Task) (w : State) (s : ℕ) → n ≡ 0 → 0 < s → meaning n env task w s ≡ stopped DepthLimit [] w (s - 1)
-too_deep n env task w zero e h = absurd (omega arith)
-too_deep zero env task w (suc s) e h = ap (stopped DepthLimit [] w) (omega arith)
-too_deep (suc n) env task w (suc s) e h = absurd (omega arith)
+too_deep : (n : ℕ) (env : Context) (f : Frm) (w : State) (s : ℕ) → n ≡ 0 → 0 < s → meaning n env f w s ≡ stopped DepthLimit [] w (s - 1)
+too_deep n env f w zero e h = absurd (omega arith)
+too_deep zero env f w (suc s) e h = ap (stopped DepthLimit [] w) (omega arith)
+too_deep (suc n) env f w (suc s) e h = absurd (omega arith)
 
-pub start_too_deep : (m : Machine) (task : Task) (w : State) (s : ℕ) → m.room ≡ 0 → 0 < s → denote m (Start task) w s ≡ stopped DepthLimit [] (unbound w) (s - 1)
-start_too_deep m task w s e h =
-    ap (λ o. closed (resume m.levels m.context o)) (too_deep m.room m.context task (at m w) s e h)
+pub start_too_deep : (m : Machine) (f : Frm) (w : State) (s : ℕ) → m.room ≡ 0 → 0 < s → denote m (Start f) w s ≡ stopped DepthLimit [] (unbound w) (s - 1)
+start_too_deep m f w s e h =
+    ap (λ o. closed (resume m.levels m.context o)) (too_deep m.room m.context f (at m w) s e h)
     ∙ stopped_through m.levels m.context (record { kind = DepthLimit; items = [] }) (at m w) (s - 1)
 
-begins : (n : ℕ) (env : Context) (task : Task) (w : State) (s : ℕ) → 0 < n → 0 < s → meaning n env task w s ≡ begun (meaning (n - 1)) env task w (s - 1)
-begins n env task w zero h k = absurd (omega arith)
-begins zero env task w (suc s) h k = absurd (omega arith)
-begins (suc n) env task w (suc s) h k =
-    ap (λ j. begun (meaning j) env task w s) (omega arith) ∙ ap (begun (meaning (suc n - 1)) env task w) (omega arith)
+begins : (n : ℕ) (env : Context) (f : Frm) (w : State) (s : ℕ) → 0 < n → 0 < s → meaning n env f w s ≡ body (meaning (n - 1)) env f w (s - 1)
+begins n env f w zero h k = absurd (omega arith)
+begins zero env f w (suc s) h k = absurd (omega arith)
+begins (suc n) env f w (suc s) h k =
+    ap (λ j. body (meaning j) env f w s) (omega arith) ∙ ap (body (meaning (suc n - 1)) env f w) (omega arith)
 
-pub start_begins : (ls : List Level) (n : ℕ) (env : Context) (task : Task) (w : State) (s : ℕ) → 0 < n → 0 < s
-    → closed (resume ls env (meaning n env task w s)) ≡ closed (resume ls env (begun (meaning (n - 1)) env task w (s - 1)))
-start_begins ls n env task w s h k = ap (λ o. closed (resume ls env o)) (begins n env task w s h k)
+pub start_begins : (ls : List Level) (n : ℕ) (env : Context) (f : Frm) (w : State) (s : ℕ) → 0 < n → 0 < s
+    → closed (resume ls env (meaning n env f w s)) ≡ closed (resume ls env (body (meaning (n - 1)) env f w (s - 1)))
+start_begins ls n env f w s h k = ap (λ o. closed (resume ls env o)) (begins n env f w s h k)
 
-pub start_begins_at : (ls : List Level) (n : ℕ) (env : Context) (task : Task) (w : State) (t : ℕ) → 0 < n
-    → closed (resume ls env (meaning n env task w (1 + t))) ≡ closed (resume ls env (begun (meaning (n - 1)) env task w t))
-start_begins_at ls n env task w t h =
-    start_begins ls n env task w (1 + t) h (omega arith) ∙ ap (λ k. closed (resume ls env (begun (meaning (n - 1)) env task w k))) (omega arith)
+pub start_begins_at : (ls : List Level) (n : ℕ) (env : Context) (f : Frm) (w : State) (t : ℕ) → 0 < n
+    → closed (resume ls env (meaning n env f w (1 + t))) ≡ closed (resume ls env (body (meaning (n - 1)) env f w t))
+start_begins_at ls n env f w t h =
+    start_begins ls n env f w (1 + t) h (omega arith) ∙ ap (λ k. closed (resume ls env (body (meaning (n - 1)) env f w k))) (omega arith)
 
 -- ---- a run
 

@@ -9,7 +9,6 @@ use Rattle.clos_machine.specs.Outcome.{Gave, Stopped, Run, Eval, then_do}
 use Rattle.clos_machine.specs.Parameters.{Source, Sources, argument, refused, init}
 use Rattle.clos_machine.specs.Variables.{binding}
 use Rattle.clos_machine.specs.declared.arguments.Context.{Context}
-use Rattle.clos_machine.specs.declared.machine.Task.TheVariants.{Plain}
 
 -- with these variables and no others; those from before come back
 abbrev pub restoring : List Local → Val → Run
@@ -22,7 +21,7 @@ scoped run locals w s = then_do (run (bound_as locals w) s) (restoring w.locals)
 abbrev pub source_value : Eval → Context → Source → Run
 source_value ev env (argument v) w s = Gave v w s
 source_value ev env (refused c) w s = Stopped c w s
-source_value ev env (init f) w s = ev env (Plain f) w s
+source_value ev env (init f) w s = ev env f w s
 
 -- Each parameter is bound before the next, but never a global variable; then the body.
 abbrev pub parameters_run : Eval → Context → Sources → Frms → Run

@@ -2,6 +2,8 @@
 use Rattle.std.specs.Prelude.{ℕ, List, [], ◌∷◌, Option, Some, None, if◌then◌else◌, slice_get}
 use Rattle.lisp_data.specs.Name.{Nam}
 use Rattle.lisp_data.specs.Value.{Val}
+use Rattle.clos_forms.specs.Form.{Frms, nil, cons}
+use Rattle.clos_forms.specs.Operator.{Callable, the_method, made}
 use Rattle.clos_forms.specs.Quotation.{name_value}
 use Rattle.clos_world.specs.FunctionName.{setter_value}
 use Rattle.clos_world.specs.Functions.{function_in}
@@ -14,13 +16,11 @@ use Rattle.clos_world.specs.declared.generic.MethodBody.{MethodBody}
 use Rattle.clos_world.specs.declared.generic.MethodBody.TheVariants.{Forms, Reader, Writer, System}
 use Rattle.clos_machine.specs.Accessors.{read_by, written_by}
 use Rattle.clos_machine.specs.Bodies.{body_run}
-use Rattle.clos_machine.specs.Effective.{Effective, call_method, progn, prog1}
 use Rattle.clos_machine.specs.GenericCalls.{called_generic}
 use Rattle.clos_machine.specs.Outcome.{Run, Eval, stopped}
 use Rattle.clos_machine.specs.Parameters.{fits, required_sources, sources}
 use Rattle.clos_machine.specs.SystemMethods.{system_method_run}
 use Rattle.clos_machine.specs.declared.arguments.Context.{Context}
-use Rattle.clos_machine.specs.declared.machine.Task.TheVariants.{Effect}
 
 -- ---- functions of the program's
 
@@ -51,10 +51,14 @@ abbrev pub method_run : Eval → Context → Option Method → Run
 method_run ev env None w s = stopped ProgramError [] w s
 method_run ev env (Some m) w s = method_body_run ev env m.body w s
 
-abbrev pub combined : Eval → Context → Effective → Run
-combined ev env (call_method m ns) w s = method_run ev env (slice_get w.methods m) w s
-combined ev env (progn e) w s = ev env (Effect e) w s
-combined ev env (prog1 e) w s = ev env (Effect e) w s
+-- call-method: a method, or a form of which one is made, with the arguments of the effective form
+abbrev pub made_run : Eval → Context → Frms → Run
+made_run ev env nil w s = stopped ProgramError [] w s
+made_run ev env (cons f fs) w s = ev env f w s
+
+abbrev pub method_called : Eval → Context → Callable → Frms → Run
+method_called ev env (the_method m) fs w s = method_run ev env (slice_get w.methods m) w s
+method_called ev env made fs w s = made_run ev env fs w s
 
 -- ---- functions (setf name): the new value is their first argument, though it is evaluated last
 

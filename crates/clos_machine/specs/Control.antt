@@ -7,34 +7,33 @@ use Rattle.clos_machine.specs.Outcome.{Gave, Run, Eval, then_do, is_true}
 use Rattle.clos_machine.specs.declared.arguments.Context.{Context}
 use Rattle.clos_machine.specs.declared.machine.Control.{Control}
 use Rattle.clos_machine.specs.declared.machine.Control.TheVariants.{Progn, Prog1, If, When, Unless, And, Or}
-use Rattle.clos_machine.specs.declared.machine.Task.TheVariants.{Plain}
 
 -- ---- forms one after another (5.3): progn, and what goes on only where values are true or false
 
 -- this value, after these forms
 abbrev pub keeping : Eval → Context → Frms → Val → Run
 keeping ev env form.nil v w s = Gave v w s
-keeping ev env (form.cons f fs) v w s = then_do (ev env (Plain f) w s) (λ u. keeping ev env fs v)
+keeping ev env (form.cons f fs) v w s = then_do (ev env f w s) (λ u. keeping ev env fs v)
 
 -- the value of the last of these forms, or this one
 abbrev pub sequence : Eval → Context → Frms → Val → Run
 sequence ev env form.nil v w s = Gave v w s
-sequence ev env (form.cons f fs) v w s = then_do (ev env (Plain f) w s) (λ u. sequence ev env fs u)
+sequence ev env (form.cons f fs) v w s = then_do (ev env f w s) (λ u. sequence ev env fs u)
 
 -- the same, but a value that is not true ends it
 abbrev pub while_true : Eval → Context → Frms → Val → Run
 while_true ev env form.nil v w s = Gave v w s
-while_true ev env (form.cons f fs) v w s = then_do (ev env (Plain f) w s) (λ u t k. if is_true u then while_true ev env fs u t k else Gave u t k)
+while_true ev env (form.cons f fs) v w s = then_do (ev env f w s) (λ u t k. if is_true u then while_true ev env fs u t k else Gave u t k)
 
 -- the same, but a value that is true ends it
 abbrev pub until_true : Eval → Context → Frms → Val → Run
 until_true ev env form.nil v w s = Gave v w s
-until_true ev env (form.cons f fs) v w s = then_do (ev env (Plain f) w s) (λ u t k. if is_true u then Gave u t k else until_true ev env fs u t k)
+until_true ev env (form.cons f fs) v w s = then_do (ev env f w s) (λ u t k. if is_true u then Gave u t k else until_true ev env fs u t k)
 
 -- of an if form: the form where its test holds, and the one where not, if there is one
 abbrev pub branch : Eval → Context → Bool → Frms → Run
 branch ev env b form.nil w s = Gave (list nil) w s
-branch ev env b (form.cons f fs) w s = if b then ev env (Plain f) w s else sequence ev env fs (list nil) w s
+branch ev env b (form.cons f fs) w s = if b then ev env f w s else sequence ev env fs (list nil) w s
 
 -- what follows a value, with these forms left
 abbrev pub followed : Eval → Context → Control → Frms → Val → Run
@@ -49,7 +48,7 @@ followed ev env Or fs v w s = if is_true v then Gave v w s else until_true ev en
 -- the first of these forms, and what follows its value; or this value where there is none
 abbrev pub going : Eval → Context → Control → Frms → Val → Run
 going ev env c form.nil v w s = Gave v w s
-going ev env c (form.cons f fs) v w s = then_do (ev env (Plain f) w s) (λ u. followed ev env c fs u)
+going ev env c (form.cons f fs) v w s = then_do (ev env f w s) (λ u. followed ev env c fs u)
 
 -- ---- the clauses of a cond form (5.3): of the first whose test holds, the forms, or the test's value where there are none
 
@@ -59,7 +58,7 @@ tested ev env fs rest v w s = if is_true v then sequence ev env fs v w s else re
 
 abbrev pub clause : Eval → Context → Frms → Run → Run
 clause ev env form.nil rest w s = Gave (list nil) w s
-clause ev env (form.cons f fs) rest w s = then_do (ev env (Plain f) w s) (λ v. tested ev env fs rest v)
+clause ev env (form.cons f fs) rest w s = then_do (ev env f w s) (λ v. tested ev env fs rest v)
 
 abbrev pub clauses : Eval → Context → Frms → Run
 clauses ev env form.nil w s = Gave (list nil) w s

@@ -1,17 +1,16 @@
 -- The effective forms of standard method combination (HyperSpec 7.6.6.2).
-use Rattle.std.specs.Prelude.{ℕ, ◌+◌, List, [], ◌∷◌}
+use Rattle.std.specs.Prelude.{ℕ, List, [], ◌∷◌, map}
+use Rattle.clos_forms.specs.Form.{Frm, Frms, form, nil, cons}
+use Rattle.clos_forms.specs.Operator.{the_method, call_method, progn, prog1}
 
-pub data Effective : Type 0 where
-  call_method : ℕ → List ℕ → Effective  -- the method, and its next methods
-  progn : Effective → Effective
-  prog1 : Effective → Effective  -- multiple-value-prog1
+-- a call of this method, with these as its next methods
+abbrev pub method_called : ℕ → List ℕ → Frm
+method_called m ns = form (call_method (the_method m) (map the_method ns)) nil
+
+abbrev alone : Frm → Frms
+alone f = cons f nil
 
 -- The form for these methods, the most specific first, which are all primary.
-abbrev pub effective_form : ℕ → List ℕ → Effective
-effective_form m [] = call_method m []
-effective_form m (n ∷ ns) = prog1 (progn (call_method m (n ∷ ns)))
-
-abbrev pub size_of_effective : Effective → ℕ
-size_of_effective (call_method m ns) = 1
-size_of_effective (progn e) = 2 + size_of_effective e
-size_of_effective (prog1 e) = 2 + size_of_effective e
+abbrev pub effective_form : ℕ → List ℕ → Frm
+effective_form m [] = method_called m []
+effective_form m (n ∷ ns) = form prog1 (alone (form progn (alone (method_called m (n ∷ ns)))))

@@ -15,7 +15,6 @@ use Rattle.clos_machine.specs.Parameters.{argument_by, is_symbol_named}
 use Rattle.clos_machine.specs.Slots.{slot_stored}
 use Rattle.clos_machine.specs.declared.arguments.Context.{Context}
 use Rattle.clos_machine.specs.declared.machine.Filling.{Filling}
-use Rattle.clos_machine.specs.declared.machine.Task.TheVariants.{Plain}
 
 -- an instance, its class, the names of the slots that may take their initforms, and the initargs
 pub record Subject : Type 0 where
@@ -115,7 +114,7 @@ filled_with f slot rest v w s =
 abbrev pub filled_by : Eval → Context → Subject → EffectiveSlot → Run → Filler → Run
 filled_by ev env f slot rest nothing w s = rest w s
 filled_by ev env f slot rest (value v) w s = filled f slot rest v w s
-filled_by ev env f slot rest (initform g) w s = then_do (ev env (Plain g) w s) (λ v. filled_with f slot rest v)
+filled_by ev env f slot rest (initform g) w s = then_do (ev env g w s) (λ v. filled_with f slot rest v)
 
 -- these slots; the instance is given
 abbrev pub fill : Eval → Context → Subject → List EffectiveSlot → Run

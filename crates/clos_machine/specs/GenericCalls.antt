@@ -1,6 +1,7 @@
 -- Calls of generic functions (HyperSpec 7.6.5, 7.6.6).
 use Rattle.std.specs.Prelude.{ℕ, nat_le, Bool, true, ◌&&◌, List, [], ◌∷◌, Option, Some, None, drop, if◌then◌else◌, length, slice_get}
 use Rattle.lisp_data.specs.Value.{Val, generic}
+use Rattle.clos_forms.specs.Form.{Frm}
 use Rattle.clos_world.specs.Generic.{ordered}
 use Rattle.clos_world.specs.System.{system_number}
 use Rattle.clos_world.specs.World.{State, lists_of}
@@ -14,8 +15,6 @@ use Rattle.clos_machine.specs.Effective.{effective_form}
 use Rattle.clos_machine.specs.Outcome.{Run, Eval, stopped}
 use Rattle.clos_machine.specs.Parameters.{are_pairs}
 use Rattle.clos_machine.specs.declared.arguments.Context.{Context}
-use Rattle.clos_machine.specs.declared.machine.Task.{Task}
-use Rattle.clos_machine.specs.declared.machine.Task.TheVariants.{Effect}
 
 -- what a body and an effective form know: the arguments of the call
 abbrev pub known : List Val → Context
@@ -38,14 +37,14 @@ abbrev pub applicable : State → List Val → Generic → List ℕ
 applicable w vs g = ordered w.methods (lists_of w vs) g.methods
 
 -- the effective form of these methods, if there are any
-abbrev pub combination : List ℕ → Option Task
+abbrev pub combination : List ℕ → Option Frm
 combination [] = None
-combination (m ∷ ms) = Some (Effect (effective_form m ms))
+combination (m ∷ ms) = Some (effective_form m ms)
 
 -- it is evaluated with the arguments of the call, or else something other is done
-abbrev pub combined_or : Eval → List Val → Run → Option Task → Run
+abbrev pub combined_or : Eval → List Val → Run → Option Frm → Run
 combined_or ev vs other None w s = other w s
-combined_or ev vs other (Some task) w s = ev (known vs) task w s
+combined_or ev vs other (Some f) w s = ev (known vs) f w s
 
 -- the applicable methods are called, where there are any
 abbrev pub methods_called : Eval → List Val → Run → Generic → Run

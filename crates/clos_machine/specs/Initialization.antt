@@ -18,7 +18,6 @@ use Rattle.clos_machine.specs.Objects.{designated}
 use Rattle.clos_machine.specs.Outcome.{Stopped, Run, Eval, then_do, gave, stopped, step_then}
 use Rattle.clos_machine.specs.Parameters.{are_pairs, argument_named, is_allow_other_keys, is_allowing, is_symbol_named}
 use Rattle.clos_machine.specs.declared.arguments.Context.{Context}
-use Rattle.clos_machine.specs.declared.machine.Task.TheVariants.{Plain}
 
 -- ---- the validity of initargs (7.1.2): each names a slot, or is :ALLOW-OTHER-KEYS
 
@@ -66,7 +65,7 @@ abbrev pub defaulted : Eval → Context → ℕ → Effective → List DefaultIn
 defaulted ev env c e [] vs w s = allocate ev env c e vs w s
 defaulted ev env c e (d ∷ ds) vs w s =
     if is_given vs d then defaulted ev env c e ds vs w s
-    else then_do (ev env (Plain d.form) w s) (λ v. defaulted ev env c e ds (vs ++ name_value d.name ∷ v ∷ []))
+    else then_do (ev env d.form w s) (λ v. defaulted ev env c e ds (vs ++ name_value d.name ∷ v ∷ []))
 
 -- the value of the first of these is there
 abbrev pub default_given : Eval → Context → ℕ → Effective → List DefaultInitarg → List Val → Val → Run

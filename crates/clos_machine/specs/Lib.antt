@@ -1,7 +1,5 @@
 pub mod Callee
 pub mod Effective
-pub mod EffectiveCode
-pub mod EffectiveView
 pub mod LocalsCode
 pub mod LocalsView
 pub mod Outcome

@@ -107,7 +107,7 @@ resume [] env o = o
 resume (l ∷ ls) env o = resume ls (below env l.frame) (then_do o (after (meaning l.room) env l.frame))
 
 abbrev pub doing_run : ℕ → Context → Doing → Run
-doing_run room env (Start task) w s = meaning room env task w s
+doing_run room env (Start f) w s = meaning room env f w s
 doing_run room env (doing.Collect action forms values) w s = collect (meaning room) env forms values (acted (meaning room) env action) w s
 doing_run room env (Act action values) w s = acted (meaning room) env action values w s
 doing_run room env (Invoke f values) w s = invoked (meaning room) f values w s
@@ -203,7 +203,7 @@ load [] = 0
 load (l ∷ ls) = weight_of l.frame + load ls
 
 abbrev pub given : Doing → ℕ
-given (Start task) = 0
+given (Start f) = 0
 given (doing.Collect action forms values) = 9 + lift action
 given (Act action values) = 8 + lift action
 given (Invoke f values) = 3

@@ -22,7 +22,7 @@ use Rattle.clos_world.specs.World.{State, unbound}
 use Rattle.clos_world.specs.declared.condition.ConditionKind.TheVariants.{ProgramError, UndefinedFunction, Unsupported, DepthLimit}
 use Rattle.clos_machine.specs.Accessors.{written_by}
 use Rattle.clos_machine.specs.Assignment.{changed_only}
-use Rattle.clos_machine.specs.Calls.{combined}
+use Rattle.clos_machine.specs.Calls.{method_called}
 use Rattle.clos_machine.specs.GenericCalls.{known}
 use Rattle.clos_machine.specs.Control.{going, clauses}
 use Rattle.clos_machine.specs.Fault.{answered}
@@ -38,12 +38,11 @@ use Rattle.clos_machine.specs.declared.machine.Action.TheVariants.{Call, Set, St
 use Rattle.clos_machine.specs.declared.machine.Control.TheVariants.{Progn, Prog1, If, When, Unless, And, Or}
 use Rattle.clos_machine.specs.declared.machine.Target.{Target}
 use Rattle.clos_machine.specs.declared.machine.Target.TheVariants as target
-use Rattle.clos_machine.specs.declared.machine.Task.TheVariants.{Plain, Effect}
 
 -- the values of forms, from left to right
 abbrev pub collect : Eval → Context → Frms → List Val → (List Val → Run) → Run
 collect ev env form.nil vs go w s = go vs w s
-collect ev env (form.cons f fs) vs go w s = then_do (ev env (Plain f) w s) (λ v. collect ev env fs (vs ++ v ∷ []) go)
+collect ev env (form.cons f fs) vs go w s = then_do (ev env f w s) (λ v. collect ev env fs (vs ++ v ∷ []) go)
 
 abbrev pub alone : Frm → Frms
 alone f = form.cons f form.nil
@@ -176,18 +175,15 @@ operated ev env (of.with_slots bs) ps w s = with_slots ev env bs ps w s
 operated ev env of.call_next_method ps w s = stopped Unsupported [] w s
 operated ev env of.next_method_p ps w s = stopped Unsupported [] w s
 operated ev env (of.call name) ps w s = collected ev env ps (Call name) w s
+operated ev env (of.call_method m ns) ps w s = method_called ev env m ps w s
 
 abbrev pub body : Eval → Context → Frm → Run
 body ev env f w s = operated ev env (operator_in f) (parts_in f) w s
 
-abbrev pub begun : Eval → Eval
-begun ev env (Plain f) = body ev env f
-begun ev env (Effect e) = combined ev env e
-
 -- With this much room for depth: each form takes a step, and what it evaluates has one less room.
 abbrev pub meaning : ℕ → Eval
-meaning zero env task w s = step_then (stopped DepthLimit []) w s
-meaning (suc n) env task w s = step_then (begun (meaning n) env task) w s
+meaning zero env f w s = step_then (stopped DepthLimit []) w s
+meaning (suc n) env f w s = step_then (body (meaning n) env f) w s
 
 -- no variables are left
 abbrev pub closed : Out → Out
@@ -196,4 +192,4 @@ closed (Stopped c w s) = Stopped c (unbound w) s
 
 -- A form that is evaluated by itself begins with no variables and leaves none.
 abbrev pub evaluation : ℕ → Frm → Run
-evaluation room f w s = closed (meaning room (known []) (Plain f) (unbound w) s)
+evaluation room f w s = closed (meaning room (known []) f (unbound w) s)

@@ -1,12 +1,12 @@
 -- What an evaluation comes to: a value or a condition, the state after, and the steps left.
 use Rattle.std.specs.Prelude.{ℕ, zero, suc, Bool, true, false, List, []}
 use Rattle.lisp_data.specs.Value.{Val, list, nil}
+use Rattle.clos_forms.specs.Form.{Frm}
 use Rattle.clos_world.specs.World.{State}
 use Rattle.clos_world.specs.declared.condition.Condition.{Condition}
 use Rattle.clos_world.specs.declared.condition.ConditionKind.{ConditionKind}
 use Rattle.clos_world.specs.declared.condition.ConditionKind.TheVariants.{StepLimit}
 use Rattle.clos_machine.specs.declared.arguments.Context.{Context}
-use Rattle.clos_machine.specs.declared.machine.Task.{Task}
 
 -- the value or the condition, the state after, and the steps left
 pub data Out : Type 0 where
@@ -17,9 +17,9 @@ pub data Out : Type 0 where
 abbrev pub Run : Type 0
 Run = State → ℕ → Out
 
--- a task's meaning in a context
+-- a form's meaning in a context
 abbrev pub Eval : Type 0
-Eval = Context → Task → Run
+Eval = Context → Frm → Run
 
 -- It goes on where there is a value, and stops where there is a condition.
 abbrev pub then_do : Out → (Val → Run) → Out

@@ -12,7 +12,6 @@ use Rattle.clos_world.specs.declared.condition.ConditionKind.TheVariants.{Progra
 use Rattle.clos_machine.specs.Control.{sequence}
 use Rattle.clos_machine.specs.Outcome.{Gave, Run, Eval, then_do, step_then, stopped}
 use Rattle.clos_machine.specs.declared.arguments.Context.{Context}
-use Rattle.clos_machine.specs.declared.machine.Task.TheVariants.{Plain}
 
 -- the innermost lexical variable's value, else the global one's; a name that stands for a slot hides both
 abbrev pub or_global : Option Denoted → Option Val → Option Val
@@ -46,7 +45,7 @@ within ev env n fs v w s = then_do (sequence ev env fs v w s) (leaving n)
 -- The value of an init form, the next of the forms. The grammar gives a form to each variable that has one.
 abbrev pub init_form : Eval → Context → Frms → (Frms → Val → Run) → Run
 init_form ev env form.nil go w s = stopped ProgramError [] w s
-init_form ev env (form.cons f fs) go w s = then_do (ev env (Plain f) w s) (λ v. go fs v)
+init_form ev env (form.cons f fs) go w s = then_do (ev env f w s) (λ v. go fs v)
 
 -- ---- let*: each variable is bound to the value of its init form, or to NIL, before the next; then the body
 
@@ -90,7 +89,7 @@ body_of true (form.cons f fs) = fs
 abbrev pub result_value : Eval → Context → Bool → Frms → Run
 result_value ev env false fs w s = Gave (list nil) w s
 result_value ev env true form.nil w s = Gave (list nil) w s
-result_value ev env true (form.cons f fs) w s = ev env (Plain f) w s
+result_value ev env true (form.cons f fs) w s = ev env f w s
 
 -- its variable set to the number of turns done
 abbrev pub with_count : Loop → ℤ → List Local → List Local

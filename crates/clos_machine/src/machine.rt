@@ -3,7 +3,6 @@ ghost use Rattle.std.specs.Prelude.{◌≡◌, ◌∷◌, [], ℕ, ◌<◌, ◌�
 
 use crate::arguments::{Arguments, Context};
 use crate::counter::Counter;
-use crate::effective::EffectiveForm;
 use crate::finalized::Finalized;
 use crate::locals::{Locals, Plan};
 use crate::parameters::ParameterPlan;
@@ -13,13 +12,6 @@ use lisp_data::{ClassId, InstanceId, Name, Value};
 use lisp_prims::Primitive;
 use std::alloc::{AllocError, Global};
 use std::marker::Model;
-
-/// What is evaluated.
-#[derive(Drop)]
-pub enum Task {
-    Plain(Form),
-    Effect(EffectiveForm),
-}
 
 /// An instance whose slots are filled in layout order: its class, the arguments of shared-initialize, which are the instance,
 /// the names of slots and the initargs, what the class has, and the place of the slot that comes next.
@@ -84,7 +76,8 @@ pub struct Repetition {
 /// What comes next.
 #[derive(Drop)]
 pub enum Doing {
-    Start(Task),
+    /// The form is evaluated.
+    Start(Form),
     /// The action is done with these values and those of these forms.
     Collect(Action, Forms, Values),
     Act(Action, Values),

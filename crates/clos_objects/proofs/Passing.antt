@@ -20,7 +20,6 @@ use Rattle.clos_machine.specs.declared.machine.Doing.{Doing}
 use Rattle.clos_machine.specs.declared.machine.Doing.TheVariants.{Act, Give}
 use Rattle.clos_machine.specs.declared.machine.Filling.{Filling}
 use Rattle.clos_machine.specs.declared.machine.Machine.{Machine}
-use Rattle.clos_machine.specs.declared.machine.Task.TheVariants.{Plain}
 use Rattle.clos_machine.proofs.Running.{turns_of_leads}
 use Rattle.clos_machine.proofs.Turns.{leads_same}
 use Rattle.clos_objects.proofs.Placing.{stops_at_once, turns_same}
@@ -95,7 +94,7 @@ fills_bound ls w f [] x h = h
 fills_bound ls w f (slot ∷ slots) x h = h
 
 fill_form : (ev : Eval) (env : Context) (w : State) (f : Subject) (slots : List EffectiveSlot) (g : Frm) (k : ℕ) → Fills w f slots (found.Initform g)
-    → then_do (ev env (Plain g) w k) (λ v. fill_with ev env f slots v) ≡ fill ev env f slots w k
+    → then_do (ev env g w k) (λ v. fill_with ev env f slots v) ≡ fill ev env f slots w k
 fill_form ev env w f [] g k h = absurd h
 fill_form ev env w f (slot ∷ slots) g k h = sym (ap (λ y. filled_by ev env f slot (λ u j. fill ev env f slots u j) y w k) h)
 
@@ -128,11 +127,11 @@ module _ (m : Machine) (f : Subject) where
 
   pub fill_evaluates : (n : Machine) (slots all : List EffectiveSlot) (x : Found) (g : Frm) (w : State) (s : ℕ) (r : Result Doing Stop)
       → x ≡ found.Initform g → pending w f slots ≡ all → Fills w f all x
-      → Leads (inside m (λ u k. then_do (meaning m.room m.context (Plain g) u k) (λ v. fill_with (meaning m.room) m.context f all v))) w r n
+      → Leads (inside m (λ u k. then_do (meaning m.room m.context g u k) (λ v. fill_with (meaning m.room) m.context f all v))) w r n
       → Turns (inside m (filling_slots slots)) w s r n w s
   fill_evaluates n slots all x g w s r e h k l =
       turns_of_leads (inside m (filling_slots slots)) w s r n
-      (leads_same (inside m (λ u k. then_do (meaning m.room m.context (Plain g) u k) (λ v. fill_with (meaning m.room) m.context f all v))) (inside m (filling_slots slots)) w r n
+      (leads_same (inside m (λ u k. then_do (meaning m.room m.context g u k) (λ v. fill_with (meaning m.room) m.context f all v))) (inside m (filling_slots slots)) w r n
       (λ t. ap (λ o. closed (resume m.levels m.context o))
       (fill_form (meaning m.room) m.context (at m w) f all g t (fills_bound m.locals w f all (found.Initform g) (subst (Fills w f all) e k)) ∙ to_pending slots all w t h)) l)
 

@@ -20,7 +20,6 @@ use Rattle.clos_machine.specs.Slots.{class_value, operation_name}
 use Rattle.clos_machine.specs.Outcome.{Gave, Run, Eval, then_do, stopped}
 use Rattle.clos_machine.specs.declared.machine.Frame.TheVariants.{Body}
 use Rattle.clos_machine.specs.declared.machine.Machine.{Machine}
-use Rattle.clos_machine.specs.declared.machine.Task.TheVariants.{Plain}
 use Rattle.clos_world.specs.declared.condition.ConditionKind.TheVariants.{ProgramError}
 use Rattle.clos_machine.specs.declared.arguments.Context.{Context}
 use Rattle.clos_objects.specs.declared.filling.Found.{Found}
@@ -107,7 +106,7 @@ ungiven vs (d ∷ ds) = if is_given vs d then ungiven vs ds else d ∷ ds
 -- the first of these is evaluated, whether it is given or not
 abbrev pub default_first : Eval → Context → ℕ → Effective → List DefaultInitarg → List Val → Run
 default_first ev env c e [] vs w s = stopped ProgramError [] w s
-default_first ev env c e (d ∷ ds) vs w s = then_do (ev env (Plain d.form) w s) (λ v. default_given ev env c e (d ∷ ds) vs v)
+default_first ev env c e (d ∷ ds) vs w s = then_do (ev env d.form w s) (λ v. default_given ev env c e (d ∷ ds) vs v)
 
 -- ---- a body without variables
 

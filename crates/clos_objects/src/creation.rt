@@ -17,7 +17,7 @@ use clos_forms::{Forms, value_named};
 use clos_machine::arguments::{Arguments, Context};
 use clos_machine::finalized::Finalized;
 use clos_machine::locals::Locals;
-use clos_machine::machine::{Action, Doing, Frame, Level, Machine, Task};
+use clos_machine::machine::{Action, Doing, Frame, Level, Machine};
 use clos_machine::parameters::are_pairs;
 use clos_syntax::DefaultInitarg;
 use clos_world::{
@@ -152,7 +152,7 @@ fn evaluate_default(
     let form = effective.defaults()[place].form.copy()?;
     begin(
         machine,
-        Task::Plain(form),
+        form,
         Frame::Default(class, effective, place, initargs),
     )
 }

@@ -16,7 +16,7 @@ use crate::slot_names::{initargs_in, is_named, names_in};
 use clos_class::EffectiveSlot;
 use clos_control::control::begin;
 use clos_forms::Form;
-use clos_machine::machine::{Action, Doing, Filling, Frame, Machine, Task};
+use clos_machine::machine::{Action, Doing, Filling, Frame, Machine};
 use clos_world::{ConditionKind, Stop, Values, World, plain};
 use lisp_data::{InstanceId, Value};
 use std::alloc::{AllocError, Global};
@@ -104,7 +104,7 @@ pub fn fill(
             match found {
                 Found::Value(value) => fill_first(alloc, machine, world, filling, value, steps),
                 Found::Initform(form) => {
-                    begin(machine, Task::Plain(form), Frame::Filled(filling))
+                    begin(machine, form, Frame::Filled(filling))
                 }
             }
         }

@@ -13,7 +13,6 @@ use Rattle.clos_machine.specs.GenericCalls.{known}
 use Rattle.clos_machine.specs.Machine.{Answers, Takes, leaves}
 use Rattle.clos_machine.specs.Meaning.{evaluation}
 use Rattle.clos_machine.specs.Outcome.{Out, Gave, Stopped, Run, then_do}
-use Rattle.clos_machine.specs.declared.machine.Task.TheVariants.{Plain}
 use Rattle.clos_machine.proofs.Quiet.{evaluation_quiet}
 use Rattle.clos_system.specs.Class.{class_made}
 use Rattle.clos_system.specs.Initforms.{EndsBefore, GoesOn, initform_evaluated, initforms_evaluated}
@@ -28,7 +27,7 @@ then_quiet (Stopped c x k) go u h q = h
 then_quiet (Gave v x k) go u h q = subst (λ y. leaves (go v y k) u 0) (sym h.0) (subst (λ i. leaves (go v u i) u 0) (sym h.1) (q v))
 
 bare_quiet : (n : ℕ) (f : Frm) (w : State) → w.locals ≡ [] → leaves (evaluation n f w 0) w 0
-bare_quiet n f w e = subst (λ x. leaves (evaluation n f w 0) x 0) (ap (λ ls. record w { locals = ls }) (sym e)) (evaluation_quiet n (known []) (Plain f) (unbound w))
+bare_quiet n f w e = subst (λ x. leaves (evaluation n f w 0) x 0) (ap (λ ls. record w { locals = ls }) (sym e)) (evaluation_quiet n (known []) f (unbound w))
 
 initform_quiet : (o : Option Frm) (go : Option Val → Run) (w : State) → w.locals ≡ [] → ((v : Option Val) → leaves (go v w 0) w 0) → leaves (initform_evaluated o go w 0) w 0
 initform_quiet None go w e q = q None

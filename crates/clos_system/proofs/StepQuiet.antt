@@ -35,7 +35,6 @@ use Rattle.clos_syntax.specs.Top.{top_of}
 use Rattle.clos_syntax.specs.declared.top.Top.{Top}
 use Rattle.clos_system.specs.Served.{is_combination, served_of}
 use Rattle.clos_world.specs.declared.condition.Condition.{Condition}
-use Rattle.clos_machine.specs.declared.machine.Task.TheVariants.{Plain}
 use Rattle.clos_system.specs.declared.served.Served.{Served}
 use Rattle.clos_system.specs.declared.served.Served.TheVariants.{DefineClass, DefineMethod, DefineFunction, DefineVariable, Nothing, Expression}
 use Rattle.clos_machine.proofs.Quiet.{evaluation_quiet}
@@ -80,7 +79,7 @@ value_quiet : (name : Nam) (o : Option Frm) (w : World) → leaves (new_value na
 value_quiet name None w = (refl, refl)
 value_quiet name (Some f) w =
     then_step_quiet (evaluation (room_below (seen w)) f (seen w) 0) (λ v. value_given name v) (seen w)
-    (evaluation_quiet (room_below (seen w)) (known []) (Plain f) (seen w))
+    (evaluation_quiet (room_below (seen w)) (known []) f (seen w))
 
 variable_quiet : (d : VariableDefinition) (w : World) → leaves (variable_defined d (seen w) 0) (seen w) 0
 variable_quiet d w =
@@ -94,7 +93,7 @@ performed_quiet (DefineMethod name ps cs body) w =
 performed_quiet (DefineFunction name function) w = function_defined_quiet (called_of name) function (seen w)
 performed_quiet (DefineVariable d) w = variable_quiet d w
 performed_quiet Nothing w = (refl, refl)
-performed_quiet (Expression f) w = evaluation_quiet (room_of (seen w)) (known []) (Plain f) (seen w)
+performed_quiet (Expression f) w = evaluation_quiet (room_of (seen w)) (known []) f (seen w)
 
 served_quiet : (o : Option Served) (w : World) → leaves (served_run o (seen w) 0) (seen w) 0
 served_quiet None w = (refl, refl)

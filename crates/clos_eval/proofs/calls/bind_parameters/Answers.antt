@@ -5,7 +5,6 @@ use Rattle.clos_machine.specs.Meaning.{closed, meaning}
 use Rattle.clos_machine.specs.Parameters.{init}
 use Rattle.clos_machine.specs.declared.machine.Doing.TheVariants.{Start}
 use Rattle.clos_machine.specs.declared.machine.Frame.TheVariants.{Bind, Body}
-use Rattle.clos_machine.specs.declared.machine.Task.TheVariants.{Plain}
 use Rattle.clos_eval.proofs.Settled.{settled_stops, settled_goes, init_begins}
 use Rattle.clos_eval.proofs.calls.bind_parameters.Goals as goal
 
@@ -25,10 +24,10 @@ returns-in-Ok-None-clause-leads c =
 pub returns-in_ok-push-in-Ok-Some-clause-leads : goal.returns-in_ok-push-in-Ok-Some-clause-leads
 returns-in_ok-push-in-Ok-Some-clause-leads c =
     settled_goes c.args.machine.now c.args.saved c.args.outer (meaning c.args.machine.now.room) c.args.machine.now.context c.args.body.now c.args.plan (seen c.args.world.now)
-    c.settle.new.locals ((c.in-Ok-Some.name, init c.in-Ok-Some.form) ∷ c.settle.new.plan) (Ok (Start (Plain c.in-Ok-Some.form)))
+    c.settle.new.locals ((c.in-Ok-Some.name, init c.in-Ok-Some.form) ∷ c.settle.new.plan) (Ok (Start c.in-Ok-Some.form))
     (record c.args.machine.now { levels = c.push.new.self; locals = c.settle.new.locals })
     (c.in-Ok-Some.ensures ∙ ap (λ n. Ok (c.settle.new.locals, with_init n c.settle.new.plan)) c.in-Ok-Some.field-0-is)
-    (λ t. ap (λ l. closed (resume l c.args.machine.now.context (meaning c.args.machine.now.room c.args.machine.now.context (Plain c.in-Ok-Some.form) (bound_as c.settle.new.locals (seen c.args.world.now)) t)))
+    (λ t. ap (λ l. closed (resume l c.args.machine.now.context (meaning c.args.machine.now.room c.args.machine.now.context c.in-Ok-Some.form (bound_as c.settle.new.locals (seen c.args.world.now)) t)))
     (c.in_ok-push-in-Ok-Some.ensures.ok
     ∙ ap (λ b. (record { frame = Bind c.in-Ok-Some.name c.settle.new.plan b c.args.saved c.args.outer; room = c.args.machine.now.room }) ∷ c.args.machine.now.levels) c.in_ok-body-in-Ok-Some.ensures)
     ∙ init_begins (record c.args.machine.now { locals = c.settle.new.locals }) c.args.saved c.args.outer c.in-Ok-Some.name c.in-Ok-Some.form c.settle.new.plan c.args.body.now

@@ -8,13 +8,12 @@ use Rattle.clos_machine.specs.Machine.{at, Reached, denote, given_to, below}
 use Rattle.clos_machine.specs.declared.machine.Doing.TheVariants.{Start, Act, Invoke, Give}
 use Rattle.clos_machine.specs.declared.machine.Doing.TheVariants as doing
 use Rattle.clos_machine.specs.declared.machine.Machine.{Machine}
-use Rattle.clos_machine.specs.declared.machine.Task.TheVariants.{Plain}
 use Rattle.clos_machine.proofs.Quiet.{evaluation_quiet, start_quiet, collecting_quiet, act_quiet, invoke_quiet, loop_quiet, frame_quiet}
 use Rattle.clos_machine.proofs.Running.{turns_of_leads, reached_on, reached_same, ended, popped}
 use Rattle.clos_eval.proofs.eval.evaluate.Goals as goal
 
 pub returns-in_default-clause-answer : goal.returns-in_default-clause-answer
-returns-in_default-clause-answer c = (0, omega arith, evaluation_quiet c.args.room (known []) (Plain c.args.form) (seen c.args.world.now))
+returns-in_default-clause-answer c = (0, omega arith, evaluation_quiet c.args.room (known []) c.args.form (seen c.args.world.now))
 
 pub loop-doing-preserved-in-Ok-begin_task : goal.loop-doing-preserved-in-Ok-begin_task
 loop-doing-preserved-in-Ok-begin_task c =

@@ -4,7 +4,6 @@ use Rattle.clos_world.specs.World.{seen}
 use Rattle.clos_machine.specs.Filling.{fill_with, slots_left, subject_of}
 use Rattle.clos_machine.specs.Meaning.{meaning}
 use Rattle.clos_machine.specs.Outcome.{then_do}
-use Rattle.clos_machine.specs.declared.machine.Task.TheVariants.{Plain}
 use Rattle.clos_objects.specs.Objects.{Finds, filler_in}
 use Rattle.clos_objects.proofs.Passing.{fill_ends, fill_evaluates, fill_goes}
 use Rattle.clos_objects.proofs.filling.fill.Goals as goal
@@ -26,5 +25,5 @@ returns-in-Initform-clause-turns c =
     let f = subst (Finds (seen c.args.world.now) (subject_of c.args.filling) c.args.filling.effective.slots (slots_left c.args.filling)) c.in-Some.is c.in_ok-next_filler.ensures in
     fill_evaluates c.args.machine.now (subject_of c.args.filling) c.begin.new.machine (slots_left c.args.filling) (drop c.in-Some.place c.args.filling.effective.slots) c.in-Some.found
     c.in-Initform.form (seen c.args.world.now) c.args.steps.now c.begin.result c.in-Initform.is f.0 f.1
-    (c.begin.ensures.leads (λ u k. then_do (meaning c.args.machine.now.room c.args.machine.now.context (Plain c.in-Initform.form) u k)
+    (c.begin.ensures.leads (λ u k. then_do (meaning c.args.machine.now.room c.args.machine.now.context c.in-Initform.form u k)
     (λ v. fill_with (meaning c.args.machine.now.room) c.args.machine.now.context (subject_of c.args.filling) (drop c.in-Some.place c.args.filling.effective.slots) v)) (seen c.args.world.now) refl (λ t. refl))
