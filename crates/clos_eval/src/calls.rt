@@ -4,6 +4,7 @@ ghost use Rattle.std.specs.List.{list_any};
 ghost use Rattle.lisp_data.specs.Value.{list, nil};
 ghost use Rattle.lisp_data.specs.ValueView.{value_of};
 ghost use Rattle.lisp_prims.specs.Primitive.{answer};
+ghost use Rattle.clos_forms.specs.CallMethodView.{callable};
 ghost use Rattle.clos_forms.specs.OperatorView.{called_of};
 ghost use Rattle.clos_forms.specs.Quotation.{name_value};
 ghost use Rattle.clos_world.specs.FunctionName.{setter_value};
@@ -11,7 +12,7 @@ ghost use Rattle.clos_world.specs.Functions.{function_in};
 ghost use Rattle.clos_world.specs.Generic.{function_named, ordered};
 ghost use Rattle.clos_world.specs.World.{State, seen, bound_as, lists_of};
 ghost use Rattle.clos_machine.specs.Bodies.{restoring, scoped, parameters_run, body_run};
-ghost use Rattle.clos_machine.specs.Calls.{applied_to, called_defined, called_function, method_run, method_body_run, combined, called_setter};
+ghost use Rattle.clos_machine.specs.Calls.{applied_to, called_defined, called_function, method_called, method_run, method_body_run, made_run, called_setter};
 ghost use Rattle.clos_machine.specs.GenericCalls.{applicable, called_generic, combination, invoked, known, takes, takes_rest, unmatched};
 ghost use Rattle.clos_machine.specs.Control.{sequence};
 ghost use Rattle.clos_machine.specs.Fault.{answered};
@@ -24,9 +25,9 @@ ghost use Rattle.clos_machine.specs.declared.machine.Action.TheVariants.{Call};
 ghost use Rattle.clos_machine.specs.declared.machine.Frame.TheVariants.{Bind, Body};
 
 use clos_control::control::{begin, collect_next, done, give_up, split};
-use clos_forms::{Form, Forms, FunctionName, is_function, is_system_function, value_named};
+use clos_forms::{CalledMethod, Form, Forms, FunctionName, is_function, is_system_function, value_named};
 use clos_machine::arguments::{Arguments, Context};
-use clos_machine::effective::{EffectiveForm, EffectiveNode, combined};
+use clos_machine::effective::combined;
 use clos_machine::fault::of_function;
 use clos_machine::locals::{Locals, bind, settle};
 use clos_machine::machine::{Action, Doing, Frame, Level, Machine, Target};
@@ -383,7 +384,7 @@ fn combine(
     world: &World,
     generic: &Generic,
     arguments: &Arguments,
-) -> Result<Option<Task>, AllocError>
+) -> Result<Option<Form>, AllocError>
     ensures { IfOk result (λ r. r ≡ combination (applicable (seen world.now) arguments.now generic.now)) }
 {
     let lists = PrecedenceLists::new(world, arguments.as_slice());
@@ -393,7 +394,7 @@ fn combine(
     }
     let method = order.get(0);
     order.remove(0);
-    Ok(Some(Task::Effect(combined(alloc, method, order)?)))
+    Ok(Some(combined(alloc, method, &order)?))
 }
 
 /// The function no-applicable-method is called with a generic function and its arguments.
@@ -452,27 +453,39 @@ fn enter_effect(machine: &mut Machine, context: Context, next: Form) -> Result<D
     Ok(Doing::Start(next))
 }
 
-/// An effective form begins.
-#[tactic(auto, using(clos_machine::proofs::Turns::stopped_through, clos_machine::proofs::Turns::then_gave))]
-pub fn start_effective(
+/// A method of an effective form is called: one of the program's or the system's, or one that is made of a form.
+#[tactic(auto, using(clos_machine::proofs::Turns::stopped_through))]
+pub fn call_method(
     alloc: Global,
     machine: &mut Machine,
     world: &World,
-    form: &EffectiveForm,
+    method: &CalledMethod,
+    forms: &Forms,
 ) -> Result<Doing, Stop>
-    ensures leads { Leads (inside machine.old (combined (meaning machine.old.room) machine.old.context form.now)) (seen world.now) result machine.new }
+    ensures leads { Leads (inside machine.old (method_called (meaning machine.old.room) machine.old.context (callable method.now) forms.now)) (seen world.now) result machine.new }
     ensures small { Grows 9 machine.old.levels result machine.new }
 {
-    match form.node() {
-        EffectiveNode::CallMethod(method, _next) => run_method(alloc, machine, world, *method),
-        EffectiveNode::Progn(inner) => {
-            let next = Task::Effect(inner.copy()?);
-            begin(machine, next, Frame::Passing)
-        }
-        EffectiveNode::Prog1(inner) => {
-            let next = Task::Effect(inner.copy()?);
-            begin(machine, next, Frame::Passing)
-        }
+    match method {
+        CalledMethod::Method(id) => run_method(alloc, machine, world, *id),
+        CalledMethod::Made => run_made(alloc, machine, world, forms),
+    }
+}
+
+/// A method that is made of the first of these forms runs.
+#[tactic(auto, using(clos_machine::proofs::Turns::stopped_through, clos_machine::proofs::Turns::then_gave))]
+fn run_made(
+    alloc: Global,
+    machine: &mut Machine,
+    world: &World,
+    forms: &Forms,
+) -> Result<Doing, Stop>
+    ensures leads { Leads (inside machine.old (made_run (meaning machine.old.room) machine.old.context forms.now)) (seen world.now) result machine.new }
+    ensures small { Grows 9 machine.old.levels result machine.new }
+{
+    let _ = world;
+    match split(forms)? {
+        None => Err(Stop::Refused(plain(alloc, ConditionKind::ProgramError))),
+        Some((first, _)) => begin(machine, first, Frame::Passing),
     }
 }
 

@@ -7,13 +7,13 @@ ghost use Rattle.clos_world.specs.Values.{last_first};
 ghost use Rattle.clos_world.specs.World.{seen};
 ghost use Rattle.clos_machine.specs.Functions.{called, place_read, place_set};
 ghost use Rattle.clos_machine.specs.Machine.{Answers, Grows, Leads, Shrinks, Takes, Turns, denote, given_to, inside, lift, weight_of};
-ghost use Rattle.clos_machine.specs.Meaning.{acted, begun, body, changed_place, evaluation, meaning, name_changed, operated};
+ghost use Rattle.clos_machine.specs.Meaning.{acted, body, changed_place, evaluation, meaning, name_changed, operated};
 ghost use Rattle.clos_machine.specs.SlotNames.{name_set, place_denoted};
 ghost use Rattle.clos_machine.specs.declared.machine.Doing.TheVariants.{Start};
 
 use crate::calls::{
-    call, call_setter, compute, function_named, invoke, new_value, next_of_body, next_parameter,
-    next_value, start_call, start_effective,
+    call, call_method, call_setter, compute, function_named, invoke, new_value, next_of_body, next_parameter,
+    next_value, start_call,
 };
 use crate::output::{end_line, print};
 use clos_control::arguments::collect_values;
@@ -104,6 +104,7 @@ fn operate(
         Operator::WithSlots(_) => start_slots(alloc, machine, form, parts),
         Operator::CallNextMethod => Err(Stop::Refused(plain(alloc, ConditionKind::Unsupported))),
         Operator::NextMethodP => Err(Stop::Refused(plain(alloc, ConditionKind::Unsupported))),
+        Operator::CallMethod(method, _) => call_method(alloc, machine, world, method, parts),
     }
 }
 
@@ -402,27 +403,15 @@ fn give(
     }
 }
 
-/// A task begins, with less room.
-#[tactic(auto, using(clos_machine::proofs::Turns::grows_6_16, clos_machine::proofs::Turns::grows_9_16))]
-fn start(alloc: Global, machine: &mut Machine, world: &World, form: Form) -> Result<Doing, Stop>
-    ensures leads { Leads (inside machine.old (begun (meaning machine.old.room) machine.old.context task)) (seen world.now) result machine.new }
-    ensures small { Grows 16 machine.old.levels result machine.new }
-{
-    match task {
-        form => start_form(alloc, machine, world, &form),
-        Task::Effect(form) => start_effective(alloc, machine, world, &form),
-    }
-}
-
-/// A task begins, which takes a step.
-fn begin_task(
+/// A form begins, which takes a step.
+fn begin_form(
     alloc: Global,
     machine: &mut Machine,
     world: &World,
     form: Form,
     steps: &mut u64,
 ) -> Result<Doing, Stop>
-    ensures turns { Turns (denote machine.old (Start task)) (seen world.now) steps.old result machine.new (seen world.now) steps.new }
+    ensures turns { Turns (denote machine.old (Start form)) (seen world.now) steps.old result machine.new (seen world.now) steps.new }
     ensures small { Grows 16 machine.old.levels result machine.new }
     ensures fewer { OnOk result (steps.new < steps.old) }
 {
@@ -434,7 +423,7 @@ fn begin_task(
         return Err(Stop::Refused(plain(alloc, ConditionKind::DepthLimit)));
     }
     machine.room -= 1;
-    match start(alloc, machine, world, task) {
+    match start_form(alloc, machine, world, &form) {
         Ok(doing) => {
             *steps -= 1;
             Ok(doing)
@@ -473,7 +462,7 @@ pub fn evaluate(
     let mut doing = Doing::Start(form);
     loop {
         match doing {
-            Doing::Start(task) => match begin_task(alloc, &mut machine, world, task, steps) {
+            Doing::Start(begun) => match begin_form(alloc, &mut machine, world, begun, steps) {
                 Ok(next) => doing = next,
                 Err(stop) => return Err(stop),
             },

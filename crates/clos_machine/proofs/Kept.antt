@@ -13,7 +13,7 @@ use Rattle.lisp_prims.specs.declared.primitive.Primitive as of_values
 use Rattle.lisp_prims.specs.declared.primitive.Primitive.TheVariants.{Number}
 use Rattle.clos_forms.specs.Form.{Frm, Frms, nil, cons, parts_in, operator_in}
 use Rattle.clos_forms.specs.Operator as of
-use Rattle.clos_forms.specs.Operator.{Opr, Bound, BoundSlot, Plc, variable_place, slot_value_place, call_place}
+use Rattle.clos_forms.specs.Operator.{Callable, Opr, Bound, BoundSlot, Plc, variable_place, slot_value_place, call_place}
 use Rattle.clos_forms.specs.Quotation.{name_value}
 use Rattle.clos_world.specs.Definitions.{Same}
 use Rattle.clos_world.specs.FunctionName.{setter_value}
@@ -37,11 +37,10 @@ use Rattle.clos_machine.specs.Assignment.{stored, stored_globally, stored_only, 
 use Rattle.clos_machine.specs.Callee.{callee_of}
 use Rattle.clos_machine.specs.ClassFunctions.{Answer, class_answer, comes_to}
 use Rattle.clos_machine.specs.Bodies.{restoring, parameters_run, body_run}
-use Rattle.clos_machine.specs.Calls.{called_defined, called_setter, called_setter_by, called_function, method_run, method_body_run, combined}
+use Rattle.clos_machine.specs.Calls.{called_defined, called_setter, called_setter_by, called_function, method_run, method_body_run, method_called, made_run}
 use Rattle.clos_machine.specs.GenericCalls.{known, takes, applicable, combination, combined_or, methods_called, unmatched_by, unmatched, called_generic, invoked}
 use Rattle.clos_machine.specs.SystemMethods.{class_in, shared_initialized, initialize, if_valid, reinitialize_as, reinitialize, filled_as, initialize_slots, system_method_run}
 use Rattle.clos_machine.specs.Control.{keeping, sequence, while_true, until_true, branch, followed, going, tested, clause, clauses}
-use Rattle.clos_machine.specs.Effective.{Effective, call_method, progn, prog1}
 use Rattle.clos_machine.specs.Fault.{answered}
 use Rattle.clos_machine.specs.Meaning.{acted, collect, collected, alone, setq, setf, assigned, place_in, with_amount, set_place, changed_from, changed_place, changing, changed_by, other_function, is_plain_function, symbol_function, setter_function, function_value, operated, body, meaning, closed, evaluation, name_changed}
 use Rattle.clos_machine.specs.Objects.{designated}
@@ -652,8 +651,8 @@ made_kept ev h env nil w k = same w
 made_kept ev h env (cons f fs) w k = h env f w k
 
 called_kept_method : (ev : Eval) → Keeps ev → (env : Context) (m : Callable) (fs : Frms) (w : State) (k : ℕ) → Kept w (method_called ev env m fs w k)
-called_kept_method ev h env (the_method m) fs w k = method_kept ev h env (slice_get w.methods m) w k
-called_kept_method ev h env made fs w k = made_kept ev h env fs w k
+called_kept_method ev h env (of.the_method m) fs w k = method_kept ev h env (slice_get w.methods m) w k
+called_kept_method ev h env of.made fs w k = made_kept ev h env fs w k
 
 -- ---- forms
 

@@ -15,20 +15,20 @@ use Rattle.clos_eval.proofs.eval.evaluate.Goals as goal
 pub returns-in_default-clause-answer : goal.returns-in_default-clause-answer
 returns-in_default-clause-answer c = (0, omega arith, evaluation_quiet c.args.room (known []) c.args.form (seen c.args.world.now))
 
-pub loop-doing-preserved-in-Ok-begin_task : goal.loop-doing-preserved-in-Ok-begin_task
-loop-doing-preserved-in-Ok-begin_task c =
+pub loop-doing-preserved-in-Ok-begin_form : goal.loop-doing-preserved-in-Ok-begin_form
+loop-doing-preserved-in-Ok-begin_form c =
     let run : Run = evaluation c.args.room c.args.form in
-    reached_on run (seen c.args.world.now) c.args.steps.now (denote c.loop-doing.machine (Start c.in-Start.task)) (seen c.loop-doing.world) c.loop-doing.steps
-    c.in-Ok-begin_task.next c.begin_task.new.machine (seen c.loop-doing.world) c.begin_task.new.steps
+    reached_on run (seen c.args.world.now) c.args.steps.now (denote c.loop-doing.machine (Start c.in-Start.begun)) (seen c.loop-doing.world) c.loop-doing.steps
+    c.in-Ok-begin_form.next c.begin_form.new.machine (seen c.loop-doing.world) c.begin_form.new.steps
     (subst (λ d. Reached run (seen c.args.world.now) c.args.steps.now (denote c.loop-doing.machine d) (seen c.loop-doing.world) c.loop-doing.steps)
-    c.in-Start.is c.loop-doing.invariant) c.in-Ok-begin_task.ensures.turns
+    c.in-Start.is c.loop-doing.invariant) c.in-Ok-begin_form.ensures.turns
 
 pub returns-in-Err-clause-answer : goal.returns-in-Err-clause-answer
 returns-in-Err-clause-answer c =
     let run : Run = evaluation c.args.room c.args.form in
-    ended run (seen c.args.world.now) c.args.steps.now (denote c.loop-doing.machine (Start c.in-Start.task)) (seen c.loop-doing.world) c.loop-doing.steps
-    c.in-Err.stop c.begin_task.new.machine (seen c.loop-doing.world) c.begin_task.new.steps
-    (start_quiet c.loop-doing.machine c.in-Start.task (seen c.loop-doing.world))
+    ended run (seen c.args.world.now) c.args.steps.now (denote c.loop-doing.machine (Start c.in-Start.begun)) (seen c.loop-doing.world) c.loop-doing.steps
+    c.in-Err.stop c.begin_form.new.machine (seen c.loop-doing.world) c.begin_form.new.steps
+    (start_quiet c.loop-doing.machine c.in-Start.begun (seen c.loop-doing.world))
     (subst (λ d. Reached run (seen c.args.world.now) c.args.steps.now (denote c.loop-doing.machine d) (seen c.loop-doing.world) c.loop-doing.steps)
     c.in-Start.is c.loop-doing.invariant) c.in-Err.ensures.turns
 

@@ -1,0 +1,5 @@
+pub mod Numbers
+pub mod Role
+pub mod Outcome
+pub mod OutcomeView
+pub mod Standard
