@@ -54,6 +54,7 @@ gives_at_once ev env (of.with_slots bs) ps v w t e = cc
 gives_at_once ev env of.call_next_method ps v w t e = cc
 gives_at_once ev env of.next_method_p ps v w t e = cc
 gives_at_once ev env (of.call name) ps v w t e = cc
+gives_at_once ev env (of.call_method m ns) ps v w t e = cc
 
 one_more : (t : ℕ) → 1 + t ≡ suc t
 one_more t = omega arith

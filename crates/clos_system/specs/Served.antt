@@ -82,6 +82,7 @@ serves (of.dotimes n b) = true
 serves (of.with_slots bs) = true
 serves of.call_next_method = false
 serves of.next_method_p = false
+serves (of.call_method m ns) = false
 
 -- whether a form is served, with all that is evaluated in it
 abbrev mutual

@@ -349,6 +349,7 @@ fn serves(operator: &Operator) -> bool
         Operator::WithSlots(_) => true,
         Operator::CallNextMethod => false,
         Operator::NextMethodP => false,
+        Operator::CallMethod(_, _) => false,
     }
 }
 

@@ -129,6 +129,7 @@ fn label(operator: &Operator) -> &'static str {
         Operator::CallNextMethod => "call-next-method",
         Operator::NextMethodP => "next-method-p",
         Operator::Call(_) => "call",
+        Operator::CallMethod(_, _) => "call-method",
     }
 }
 
