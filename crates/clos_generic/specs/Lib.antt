@@ -1,0 +1,5 @@
+pub mod Table
+pub mod Fault
+pub mod FaultView
+pub mod Initial
+pub mod TableView

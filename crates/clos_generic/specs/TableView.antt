@@ -1,0 +1,32 @@
+-- The table of generic functions as its contracts see it.
+use Rattle.std.specs.Prelude.{◌≡◌, ℕ, List, Option, Some, None, option_map, map, ◌==◌, if◌then◌else◌}
+use Rattle.lisp_data.specs.Name.{Nam, same_name}
+use Rattle.lisp_data.specs.declared.ids.GenericId.{GenericId}
+use Rattle.lisp_data.specs.declared.ids.MethodId.{MethodId}
+use Rattle.clos_forms.specs.declared.operator.FunctionName.{FunctionName}
+use Rattle.clos_generic.specs.Table.{Function, named_in, same_function}
+use Rattle.clos_generic.specs.declared.function.Function as code
+
+abbrev pub numbers : List MethodId → List ℕ
+numbers ids = map (λ m. m.0) ids
+
+-- a function as the definitions have it
+abbrev pub function_of : code.Function → Function
+function_of f = record {
+  name = f.name;
+  shape = f.options.shape;
+  precedence = f.options.precedence;
+  combination = f.options.combination;
+  methods = numbers f.methods.items;
+}
+
+abbrev pub functions_in : List code.Function → List Function
+functions_in fs = map function_of fs
+
+-- of each of these names this is the number of its function
+abbrev pub IsIndexed : List Function → (Nam → FunctionName) → (Nam → Option GenericId) → Type 0
+IsIndexed fs called numbered = (name : Nam) → option_map (λ g. g.0) (numbered name) ≡ named_in fs (called name)
+
+-- the number of the one name
+abbrev pub noted : FunctionName → GenericId → FunctionName → Option GenericId
+noted name id n = if same_function name n then Some id else None
