@@ -8,7 +8,7 @@ use Rattle.clos_generic_core.specs.Specializer.{is_permitted}
 use Rattle.clos_generic_core.specs.System.{system_functions}
 use Rattle.clos_generic_core.specs.declared.method.Method.{Method}
 use Rattle.clos_generic_core.specs.declared.shape.Shape.{Shape}
-use Rattle.clos_generic.specs.Table.{Function, Table, find_method, methods_of, named}
+use Rattle.clos_generic.specs.Table.{Function, Table, find_method, methods_named, methods_of, named}
 use Rattle.clos_generic.specs.declared.options.Options.{Options}
 
 pub data Refusal : Type 0 where
@@ -46,20 +46,18 @@ fits_in shape (Some m) = is_congruent shape m.shape
 abbrev pub all_fit : List Method → Shape → List ℕ → Bool
 all_fit methods shape ms = list_all (λ m. fits_in shape (slice_get methods m)) ms
 
-abbrev pub methods_named : Table → Option ℕ → List ℕ
-methods_named t None = []
-methods_named t (Some g) = methods_of t g
-
 -- whether a function of this name would be one too many
 abbrev pub is_full : Table → Option ℕ → Bool
 is_full t None = nat_le t.most_functions (length t.functions - system_count)
 is_full t (Some g) = false
 
 -- The methods that stay are congruent with the new shape; the function is not the system's; there is room for a new one.
+abbrev pub refusal_at : Table → Option ℕ → Options → Option Refusal
+refusal_at t g o =
+    or_else (when (not (all_fit t.methods o.shape (methods_named t g))) incongruent) (or_else (when (is_system g) unsupported) (when (is_full t g) table_limit))
+
 abbrev pub definition_refusal : Table → FunctionName → Options → Option Refusal
-definition_refusal t name o =
-    or_else (when (not (all_fit t.methods o.shape (methods_named t (named t name)))) incongruent)
-    (or_else (when (is_system (named t name)) unsupported) (when (is_full t (named t name)) table_limit))
+definition_refusal t name o = refusal_at t (named t name) o
 
 -- ---- additions
 
@@ -70,6 +68,10 @@ takes_in shape (Some f) = is_congruent f.shape shape
 abbrev pub is_permitted_one : Specializer → Bool
 is_permitted_one (on_class c) = true
 is_permitted_one (on_eql v) = is_permitted v
+
+abbrev pub is_permitted_in : Option Specializer → Bool
+is_permitted_in None = true
+is_permitted_in (Some s) = is_permitted_one s
 
 -- whether one method more would be one too many
 abbrev pub has_all_methods : Table → Bool

@@ -7,7 +7,7 @@ use Rattle.clos_generic_core.specs.declared.method.Method.{Method}
 use Rattle.clos_generic_core.specs.declared.method.MethodBody.TheVariants.{System}
 use Rattle.clos_generic_core.specs.declared.system.SystemFunction.{SystemFunction}
 use Rattle.clos_syntax.specs.declared.generic.CombinationUse.{CombinationUse}
-use Rattle.clos_generic.specs.Table.{Function, Table}
+use Rattle.clos_generic.specs.Table.{Function, Table, after_first, same_function}
 
 -- from left to right (7.6.6.1.2): the places of so many required parameters
 abbrev pub left_to_right : ℕ → List ℕ
@@ -35,6 +35,17 @@ system_method f = record {
   shape = system_method_shape f;
   initial = false;
   body = System f;
+}
+
+abbrev pub empty : ℕ → ℕ → Table
+empty functions methods = record { functions = []; methods = []; most_functions = functions; most_methods = methods; definitions = []; additions = [] }
+
+-- with one more, and its method
+abbrev pub with_system : SystemFunction → Table → Table
+with_system f t = record t {
+  functions = t.functions ++ system_generic f ∷ [];
+  methods = t.methods ++ system_method f ∷ [];
+  definitions = after_first (λ n. same_function n (system_generic f).name) t.definitions;
 }
 
 -- room for so many functions and methods besides

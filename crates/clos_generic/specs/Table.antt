@@ -70,6 +70,10 @@ is_alike_at methods qualifiers specializers m = is_alike_in qualifiers specializ
 abbrev pub find_method : Table → ℕ → List Val → List Specializer → Option ℕ
 find_method t g qualifiers specializers = find (is_alike_at t.methods qualifiers specializers) (methods_of t g)
 
+abbrev pub methods_named : Table → Option ℕ → List ℕ
+methods_named t None = []
+methods_named t (Some g) = methods_of t g
+
 abbrev pub is_eql_to : Val → Option Specializer → Bool
 is_eql_to v None = false
 is_eql_to v (Some (on_class c)) = false

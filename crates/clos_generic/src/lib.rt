@@ -3,6 +3,8 @@
 
 mod fault;
 mod function;
+mod functions;
+mod methods;
 mod names;
 mod options;
 mod system;
