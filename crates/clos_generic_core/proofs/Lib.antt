@@ -1,1 +1,5 @@
 pub mod Same
+pub mod Lists
+pub mod OnArguments
+pub mod OnOrder
+pub mod OnFits
