@@ -12,3 +12,4 @@ pub mod ArgumentView
 pub mod Applicable
 pub mod ApplicableView
 pub mod Order
+pub mod Laws

@@ -4,6 +4,7 @@
 pub mod applicable;
 pub mod arguments;
 pub mod keywords;
+pub mod laws;
 pub mod method;
 pub mod method_ids;
 pub mod order;
