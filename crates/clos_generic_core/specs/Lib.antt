@@ -13,3 +13,4 @@ pub mod Applicable
 pub mod ApplicableView
 pub mod Order
 pub mod Laws
+pub mod Examples
