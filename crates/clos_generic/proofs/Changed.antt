@@ -2,7 +2,8 @@
 use Rattle.std.proofs.Common.{◌≡◌, ℕ, zero, suc, List, [], ◌∷◌, ◌<◌, ◌≤◌, length, arith, map, refl, ap, sym, ◌∙◌}
 use Rattle.std.specs.Prelude.{slice_get, slice_set, slice_index_or, Result, Ok, Err, OnOk, OnErr}
 use Rattle.clos_generic.specs.Table.{methods_in, with_changed}
-use Rattle.clos_generic.specs.TableView.{functions_in, numbers}
+use Rattle.clos_generic_core.specs.MethodIds.{method_numbers}
+use Rattle.clos_generic.specs.TableView.{functions_in}
 use Rattle.clos_generic.specs.declared.function.Function as code
 
 -- seen through a view
@@ -31,9 +32,9 @@ pub on_err : {A E P Q : Type 0} (r : Result A E) → (P → Q) → OnErr r P →
 on_err (Ok x) f h = tt
 on_err (Err e) f h = f h
 
-pub methods_there : (fs : List code.Function) (i : ℕ) (f : code.Function) → i < length fs → f ≡ slice_index_or fs i f → methods_in (slice_get (functions_in fs) i) ≡ numbers f.methods.items
+pub methods_there : (fs : List code.Function) (i : ℕ) (f : code.Function) → i < length fs → f ≡ slice_index_or fs i f → methods_in (slice_get (functions_in fs) i) ≡ method_numbers f.methods.items
 methods_there [] i f h e = absurd (omega (arith, h))
-methods_there (g ∷ fs) zero f h e = ap (λ x. numbers x.methods.items) (sym e)
+methods_there (g ∷ fs) zero f h e = ap (λ x. method_numbers x.methods.items) (sym e)
 methods_there (g ∷ fs) (suc i) f h e = methods_there fs i f (omega (arith, h)) e
 
 -- There is no such element.

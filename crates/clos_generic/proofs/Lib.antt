@@ -1,4 +1,3 @@
 pub mod Changed
 pub mod Named
 pub mod Places
-pub mod Permitted

@@ -1,11 +1,10 @@
 -- Why a generic function or a method can't be defined, added or removed (HyperSpec 7.6.4, 7.7).
-use Rattle.std.specs.Prelude.{ℕ, ◌-◌, ◌==◌, nat_lt, nat_le, Bool, true, false, not, ◌&&◌, ◌||◌, List, [], ◌∷◌, Option, Some, None, is_some, length, slice_get}
+use Rattle.std.specs.Prelude.{ℕ, ◌-◌, ◌==◌, nat_lt, nat_le, Bool, true, false, not, ◌||◌, List, Option, Some, None, length, slice_get}
 use Rattle.std.specs.List.{list_any, list_all}
 use Rattle.lisp_data.specs.Print.{Specializer, on_class, on_eql}
 use Rattle.clos_forms.specs.declared.operator.FunctionName.{FunctionName}
 use Rattle.clos_generic_core.specs.Shape.{is_congruent}
 use Rattle.clos_generic_core.specs.Specializer.{is_permitted}
-use Rattle.clos_generic_core.specs.System.{system_functions}
 use Rattle.clos_generic_core.specs.declared.method.Method.{Method}
 use Rattle.clos_generic_core.specs.declared.shape.Shape.{Shape}
 use Rattle.clos_generic.specs.Table.{Function, Table, find_method, methods_named, methods_of, named}
@@ -68,10 +67,6 @@ takes_in shape (Some f) = is_congruent f.shape shape
 abbrev pub is_permitted_one : Specializer → Bool
 is_permitted_one (on_class c) = true
 is_permitted_one (on_eql v) = is_permitted v
-
-abbrev pub is_permitted_in : Option Specializer → Bool
-is_permitted_in None = true
-is_permitted_in (Some s) = is_permitted_one s
 
 -- whether one method more would be one too many
 abbrev pub has_all_methods : Table → Bool

@@ -3,3 +3,4 @@ pub mod Fault
 pub mod FaultView
 pub mod Initial
 pub mod TableView
+pub mod Calls

@@ -1,9 +1,8 @@
 -- Generic functions and their methods (HyperSpec 7.6).
-use Rattle.std.specs.Prelude.{ℕ, zero, suc, ◌==◌, Bool, true, false, ◌||◌, List, [], ◌∷◌, ◌++◌, Option, Some, None, if◌then◌else◌, length, position, slice_get, unwrap_or}
-use Rattle.std.specs.List.{find, list_any}
-use Rattle.lisp_data.specs.Keys.{same_value}
+use Rattle.std.specs.Prelude.{ℕ, zero, suc, ◌==◌, Bool, false, List, [], ◌∷◌, ◌++◌, Option, Some, None, if◌then◌else◌, length, position, slice_get, unwrap_or}
+use Rattle.std.specs.List.{find}
 use Rattle.lisp_data.specs.Name.{same_name}
-use Rattle.lisp_data.specs.Print.{Specializer, on_class, on_eql}
+use Rattle.lisp_data.specs.Print.{Specializer}
 use Rattle.lisp_data.specs.Value.{Val}
 use Rattle.clos_forms.specs.declared.operator.FunctionName.{FunctionName}
 use Rattle.clos_forms.specs.declared.operator.FunctionName.TheVariants.{Symbol, Setf}
@@ -73,19 +72,6 @@ find_method t g qualifiers specializers = find (is_alike_at t.methods qualifiers
 abbrev pub methods_named : Table → Option ℕ → List ℕ
 methods_named t None = []
 methods_named t (Some g) = methods_of t g
-
-abbrev pub is_eql_to : Val → Option Specializer → Bool
-is_eql_to v None = false
-is_eql_to v (Some (on_class c)) = false
-is_eql_to v (Some (on_eql w)) = same_value w v
-
-abbrev pub is_eql_in : ℕ → Val → Option Method → Bool
-is_eql_in place v None = false
-is_eql_in place v (Some m) = is_eql_to v (slice_get m.specializers place)
-
--- whether a method of a function has an eql specializer of this object for this parameter
-abbrev pub has_eql : Table → ℕ → ℕ → Val → Bool
-has_eql t g place v = list_any (λ m. is_eql_in place v (slice_get t.methods m)) (methods_of t g)
 
 -- ---- what is reserved
 

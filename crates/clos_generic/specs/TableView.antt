@@ -1,15 +1,12 @@
 -- The table of generic functions as its contracts see it.
-use Rattle.std.specs.Prelude.{◌≡◌, ℕ, List, [], ◌∷◌, ◌++◌, Option, Some, None, option_map, map, ◌==◌, if◌then◌else◌}
-use Rattle.lisp_data.specs.Name.{Nam, same_name}
+use Rattle.std.specs.Prelude.{◌≡◌, ℕ, List, [], ◌∷◌, ◌++◌, Option, Some, None, option_map, map, if◌then◌else◌}
+use Rattle.lisp_data.specs.Name.{Nam}
 use Rattle.lisp_data.specs.declared.ids.GenericId.{GenericId}
-use Rattle.lisp_data.specs.declared.ids.MethodId.{MethodId}
 use Rattle.clos_forms.specs.declared.operator.FunctionName.{FunctionName}
+use Rattle.clos_generic_core.specs.MethodIds.{method_numbers}
 use Rattle.clos_generic.specs.Table.{Function, Table, after_first, named_in, redefined, same_function, with_changed}
 use Rattle.clos_generic.specs.declared.options.Options.{Options}
 use Rattle.clos_generic.specs.declared.function.Function as code
-
-abbrev pub numbers : List MethodId → List ℕ
-numbers ids = map (λ m. m.0) ids
 
 -- a function as the definitions have it
 abbrev pub function_of : code.Function → Function
@@ -18,7 +15,7 @@ function_of f = record {
   shape = f.options.shape;
   precedence = f.options.precedence;
   combination = f.options.combination;
-  methods = numbers f.methods.items;
+  methods = method_numbers f.methods.items;
 }
 
 abbrev pub functions_in : List code.Function → List Function

@@ -2,7 +2,8 @@
 ghost use Rattle.std.specs.Prelude.{◌≡◌, ◌==◌, ◌<◌, ◌≤◌, ◌+◌, [], IfOk, OnOk, OnErr, option_map};
 ghost use Rattle.std.specs.List.{find};
 ghost use Rattle.clos_generic.specs.Table.{added, is_alike_at, made, redefined, with_methods, without};
-ghost use Rattle.clos_generic.specs.TableView.{function_of, numbers};
+ghost use Rattle.clos_generic_core.specs.MethodIds.{method_numbers};
+ghost use Rattle.clos_generic.specs.TableView.{function_of};
 
 use crate::methods::{take_alike, take_number};
 use crate::options::Options;
@@ -36,7 +37,7 @@ impl Function {
     }
 
     /// The argument precedence order: the places of the required parameters (HyperSpec 7.6.6.1.2).
-    pub fn precedence(&self) -> &[u64]
+    pub fn precedence(&self) -> &[usize]
         ensures { result.now ≡ (function_of self.now).precedence }
     {
         self.options.precedence.as_slice()
@@ -51,7 +52,7 @@ impl Function {
 
     /// The numbers of its methods, in order of addition.
     pub fn methods(&self) -> &[MethodId]
-        ensures { numbers result.now ≡ (function_of self.now).methods }
+        ensures { method_numbers result.now ≡ (function_of self.now).methods }
     {
         self.methods.as_slice()
     }

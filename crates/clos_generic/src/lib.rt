@@ -1,6 +1,7 @@
 //! The generic functions of a session and their methods (HyperSpec 7.6).
 #![tactic(auto)]
 
+mod calls;
 mod fault;
 mod function;
 mod functions;

@@ -1,16 +1,16 @@
 //! Methods by their numbers.
 ghost use Rattle.std.specs.Prelude.{◌≡◌, ◌≤◌, ◌==◌, option_map, position, slice_get, vec_len, vec_capacity};
 ghost use Rattle.std.specs.List.{find, list_all, list_any};
-ghost use Rattle.lisp_data.specs.ValueView.{value_of};
 ghost use Rattle.clos_generic_core.specs.Specializer.{specializer_of};
-ghost use Rattle.clos_generic.specs.Fault.{all_fit, fits_in, is_permitted_in, is_permitted_one};
-ghost use Rattle.clos_generic.specs.Table.{is_alike_at, is_eql_in, is_eql_to, without};
-ghost use Rattle.clos_generic.specs.TableView.{numbers};
+ghost use Rattle.clos_generic.specs.Fault.{all_fit, fits_in, is_permitted_one};
+ghost use Rattle.clos_generic.specs.Table.{is_alike_at, without};
+ghost use Rattle.clos_generic_core.specs.MethodIds.{method_numbers};
 
 use clos_generic_core::{
     Method, Qualifiers, Shape, Specializer, Specializers, is_congruent, is_permitted,
+    method_numbered,
 };
-use lisp_data::{MethodId, Value};
+use lisp_data::MethodId;
 
 fn is_alike_at(
     methods: &[Method],
@@ -20,7 +20,7 @@ fn is_alike_at(
 ) -> bool
     ensures { result ≡ is_alike_at methods.now qualifiers.now specializers.now id.0 }
 {
-    match methods.get(id.0 as usize) {
+    match method_numbered(methods, id) {
         None => false,
         Some(method) => method.is_alike(qualifiers, specializers),
     }
@@ -46,7 +46,7 @@ pub fn find_alike(
     qualifiers: &Qualifiers,
     specializers: &Specializers,
 ) -> Option<MethodId>
-    ensures { option_map (λ m. m.0) result ≡ find (is_alike_at methods.now qualifiers.now specializers.now) (numbers ids.now) }
+    ensures { option_map (λ m. m.0) result ≡ find (is_alike_at methods.now qualifiers.now specializers.now) (method_numbers ids.now) }
 {
     match place_alike(methods, ids, qualifiers, specializers) {
         None => None,
@@ -61,8 +61,8 @@ pub fn take_alike(
     qualifiers: &Qualifiers,
     specializers: &Specializers,
 ) -> Option<MethodId>
-    ensures found { option_map (λ m. m.0) result ≡ find (is_alike_at methods.now qualifiers.now specializers.now) (numbers ids.old.items) }
-    ensures rest { numbers ids.new.items ≡ without (is_alike_at methods.now qualifiers.now specializers.now) (numbers ids.old.items) }
+    ensures found { option_map (λ m. m.0) result ≡ find (is_alike_at methods.now qualifiers.now specializers.now) (method_numbers ids.old.items) }
+    ensures rest { method_numbers ids.new.items ≡ without (is_alike_at methods.now qualifiers.now specializers.now) (method_numbers ids.old.items) }
     ensures len { vec_len ids.new ≤ vec_len ids.old }
     ensures capacity { vec_capacity ids.new ≡ vec_capacity ids.old }
 {
@@ -74,7 +74,7 @@ pub fn take_alike(
 
 /// Takes a number out of these, if it is there.
 pub fn take_number(ids: &mut Vec<MethodId>, id: MethodId)
-    ensures rest { numbers ids.new.items ≡ without (λ n. n == id.0) (numbers ids.old.items) }
+    ensures rest { method_numbers ids.new.items ≡ without (λ n. n == id.0) (method_numbers ids.old.items) }
     ensures len { vec_len ids.new ≤ vec_len ids.old }
     ensures capacity { vec_capacity ids.new ≡ vec_capacity ids.old }
 {
@@ -95,7 +95,7 @@ pub fn place_of(ids: &[MethodId], id: MethodId) -> Option<usize>
 
 /// Whether a number is among these.
 pub fn is_among(ids: &[MethodId], id: MethodId) -> bool
-    ensures { result ≡ list_any (λ n. n == id.0) (numbers ids.now) }
+    ensures { result ≡ list_any (λ n. n == id.0) (method_numbers ids.now) }
 {
     let mut left = ids;
     while let Some((other, others)) = left.split_first() {
@@ -107,42 +107,10 @@ pub fn is_among(ids: &[MethodId], id: MethodId) -> bool
     false
 }
 
-fn is_eql_to(value: &Value, specializer: Option<&Specializer>) -> bool
-    ensures { result ≡ is_eql_to (value_of value.now) (option_map (λ s. specializer_of s.now) specializer.entry) }
-{
-    match specializer {
-        Some(Specializer::Eql(object)) => object == value,
-        _ => false,
-    }
-}
-
-fn is_eql_at(methods: &[Method], id: MethodId, place: usize, value: &Value) -> bool
-    ensures { result ≡ is_eql_in place (value_of value.now) (slice_get methods.now id.0) }
-{
-    match methods.get(id.0 as usize) {
-        None => false,
-        Some(method) => is_eql_to(value, method.specializers.get(place)),
-    }
-}
-
-/// Whether one of these methods has an eql specializer of this object at this place.
-pub fn any_eql(methods: &[Method], ids: &[MethodId], place: usize, value: &Value) -> bool
-    ensures { result ≡ list_any (λ m. is_eql_in place (value_of value.now) (slice_get methods.now m)) (numbers ids.now) }
-{
-    let mut left = ids;
-    while let Some((id, others)) = left.split_first() {
-        if is_eql_at(methods, *id, place, value) {
-            return true;
-        }
-        left = others;
-    }
-    false
-}
-
 fn fits_at(methods: &[Method], id: MethodId, shape: &Shape) -> bool
     ensures { result ≡ fits_in shape.now (slice_get methods.now id.0) }
 {
-    match methods.get(id.0 as usize) {
+    match method_numbered(methods, id) {
         None => true,
         Some(method) => is_congruent(shape, &method.shape),
     }
@@ -150,7 +118,7 @@ fn fits_at(methods: &[Method], id: MethodId, shape: &Shape) -> bool
 
 /// Whether these methods may be ones of a function of this shape (HyperSpec 7.6.4).
 pub fn all_fit(methods: &[Method], ids: &[MethodId], shape: &Shape) -> bool
-    ensures { result ≡ all_fit methods.now shape.now (numbers ids.now) }
+    ensures { result ≡ all_fit methods.now shape.now (method_numbers ids.now) }
 {
     let mut left = ids;
     while let Some((id, others)) = left.split_first() {
@@ -162,12 +130,12 @@ pub fn all_fit(methods: &[Method], ids: &[MethodId], shape: &Shape) -> bool
     true
 }
 
-fn is_permitted_at(specializers: &Specializers, place: usize) -> bool
-    ensures { result ≡ is_permitted_in (slice_get specializers.now place) }
+fn is_permitted_one(specializer: &Specializer) -> bool
+    ensures { result ≡ is_permitted_one (specializer_of specializer.now) }
 {
-    match specializers.get(place) {
-        Some(Specializer::Eql(object)) => is_permitted(object),
-        _ => true,
+    match specializer {
+        Specializer::Class(_) => true,
+        Specializer::Eql(object) => is_permitted(object),
     }
 }
 
@@ -175,10 +143,12 @@ fn is_permitted_at(specializers: &Specializers, place: usize) -> bool
 pub fn all_permitted(specializers: &Specializers) -> bool
     ensures { result ≡ list_all is_permitted_one specializers.now }
 {
-    for place in 0..specializers.len() {
-        if !is_permitted_at(specializers, place) {
+    let mut left = specializers.as_slice();
+    while let Some((specializer, others)) = left.split_first() {
+        if !is_permitted_one(specializer) {
             return false;
         }
+        left = others;
     }
     true
 }

@@ -10,7 +10,7 @@ use std::marker::Model;
 /// Places of required parameters, from 0, in an order. Contracts see the list.
 #[derive(Drop)]
 pub struct Positions {
-    places: Vec<u64>,
+    places: Vec<usize>,
 }
 
 impl Model for Positions {
@@ -36,14 +36,14 @@ impl Positions {
         ensures { IfOk result (λ r. r ≡ left_to_right count) }
     {
         let mut places = Vec::new(alloc);
-        for place in 0..count {
+        for place in 0..count as usize {
             places.push(place)?;
         }
         Ok(Positions { places })
     }
 
     /// One more, at the end.
-    pub fn push(&mut self, place: u64) -> Result<(), AllocError>
+    pub fn push(&mut self, place: usize) -> Result<(), AllocError>
         ensures { self.new ≡ (if is_ok result then self.old ++ place ∷ [] else self.old) }
     {
         self.places.push(place)?;
@@ -51,7 +51,7 @@ impl Positions {
     }
 
     /// The places.
-    pub fn as_slice(&self) -> &[u64]
+    pub fn as_slice(&self) -> &[usize]
         ensures { result.now ≡ self.now }
     {
         self.places.as_slice()

@@ -1,23 +1,22 @@
 //! The generic functions of a session and their methods.
 ghost use Rattle.std.specs.Prelude.{◌≡◌, ◌==◌, ◌<◌, ◌+◌, ◌++◌, ◌∷◌, [], None, IfOk, IfErr, IfSome, OnOk, OnErr, MatchResult, is_some, length, option_map, option_copied, slice_get};
 ghost use Rattle.std.specs.List.{list_any};
-ghost use Rattle.lisp_data.specs.ValueView.{value_of};
 ghost use Rattle.clos_generic.specs.Fault.{addition_refusal, all_fit, definition_refusal, is_system, refusal_at, removal_refusal, takes_in};
 ghost use Rattle.clos_generic.specs.FaultView.{Refuses};
 ghost use Rattle.clos_generic.specs.Initial.{empty, initial, with_system};
-ghost use Rattle.clos_generic.specs.Table.{find_method, has_eql, methods_named, methods_of, named, number, with_definition, with_method, without_method};
+ghost use Rattle.clos_generic.specs.Table.{find_method, methods_named, methods_of, named, number, with_definition, with_method, without_method};
 ghost use Rattle.clos_generic.specs.TableView.{function_of, with_last, with_redefined};
 
 use crate::fault::GenericFault;
 use crate::function::Function;
 use crate::functions::{put_at, redefine_at, take_out_at};
-use crate::methods::{all_fit, all_permitted, any_eql, find_alike, is_among};
+use crate::methods::{all_fit, all_permitted, find_alike, is_among};
 use crate::names::{copy_name, note_function};
 use crate::options::Options;
 use crate::system::{system_generic, system_method};
 use clos_forms::FunctionName;
 use clos_generic_core::{Method, Qualifiers, Shape, Specializers, SystemFunction, is_congruent};
-use lisp_data::{GenericId, MethodId, Name, Value};
+use lisp_data::{GenericId, MethodId, Name};
 use std::alloc::{AllocError, Global};
 use std::collections::HashMap;
 use std::marker::Model;
@@ -141,17 +140,6 @@ impl Generics {
                 qualifiers,
                 specializers,
             ),
-        }
-    }
-
-    /// Whether a method of a function has an eql specializer of this object for the parameter at this place (HyperSpec
-    /// 7.6.2).
-    pub fn has_eql(&self, id: GenericId, place: usize, value: &Value) -> bool
-        ensures { result ≡ has_eql self.now id.0 place (value_of value.now) }
-    {
-        match self.function(id) {
-            None => false,
-            Some(function) => any_eql(&self.methods, function.methods(), place, value),
         }
     }
 

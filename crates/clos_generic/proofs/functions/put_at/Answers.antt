@@ -1,4 +1,4 @@
-use Rattle.std.proofs.Common.{arith, subst, sym, ap}
+use Rattle.std.proofs.Common.{arith, subst, sym}
 use Rattle.std.specs.Prelude.{IfOk, option_map, ◌≡◌}
 use Rattle.std.specs.List.{find}
 use Rattle.clos_generic.specs.Table.{added, is_alike_at, with_methods}
