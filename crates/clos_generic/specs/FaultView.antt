@@ -11,3 +11,11 @@ Refuses NoSuchMethod o = o ≡ Some no_such_method
 Refuses Unsupported o = o ≡ Some unsupported
 Refuses TableLimit o = o ≡ Some table_limit
 Refuses Memory o = o ≡ None
+
+-- the fault tells this refusal; no memory was asked for
+abbrev pub Tells : GenericFault → Option Refusal → Type 0
+Tells Incongruent o = o ≡ Some incongruent
+Tells NoSuchMethod o = o ≡ Some no_such_method
+Tells Unsupported o = o ≡ Some unsupported
+Tells TableLimit o = o ≡ Some table_limit
+Tells Memory o = ⊥

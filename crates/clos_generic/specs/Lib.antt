@@ -4,3 +4,4 @@ pub mod FaultView
 pub mod Initial
 pub mod TableView
 pub mod Calls
+pub mod Changes

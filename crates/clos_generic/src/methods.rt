@@ -107,7 +107,8 @@ pub fn is_among(ids: &[MethodId], id: MethodId) -> bool
     false
 }
 
-fn fits_at(methods: &[Method], id: MethodId, shape: &Shape) -> bool
+/// Whether a method may be one of a function of this shape.
+pub fn fits_at(methods: &[Method], id: MethodId, shape: &Shape) -> bool
     ensures { result ≡ fits_in shape.now (slice_get methods.now id.0) }
 {
     match method_numbered(methods, id) {

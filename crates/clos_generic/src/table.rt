@@ -1,8 +1,8 @@
 //! The generic functions of a session and their methods.
-ghost use Rattle.std.specs.Prelude.{◌≡◌, ◌==◌, ◌<◌, ◌+◌, ◌++◌, ◌∷◌, [], None, IfOk, IfErr, IfSome, OnOk, OnErr, MatchResult, is_some, length, option_map, option_copied, slice_get};
+ghost use Rattle.std.specs.Prelude.{◌≡◌, ◌==◌, ◌<◌, ◌+◌, ◌-◌, ◌++◌, ◌∷◌, [], None, IfOk, IfErr, IfSome, OnOk, OnErr, MatchResult, is_some, length, option_map, option_copied, slice_get};
 ghost use Rattle.std.specs.List.{list_any};
-ghost use Rattle.clos_generic.specs.Fault.{addition_refusal, all_fit, definition_refusal, is_system, refusal_at, removal_refusal, takes_in};
-ghost use Rattle.clos_generic.specs.FaultView.{Refuses};
+ghost use Rattle.clos_generic.specs.Fault.{addition_refusal, all_fit, definition_refusal, is_system, refusal_at, removal_refusal, system_count, takes_in};
+ghost use Rattle.clos_generic.specs.FaultView.{Refuses, Tells};
 ghost use Rattle.clos_generic.specs.Initial.{empty, initial, with_system};
 ghost use Rattle.clos_generic.specs.Table.{find_method, methods_named, methods_of, named, number, with_definition, with_method, without_method};
 ghost use Rattle.clos_generic.specs.TableView.{function_of, with_last, with_redefined};
@@ -198,9 +198,7 @@ impl Generics {
                 }
             }
             None => {
-                if self.function_count().saturating_sub(SystemFunction::COUNT)
-                    >= self.most_functions
-                {
+                if self.functions_left() == 0 {
                     return Err(GenericFault::TableLimit);
                 }
             }
@@ -262,13 +260,30 @@ impl Generics {
         if !self.takes(id, &method.shape) {
             return Err(GenericFault::Incongruent);
         }
-        if !all_permitted(&method.specializers) || self.has_of_system(id, method) {
+        if !all_permitted(&method.specializers) || self.has_of_system(id, &method.qualifiers, &method.specializers)
+        {
             return Err(GenericFault::Unsupported);
         }
-        if self.method_count().saturating_sub(SystemFunction::COUNT) >= self.most_methods {
+        if self.methods_left() == 0 {
             return Err(GenericFault::TableLimit);
         }
         Ok(())
+    }
+
+    /// How many functions the program may still make.
+    pub(crate) fn functions_left(&self) -> u64
+        ensures { result ≡ self.now.most_functions - (length self.now.functions - system_count) }
+    {
+        let made = self.function_count().saturating_sub(SystemFunction::COUNT);
+        self.most_functions.saturating_sub(made)
+    }
+
+    /// How many methods the program may still make.
+    pub(crate) fn methods_left(&self) -> u64
+        ensures { result ≡ self.now.most_methods - (length self.now.methods - system_count) }
+    {
+        let made = self.method_count().saturating_sub(SystemFunction::COUNT);
+        self.most_methods.saturating_sub(made)
     }
 
     fn takes(&self, id: GenericId, shape: &Shape) -> bool
@@ -280,11 +295,16 @@ impl Generics {
         }
     }
 
-    /// Whether a method would take the place of one of the system's.
-    fn has_of_system(&self, id: GenericId, method: &Method) -> bool
-        ensures { result ≡ is_system (find_method self.now id.0 method.now.qualifiers method.now.specializers) }
+    /// Whether a method of these would take the place of one of the system's.
+    pub(crate) fn has_of_system(
+        &self,
+        id: GenericId,
+        qualifiers: &Qualifiers,
+        specializers: &Specializers,
+    ) -> bool
+        ensures { result ≡ is_system (find_method self.now id.0 qualifiers.now specializers.now) }
     {
-        match self.find(id, &method.qualifiers, &method.specializers) {
+        match self.find(id, qualifiers, specializers) {
             None => false,
             Some(found) => found.0 < SystemFunction::COUNT,
         }
@@ -312,13 +332,16 @@ impl Generics {
         Ok(replaced)
     }
 
+    #[tactic(auto, using(crate::proofs::Told::told_refuses))]
     /// Takes a method out of its function. It stays among all methods (HyperSpec 7.7, remove-method).
     pub fn remove_method(&mut self, id: GenericId, method: MethodId) -> Result<(), GenericFault>
         ensures ok { OnOk result ((removal_refusal self.old id.0 method.0 ≡ None) × (self.new ≡ without_method id.0 method.0 self.old)) }
         ensures fault { IfErr result (λ e. Refuses e (removal_refusal self.old id.0 method.0)) }
         ensures err { OnErr result (self.new ≡ self.old) }
     {
-        self.refuse_removal(id, method)?;
+        if let Err(fault) = self.refuse_removal(id, method) {
+            return Err(fault);
+        }
         self.take_out(id, method);
         Ok(())
     }
@@ -332,8 +355,8 @@ impl Generics {
     }
 
     /// The fault of a removal of this method.
-    fn refuse_removal(&self, id: GenericId, method: MethodId) -> Result<(), GenericFault>
-        ensures { MatchResult result (λ _. removal_refusal self.now id.0 method.0 ≡ None) (λ e. Refuses e (removal_refusal self.now id.0 method.0)) }
+    pub(crate) fn refuse_removal(&self, id: GenericId, method: MethodId) -> Result<(), GenericFault>
+        ensures { MatchResult result (λ _. removal_refusal self.now id.0 method.0 ≡ None) (λ e. Tells e (removal_refusal self.now id.0 method.0)) }
     {
         if method.0 < SystemFunction::COUNT {
             return Err(GenericFault::Unsupported);
