@@ -5,3 +5,12 @@ pub mod SharedNames
 pub mod Shape
 pub mod System
 pub mod Method
+pub mod MethodIds
+pub mod Keywords
+pub mod Arguments
+pub mod ArgumentView
+pub mod Applicable
+pub mod ApplicableView
+pub mod Order
+pub mod Laws
+pub mod Examples

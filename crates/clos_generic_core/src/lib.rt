@@ -1,13 +1,24 @@
 //! Methods and the shapes of their arguments (HyperSpec 7.6).
 #![tactic(auto)]
 
+pub mod applicable;
+pub mod arguments;
+pub mod keywords;
+pub mod laws;
 pub mod method;
+pub mod method_ids;
+pub mod order;
 pub mod qualifiers;
 pub mod shape;
 pub mod specializer;
 pub mod system;
 
+pub use applicable::{has_eql, is_applicable};
+pub use arguments::{Argument, Arguments};
+pub use keywords::{accepts_keyword, allows_all, checks_keywords};
 pub use method::{Method, MethodBody, method_numbered};
+pub use method_ids::MethodIds;
+pub use order::ordered_methods;
 pub use qualifiers::Qualifiers;
 pub use shape::{Keywords, Shape, SharedNames, is_congruent};
 pub use specializer::{Specializer, Specializers, is_permitted};

@@ -115,6 +115,13 @@ impl Specializers {
         self.items.len()
     }
 
+    /// All of them.
+    pub fn as_slice(&self) -> &[Specializer]
+        ensures { specializers_in result.now ≡ self.now }
+    {
+        self.items.as_slice()
+    }
+
     /// The one at this place, if there is one.
     pub fn get(&self, place: usize) -> Option<&Specializer>
         ensures { option_map (λ s. specializer_of s.now) result ≡ slice_get self.now place }

@@ -1,0 +1,44 @@
+-- One element of a list is changed.
+use Rattle.std.proofs.Common.{◌≡◌, ℕ, zero, suc, List, [], ◌∷◌, ◌<◌, ◌≤◌, length, arith, map, refl, ap, sym, ◌∙◌}
+use Rattle.std.specs.Prelude.{slice_get, slice_set, slice_index_or, Result, Ok, Err, OnOk, OnErr}
+use Rattle.clos_generic.specs.Table.{methods_in, with_changed}
+use Rattle.clos_generic_core.specs.MethodIds.{method_numbers}
+use Rattle.clos_generic.specs.TableView.{functions_in}
+use Rattle.clos_generic.specs.declared.function.Function as code
+
+-- seen through a view
+pub changed_at : {A B : Type 0} (view : A → B) (change : B → B) (xs : List A) (i : ℕ) (x y : A) → x ≡ slice_index_or xs i x → view y ≡ change (view x)
+    → map view (slice_set xs i y) ≡ with_changed change i (map view xs)
+changed_at view change [] i x y e h = refl
+changed_at view change (z ∷ zs) zero x y e h = ap (λ b. b ∷ map view zs) (h ∙ ap (λ v. change (view v)) e)
+changed_at view change (z ∷ zs) (suc i) x y e h = ap (λ l. view z ∷ l) (changed_at view change zs i x y e h)
+
+-- The element is seen the same.
+pub unchanged_at : {A B : Type 0} (view : A → B) (xs : List A) (i : ℕ) (x y : A) → x ≡ slice_index_or xs i x → view y ≡ view x → map view (slice_set xs i y) ≡ map view xs
+unchanged_at view [] i x y e h = refl
+unchanged_at view (z ∷ zs) zero x y e h = ap (λ b. b ∷ map view zs) (h ∙ ap view e)
+unchanged_at view (z ∷ zs) (suc i) x y e h = ap (λ l. view z ∷ l) (unchanged_at view zs i x y e h)
+
+pub length_of_changed : {A : Type 0} (change : A → A) (xs : List A) (i : ℕ) → length (with_changed change i xs) ≡ length xs
+length_of_changed change [] i = refl
+length_of_changed change (x ∷ xs) zero = refl
+length_of_changed change (x ∷ xs) (suc i) = ap suc (length_of_changed change xs i)
+
+pub on_ok : {A E P Q : Type 0} (r : Result A E) → (P → Q) → OnOk r P → OnOk r Q
+on_ok (Ok x) f h = f h
+on_ok (Err e) f h = tt
+
+pub on_err : {A E P Q : Type 0} (r : Result A E) → (P → Q) → OnErr r P → OnErr r Q
+on_err (Ok x) f h = tt
+on_err (Err e) f h = f h
+
+pub methods_there : (fs : List code.Function) (i : ℕ) (f : code.Function) → i < length fs → f ≡ slice_index_or fs i f → methods_in (slice_get (functions_in fs) i) ≡ method_numbers f.methods.items
+methods_there [] i f h e = absurd (omega (arith, h))
+methods_there (g ∷ fs) zero f h e = ap (λ x. method_numbers x.methods.items) (sym e)
+methods_there (g ∷ fs) (suc i) f h e = methods_there fs i f (omega (arith, h)) e
+
+-- There is no such element.
+pub past_all : {A : Type 0} (change : A → A) (xs : List A) (i : ℕ) → length xs ≤ i → with_changed change i xs ≡ xs
+past_all change [] i h = refl
+past_all change (x ∷ xs) zero h = absurd (omega (arith, h))
+past_all change (x ∷ xs) (suc i) h = ap (λ l. x ∷ l) (past_all change xs i (omega (arith, h)))

@@ -1,0 +1,4 @@
+pub mod Changed
+pub mod Named
+pub mod Places
+pub mod Told

@@ -1,0 +1,60 @@
+-- The generic functions with which a session begins: the system's (HyperSpec 7.1, 7.3, 7.6.6.1, 7.7).
+use Rattle.std.specs.Prelude.{ℕ, zero, suc, codes, false, List, [], ◌∷◌, ◌++◌, map}
+use Rattle.lisp_data.specs.Datum.{nil}
+use Rattle.clos_forms.specs.declared.operator.FunctionName.TheVariants.{Symbol}
+use Rattle.clos_generic_core.specs.System.{system_functions, system_method_shape, system_number, system_required, system_shape, system_specializers, system_text}
+use Rattle.clos_generic_core.specs.declared.method.Method.{Method}
+use Rattle.clos_generic_core.specs.declared.method.MethodBody.TheVariants.{System}
+use Rattle.clos_generic_core.specs.declared.system.SystemFunction.{SystemFunction}
+use Rattle.clos_syntax.specs.declared.generic.CombinationUse.{CombinationUse}
+use Rattle.clos_generic.specs.Table.{Function, Table, after_first, same_function}
+
+-- from left to right (7.6.6.1.2): the places of so many required parameters
+abbrev pub left_to_right : ℕ → List ℕ
+left_to_right zero = []
+left_to_right (suc n) = left_to_right n ++ n ∷ []
+
+-- the standard method combination (7.6.6.2), without arguments
+abbrev pub standard : CombinationUse
+standard = record { name = record { text = codes "STANDARD"; keyword = false }; arguments = nil }
+
+abbrev pub system_generic : SystemFunction → Function
+system_generic f = record {
+  name = Symbol (record { text = system_text f; keyword = false });
+  shape = system_shape f;
+  precedence = left_to_right (system_required f);
+  combination = standard;
+  methods = system_number f ∷ [];
+}
+
+abbrev pub system_method : SystemFunction → Method
+system_method f = record {
+  generic = record { 0 = system_number f };
+  qualifiers = [];
+  specializers = system_specializers f;
+  shape = system_method_shape f;
+  initial = false;
+  body = System f;
+}
+
+abbrev pub empty : ℕ → ℕ → Table
+empty functions methods = record { functions = []; methods = []; most_functions = functions; most_methods = methods; definitions = []; additions = [] }
+
+-- with one more, and its method
+abbrev pub with_system : SystemFunction → Table → Table
+with_system f t = record t {
+  functions = t.functions ++ system_generic f ∷ [];
+  methods = t.methods ++ system_method f ∷ [];
+  definitions = after_first (λ n. same_function n (system_generic f).name) t.definitions;
+}
+
+-- room for so many functions and methods besides
+abbrev pub initial : ℕ → ℕ → Table
+initial functions methods = record {
+  functions = map system_generic system_functions;
+  methods = map system_method system_functions;
+  most_functions = functions;
+  most_methods = methods;
+  definitions = [];
+  additions = [];
+}

@@ -1,0 +1,38 @@
+-- The table of generic functions as its contracts see it.
+use Rattle.std.specs.Prelude.{◌≡◌, ℕ, List, [], ◌∷◌, ◌++◌, Option, Some, None, option_map, map, if◌then◌else◌}
+use Rattle.lisp_data.specs.Name.{Nam}
+use Rattle.lisp_data.specs.declared.ids.GenericId.{GenericId}
+use Rattle.clos_forms.specs.declared.operator.FunctionName.{FunctionName}
+use Rattle.clos_generic_core.specs.MethodIds.{method_numbers}
+use Rattle.clos_generic.specs.Table.{Function, Table, after_first, named_in, redefined, same_function, with_changed}
+use Rattle.clos_generic.specs.declared.options.Options.{Options}
+use Rattle.clos_generic.specs.declared.function.Function as code
+
+-- a function as the definitions have it
+abbrev pub function_of : code.Function → Function
+function_of f = record {
+  name = f.name;
+  shape = f.options.shape;
+  precedence = f.options.precedence;
+  combination = f.options.combination;
+  methods = method_numbers f.methods.items;
+}
+
+abbrev pub functions_in : List code.Function → List Function
+functions_in fs = map function_of fs
+
+-- with one more function, which is defined with that
+abbrev pub with_last : code.Function → Table → Table
+with_last f t = record t { functions = t.functions ++ function_of f ∷ []; definitions = after_first (λ n. same_function n f.name) t.definitions }
+
+-- with other options of the function of this number, which is defined with that
+abbrev pub with_redefined : ℕ → FunctionName → Options → Table → Table
+with_redefined g name o t = record t { functions = with_changed (redefined o) g t.functions; definitions = after_first (λ n. same_function n name) t.definitions }
+
+-- of each of these names this is the number of its function
+abbrev pub IsIndexed : List Function → (Nam → FunctionName) → (Nam → Option GenericId) → Type 0
+IsIndexed fs called numbered = (name : Nam) → option_map (λ g. g.0) (numbered name) ≡ named_in fs (called name)
+
+-- the number of the one name
+abbrev pub noted : FunctionName → GenericId → FunctionName → Option GenericId
+noted name id n = if same_function name n then Some id else None

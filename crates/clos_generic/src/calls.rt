@@ -1,0 +1,88 @@
+//! What calls of a generic function ask of the table.
+ghost use Rattle.std.specs.Prelude.{◌≡◌, IfOk};
+ghost use Rattle.lisp_data.specs.ValueView.{value_of};
+ghost use Rattle.clos_generic_core.specs.MethodIds.{method_numbers};
+ghost use Rattle.clos_generic.specs.Calls.{accepts, allows_all, checks_keywords, has_eql, ordered};
+
+use crate::table::Generics;
+use clos_generic_core::{Arguments, MethodIds, ordered_methods};
+use lisp_data::{GenericId, MethodId, Name, Value};
+use std::alloc::{AllocError, Global};
+
+impl Generics {
+    /// The methods of a function that are applicable to these arguments, the most specific first (HyperSpec 7.6.6.1).
+    pub fn ordered(
+        &self,
+        alloc: Global,
+        id: GenericId,
+        arguments: &Arguments<'_>,
+    ) -> Result<MethodIds, AllocError>
+        ensures { IfOk result (λ r. r ≡ ordered self.now id.0 arguments.now) }
+    {
+        match self.function(id) {
+            None => Ok(MethodIds::new(alloc)),
+            Some(function) => ordered_methods(
+                alloc,
+                self.methods(),
+                function.precedence(),
+                arguments,
+                function.methods(),
+            ),
+        }
+    }
+
+    /// Whether a method of a function has an eql specializer of this object for the parameter at this place (HyperSpec
+    /// 7.6.2).
+    pub fn has_eql(&self, id: GenericId, place: usize, object: &Value) -> bool
+        ensures { result ≡ has_eql self.now id.0 place (value_of object.now) }
+    {
+        match self.function(id) {
+            None => false,
+            Some(function) => {
+                clos_generic_core::has_eql(self.methods(), function.methods(), place, object)
+            }
+        }
+    }
+
+    /// Whether the keyword arguments of a call of a function are checked, where these methods are applicable (HyperSpec
+    /// 7.6.5).
+    pub fn checks_keywords(&self, id: GenericId, applicable: &[MethodId]) -> bool
+        ensures { result ≡ checks_keywords self.now id.0 (method_numbers applicable.now) }
+    {
+        match self.function(id) {
+            None => false,
+            Some(function) => clos_generic_core::checks_keywords(
+                function.shape(),
+                self.methods(),
+                applicable,
+            ),
+        }
+    }
+
+    /// Whether a call of a function may have any keyword arguments, where these methods are applicable (HyperSpec 7.6.5).
+    pub fn allows_all(&self, id: GenericId, applicable: &[MethodId]) -> bool
+        ensures { result ≡ allows_all self.now id.0 (method_numbers applicable.now) }
+    {
+        match self.function(id) {
+            None => false,
+            Some(function) => {
+                clos_generic_core::allows_all(function.shape(), self.methods(), applicable)
+            }
+        }
+    }
+
+    /// Whether a call of a function may have this keyword argument, where these methods are applicable (HyperSpec 7.6.5).
+    pub fn accepts(&self, id: GenericId, applicable: &[MethodId], name: &Name) -> bool
+        ensures { result ≡ accepts self.now id.0 (method_numbers applicable.now) name.now }
+    {
+        match self.function(id) {
+            None => false,
+            Some(function) => clos_generic_core::accepts_keyword(
+                function.shape(),
+                self.methods(),
+                applicable,
+                name,
+            ),
+        }
+    }
+}

@@ -1,0 +1,110 @@
+//! Generic functions.
+ghost use Rattle.std.specs.Prelude.{◌≡◌, ◌==◌, ◌<◌, ◌≤◌, ◌+◌, [], IfOk, OnOk, OnErr, option_map};
+ghost use Rattle.std.specs.List.{find};
+ghost use Rattle.clos_generic.specs.Table.{added, is_alike_at, made, redefined, with_methods, without};
+ghost use Rattle.clos_generic_core.specs.MethodIds.{method_numbers};
+ghost use Rattle.clos_generic.specs.TableView.{function_of};
+
+use crate::methods::{take_alike, take_number};
+use crate::options::Options;
+use clos_forms::FunctionName;
+use clos_generic_core::{Method, Shape};
+use clos_syntax::CombinationUse;
+use lisp_data::MethodId;
+use std::alloc::AllocError;
+
+/// A generic function (HyperSpec 7.6.1).
+#[derive(Drop)]
+pub struct Function {
+    pub(crate) name: FunctionName,
+    pub(crate) options: Options,
+    pub(crate) methods: Vec<MethodId>,
+}
+
+impl Function {
+    /// What it is called.
+    pub fn name(&self) -> &FunctionName
+        ensures { result.now ≡ (function_of self.now).name }
+    {
+        &self.name
+    }
+
+    /// What arguments it takes (HyperSpec 7.6.4).
+    pub fn shape(&self) -> &Shape
+        ensures { result.now ≡ (function_of self.now).shape }
+    {
+        &self.options.shape
+    }
+
+    /// The argument precedence order: the places of the required parameters (HyperSpec 7.6.6.1.2).
+    pub fn precedence(&self) -> &[usize]
+        ensures { result.now ≡ (function_of self.now).precedence }
+    {
+        self.options.precedence.as_slice()
+    }
+
+    /// Its method combination (HyperSpec 7.6.6.4).
+    pub fn combination(&self) -> &CombinationUse
+        ensures { result.now ≡ (function_of self.now).combination }
+    {
+        &self.options.combination
+    }
+
+    /// The numbers of its methods, in order of addition.
+    pub fn methods(&self) -> &[MethodId]
+        ensures { method_numbers result.now ≡ (function_of self.now).methods }
+    {
+        self.methods.as_slice()
+    }
+
+    /// A function of this name without methods, with room for some in this list.
+    pub(crate) fn new(name: FunctionName, options: Options, methods: Vec<MethodId>) -> Function
+        requires { methods.items ≡ [] }
+        ensures seen { function_of result ≡ made name options }
+        ensures methods { result.methods ≡ methods }
+    {
+        Function {
+            name,
+            options,
+            methods,
+        }
+    }
+
+    /// Takes on these options (HyperSpec 7.7, defgeneric).
+    pub(crate) fn redefine(&mut self, options: Options)
+        ensures seen { function_of self.new ≡ redefined options (function_of self.old) }
+        ensures methods { self.new.methods ≡ self.old.methods }
+    {
+        self.options = options;
+    }
+
+    #[tactic(auto, using(crate::proofs::Places::one_more_number))]
+    /// Puts the next method, which is this one, at the end; gives back the one whose place it takes (HyperSpec 7.6.3).
+    pub(crate) fn put(
+        &mut self,
+        all: &[Method],
+        method: &Method,
+    ) -> Result<Option<MethodId>, AllocError>
+        ensures ok { OnOk result (function_of self.new ≡ with_methods (added all.now method.now) (function_of self.old)) }
+        ensures replaced { IfOk result (λ r. option_map (λ m. m.0) r ≡ find (is_alike_at all.now method.now.qualifiers method.now.specializers) (function_of self.old).methods) }
+        ensures err { OnErr result (function_of self.new ≡ function_of self.old) }
+    {
+        let id = MethodId(all.len() as u64);
+        self.methods.reserve(1)?;
+        let replaced = take_alike(
+            &mut self.methods,
+            all,
+            &method.qualifiers,
+            &method.specializers,
+        );
+        self.methods.push_reserved(id);
+        Ok(replaced)
+    }
+
+    /// Takes the method of this number out.
+    pub(crate) fn take_out(&mut self, id: MethodId)
+        ensures seen { function_of self.new ≡ with_methods (without (λ n. n == id.0)) (function_of self.old) }
+    {
+        take_number(&mut self.methods, id);
+    }
+}

@@ -1,0 +1,20 @@
+//! The generic functions of a session and their methods (HyperSpec 7.6).
+#![tactic(auto)]
+
+mod calls;
+mod changes;
+mod fault;
+mod function;
+mod functions;
+mod methods;
+mod names;
+mod options;
+mod refuse;
+mod system;
+mod table;
+
+pub use changes::{Addition, Changes, Definition, Likeness, Removal};
+pub use fault::GenericFault;
+pub use function::Function;
+pub use options::{Options, Positions};
+pub use table::Generics;
