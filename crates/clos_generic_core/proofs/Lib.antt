@@ -8,3 +8,4 @@ pub mod Ranks
 pub mod Before
 pub mod Placed
 pub mod InOrder
+pub mod OnSystem

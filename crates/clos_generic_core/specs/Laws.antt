@@ -3,7 +3,10 @@ use Rattle.std.specs.Prelude.{◌≡◌, ℕ, ◌<◌, ◌⊎◌, true, false, L
 use Rattle.clos_generic_core.specs.Applicable.{is_applicable, specializers_of}
 use Rattle.clos_generic_core.specs.Arguments.{Argument}
 use Rattle.clos_generic_core.specs.Order.{comes_before, ordered}
+use Rattle.clos_generic_core.specs.Shape.{is_congruent}
+use Rattle.clos_generic_core.specs.System.{system_classes, system_method_shape, system_required, system_shape}
 use Rattle.clos_generic_core.specs.declared.method.Method.{Method}
+use Rattle.clos_generic_core.specs.declared.system.SystemFunction.{SystemFunction}
 
 abbrev pub IsMember : List ℕ → ℕ → Type 0
 IsMember [] n = ⊥
@@ -45,3 +48,7 @@ ListsInOrder = (methods : List Method) (order : List ℕ) (args : List Argument)
 abbrev pub IsTheOnlyOrder : Type 0
 IsTheOnlyOrder = (methods : List Method) (order : List ℕ) (args : List Argument) (candidates listed : List ℕ)
     → IsCall methods order args candidates → IsOrdered methods order args candidates listed → listed ≡ ordered methods order args candidates
+
+-- The method of each function of the system is congruent with it, and specialized on a class for each required parameter.
+abbrev pub SystemIsCongruent : Type 0
+SystemIsCongruent = (f : SystemFunction) → (is_congruent (system_shape f) (system_method_shape f) ≡ true) × (length (system_classes f) ≡ system_required f)
