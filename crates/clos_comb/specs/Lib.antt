@@ -3,3 +3,4 @@ pub mod Role
 pub mod Outcome
 pub mod OutcomeView
 pub mod Standard
+pub mod Effective

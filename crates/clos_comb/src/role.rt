@@ -89,7 +89,7 @@ fn is_role(role: Role, other: Role) -> bool
 }
 
 /// Those of these methods that have this role, in the same order.
-pub fn group(
+pub(crate) fn group(
     alloc: Global,
     methods: &[Method],
     role: Role,
@@ -107,7 +107,7 @@ pub fn group(
 }
 
 /// The first of these methods that has no role.
-pub fn without_role(methods: &[Method], ids: &[MethodId]) -> Option<MethodId>
+pub(crate) fn without_role(methods: &[Method], ids: &[MethodId]) -> Option<MethodId>
     ensures { option_map (λ m. m.0) result ≡ without_role methods.now (numbers ids.now) }
 {
     for id in ids {

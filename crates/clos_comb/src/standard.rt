@@ -139,7 +139,7 @@ fn combine_groups(
 }
 
 /// These methods, the most specific first, combined by standard method combination.
-pub fn combine_standard(
+pub(crate) fn combine_standard(
     alloc: Global,
     methods: &[Method],
     ids: &[MethodId],

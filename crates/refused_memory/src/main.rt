@@ -13,7 +13,7 @@ mod script;
 use clos_system::{Limits, Reply, Session};
 use lisp_data::{Datum, Value, equal};
 use lisp_reader::{ReadFault, read_form};
-use script::SCRIPT;
+use script::{CALLS, DEFINITIONS, INITIALIZATIONS, SLOTS};
 use std::alloc::{AllocError, Global};
 use std::io;
 
@@ -46,20 +46,45 @@ struct Performance {
     replies: Vec<Reply>,
 }
 
-/// The data of a text, unless it has one that can't be read.
-fn data_of(alloc: Global, text: &str) -> Result<Vec<Datum>, ReadFault> {
+/// Adds the data of a text, unless it has one that can't be read.
+fn add_data(alloc: Global, text: &str, data: &mut Vec<Datum>) -> Result<(), ReadFault> {
     let bytes = text.as_bytes();
-    let mut data = Vec::new(alloc);
     let mut at = 0;
     for _ in 0..bytes.len() {
         let Some((datum, next)) = read_form(alloc, bytes, at.min(bytes.len()))? else {
-            return Ok(data);
+            return Ok(());
         };
         if data.push(datum).is_err() {
             return Err(ReadFault::Memory);
         }
         at = next;
     }
+    Ok(())
+}
+
+fn add_definitions(alloc: Global, data: &mut Vec<Datum>) -> Result<(), ReadFault> {
+    add_data(alloc, DEFINITIONS, data)
+}
+
+fn add_calls(alloc: Global, data: &mut Vec<Datum>) -> Result<(), ReadFault> {
+    add_data(alloc, CALLS, data)
+}
+
+fn add_slots(alloc: Global, data: &mut Vec<Datum>) -> Result<(), ReadFault> {
+    add_data(alloc, SLOTS, data)
+}
+
+fn add_initializations(alloc: Global, data: &mut Vec<Datum>) -> Result<(), ReadFault> {
+    add_data(alloc, INITIALIZATIONS, data)
+}
+
+/// The forms of the script.
+fn read_script(alloc: Global) -> Result<Vec<Datum>, ReadFault> {
+    let mut data = Vec::new(alloc);
+    add_definitions(alloc, &mut data)?;
+    add_calls(alloc, &mut data)?;
+    add_slots(alloc, &mut data)?;
+    add_initializations(alloc, &mut data)?;
     Ok(data)
 }
 
@@ -209,7 +234,7 @@ fn tell(rt: &HostRuntime, outcome: Outcome) -> io::Result<()> {
 }
 
 fn main(rt: HostRuntime) -> io::Result<()> {
-    let Ok(script) = data_of(rt.alloc(), SCRIPT) else {
+    let Ok(script) = read_script(rt.alloc()) else {
         return Err(io::Error::from(io::ErrorKind::OutOfMemory));
     };
     for line in rt.lines(rt.alloc()) {
