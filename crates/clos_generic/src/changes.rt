@@ -52,12 +52,16 @@ impl Model for Changes {
 
     ghost Value = { Changes };
 
-    ghost use Rattle.std.specs.Coded.{codes};
+    ghost use Rattle.std.specs.Prelude.{List, refl};
+    ghost use Rattle.std.specs.Coded.{code_by, coded×, coded_list};
+    ghost use Rattle.clos_generic.specs.declared.changes.Addition.{Addition};
+    ghost use Rattle.clos_generic.specs.declared.changes.Definition.{Definition};
+    ghost use Rattle.clos_generic.specs.declared.changes.Removal.{Removal};
     ghost use Rattle.clos_generic.specs.contracts.changes.Addition as addition;
     ghost use Rattle.clos_generic.specs.contracts.changes.Definition as definition;
     ghost use Rattle.clos_generic.specs.contracts.changes.Removal as removal;
 
-    ghost coded = { Prim.hlevel (codes, removal.the_row.coded, definition.the_row.coded, addition.the_row.coded) };
+    ghost coded = { code_by (List Removal × (List Definition × List Addition)) (coded× (coded_list removal.the_row.coded) (coded× (coded_list definition.the_row.coded) (coded_list addition.the_row.coded))) (λ c. (c.removals, (c.definitions, c.additions))) (λ p. record { removals = p.0; definitions = p.1.0; additions = p.1.1 }) (λ _. refl) };
 
     ghost view = { λ a. record { removals = a.removals.items; definitions = a.definitions.items; additions = a.additions.items } };
 }

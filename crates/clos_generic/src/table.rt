@@ -41,13 +41,9 @@ impl Model for Generics {
 
     ghost Value = { Table };
 
-    ghost use Rattle.std.specs.Coded.{codes};
-    ghost use Rattle.clos_forms.specs.contracts.operator.FunctionName as function_name;
-    ghost use Rattle.clos_generic_core.specs.contracts.method.Method as method;
-    ghost use Rattle.clos_generic_core.specs.contracts.shape.Shape as shape;
-    ghost use Rattle.clos_syntax.specs.contracts.generic.CombinationUse as combination;
+    ghost use Rattle.clos_generic.specs.TableCode.{table_code};
 
-    ghost coded = { Prim.hlevel (codes, function_name.the_row.coded, method.the_row.coded, shape.the_row.coded, combination.the_row.coded) };
+    ghost coded = { table_code };
 
     ghost use Rattle.std.specs.HashMap.{get};
     ghost use Rattle.lisp_data.specs.Name.{same_name};
