@@ -25,7 +25,9 @@ ghost use Rattle.clos_machine.specs.declared.machine.Action.TheVariants.{Call};
 ghost use Rattle.clos_machine.specs.declared.machine.Frame.TheVariants.{Bind, Body};
 
 use clos_control::control::{begin, collect_next, done, give_up, split};
-use clos_forms::{CalledMethod, Form, Forms, FunctionName, is_function, is_system_function, value_named};
+use clos_forms::{
+    CalledMethod, Form, Forms, FunctionName, is_function, is_system_function, value_named,
+};
 use clos_machine::arguments::{Arguments, Context};
 use clos_machine::effective::combined;
 use clos_machine::fault::of_function;

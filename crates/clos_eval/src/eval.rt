@@ -12,8 +12,8 @@ ghost use Rattle.clos_machine.specs.SlotNames.{name_set, place_denoted};
 ghost use Rattle.clos_machine.specs.declared.machine.Doing.TheVariants.{Start};
 
 use crate::calls::{
-    call, call_method, call_setter, compute, function_named, invoke, new_value, next_of_body, next_parameter,
-    next_value, start_call,
+    call, call_method, call_setter, compute, function_named, invoke, new_value, next_of_body,
+    next_parameter, next_value, start_call,
 };
 use crate::output::{end_line, print};
 use clos_control::arguments::collect_values;

@@ -256,7 +256,8 @@ impl Generics {
         if !self.takes(id, &method.shape) {
             return Err(GenericFault::Incongruent);
         }
-        if !all_permitted(&method.specializers) || self.has_of_system(id, &method.qualifiers, &method.specializers)
+        if !all_permitted(&method.specializers)
+            || self.has_of_system(id, &method.qualifiers, &method.specializers)
         {
             return Err(GenericFault::Unsupported);
         }
