@@ -1,4 +1,6 @@
 //! Each call succeeds where there is memory and room.
+ghost use Rattle.std.specs.Prelude.{◌≡◌, IfOk};
+
 use clos_class::Classes;
 use clos_class_core::numbers;
 use clos_comb::{Combinations, Outcome};
@@ -34,11 +36,9 @@ fn options(alloc: Global) -> Result<Options, AllocError> {
     })
 }
 
-fn method(
-    alloc: Global,
-    generic: GenericId,
-    specializer: Specializer,
-) -> Result<Method, AllocError> {
+fn method(alloc: Global, generic: GenericId, specializer: Specializer) -> Result<Method, AllocError>
+    ensures { IfOk result (λ m. m.generic ≡ generic) }
+{
     let mut specializers = Specializers::new(alloc);
     specializers.push(specializer)?;
     Ok(Method {
