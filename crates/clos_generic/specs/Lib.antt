@@ -3,5 +3,6 @@ pub mod Fault
 pub mod FaultView
 pub mod Initial
 pub mod TableView
+pub mod Reserved
 pub mod Calls
 pub mod Changes
