@@ -2,3 +2,5 @@ pub mod Changed
 pub mod Named
 pub mod Places
 pub mod Told
+pub mod Rooms
+pub mod Ready

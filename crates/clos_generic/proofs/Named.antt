@@ -1,5 +1,5 @@
 -- Generic functions found by their names.
-use Rattle.std.proofs.Common.{◌≡◌, ℕ, zero, suc, Bool, true, false, List, [], ◌∷◌, ◌++◌, Option, Some, None, length, ◌≤◌, ◌+◌, arith, refl, sym, ap, ◌∙◌}
+use Rattle.std.proofs.Common.{◌≡◌, ℕ, zero, suc, Bool, true, false, List, [], ◌∷◌, ◌++◌, Option, Some, None, length, ◌≤◌, ◌+◌, arith, refl, sym, ap, ◌∙◌, true≢false}
 use Rattle.std.specs.Prelude.{◌==◌, not, option_map, position, nat_lt, if◌then◌else◌}
 use Rattle.std.specs.List.{position_or_len}
 use Rattle.std.specs.Option.{option_or}
@@ -7,7 +7,9 @@ use Rattle.std.proofs.lemmas.List.Folds.{position_or_len_push}
 use Rattle.std.proofs.lemmas.List.{length_push, map-append}
 use Rattle.lisp_data.specs.Name.{Nam}
 use Rattle.lisp_data.specs.declared.ids.GenericId.{GenericId}
+use Rattle.lisp_data.specs.KeyLaws.{same_name-Decides}
 use Rattle.clos_forms.specs.declared.operator.FunctionName.{FunctionName}
+use Rattle.clos_forms.specs.declared.operator.FunctionName.TheVariants.{Symbol, Setf}
 use Rattle.clos_generic.specs.Table.{Function, named_in, same_function, with_changed}
 use Rattle.clos_generic.specs.TableView.{IsIndexed, function_of, functions_in, noted}
 use Rattle.clos_generic.specs.declared.function.Function as code
@@ -74,3 +76,11 @@ same_indexed called numbered fs gs k e = λ name. k name ∙ sym (ap (λ l. name
 pub one_more_indexed : (called : Nam → FunctionName) (before after : Nam → Option GenericId) (fs gs : List Function) (f : Function) (id : GenericId) → IsIndexed fs called before
     → ((n : Nam) → after n ≡ option_or (before n) (noted f.name id (called n))) → id.0 ≡ length fs → gs ≡ fs ++ f ∷ [] → IsIndexed gs called after
 one_more_indexed called before after fs gs f id k h l e = λ n. one_more fs f (called n) id (before n) (after n) (k n) (h n) l ∙ ap (λ x. named_in x (called n)) (sym e)
+
+-- ---- one name
+
+pub one_name : (a b : FunctionName) → same_function a b ≡ true → a ≡ b
+one_name (Symbol a) (Symbol b) h = ap Symbol ((same_name-Decides a b).0 h)
+one_name (Symbol a) (Setf b) h = absurd (true≢false (sym h))
+one_name (Setf a) (Symbol b) h = absurd (true≢false (sym h))
+one_name (Setf a) (Setf b) h = ap Setf ((same_name-Decides a b).0 h)

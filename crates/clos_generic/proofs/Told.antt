@@ -20,3 +20,11 @@ told_refuses NoSuchMethod o h = h
 told_refuses Unsupported o h = h
 told_refuses TableLimit o h = h
 told_refuses Memory o h = absurd h
+
+-- A fault that tells a refusal is none where there is none.
+pub told_none : (e : GenericFault) (o : Option Refusal) → Tells e o → o ≡ None → ⊥
+told_none Incongruent o h k = cc (h, k)
+told_none NoSuchMethod o h k = cc (h, k)
+told_none Unsupported o h k = cc (h, k)
+told_none TableLimit o h k = cc (h, k)
+told_none Memory o h k = h

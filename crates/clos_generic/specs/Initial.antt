@@ -1,5 +1,5 @@
 -- The generic functions with which a session begins: the system's (HyperSpec 7.1, 7.3, 7.6.6.1, 7.7).
-use Rattle.std.specs.Prelude.{ℕ, zero, suc, codes, false, List, [], ◌∷◌, ◌++◌, map}
+use Rattle.std.specs.Prelude.{ℕ, zero, suc, codes, false, List, [], ◌∷◌, ◌++◌, length, map}
 use Rattle.lisp_data.specs.Datum.{nil}
 use Rattle.clos_forms.specs.declared.operator.FunctionName.TheVariants.{Symbol}
 use Rattle.clos_generic_core.specs.System.{system_functions, system_method_shape, system_number, system_required, system_shape, system_specializers, system_text}
@@ -7,7 +7,9 @@ use Rattle.clos_generic_core.specs.declared.method.Method.{Method}
 use Rattle.clos_generic_core.specs.declared.method.MethodBody.TheVariants.{System}
 use Rattle.clos_generic_core.specs.declared.system.SystemFunction.{SystemFunction}
 use Rattle.clos_syntax.specs.declared.generic.CombinationUse.{CombinationUse}
-use Rattle.clos_generic.specs.Table.{Function, Table, after_first, same_function}
+use Rattle.clos_generic.specs.Table.{Function, Table, with_method}
+use Rattle.clos_generic.specs.TableView.{with_made}
+use Rattle.clos_generic.specs.declared.options.Options.{Options}
 
 -- from left to right (7.6.6.1.2): the places of so many required parameters
 abbrev pub left_to_right : ℕ → List ℕ
@@ -40,13 +42,12 @@ system_method f = record {
 abbrev pub empty : ℕ → ℕ → Table
 empty functions methods = record { functions = []; methods = []; most_functions = functions; most_methods = methods; definitions = []; additions = [] }
 
+abbrev pub system_options : SystemFunction → Options
+system_options f = record { shape = system_shape f; precedence = left_to_right (system_required f); combination = standard }
+
 -- with one more, and its method
 abbrev pub with_system : SystemFunction → Table → Table
-with_system f t = record t {
-  functions = t.functions ++ system_generic f ∷ [];
-  methods = t.methods ++ system_method f ∷ [];
-  definitions = after_first (λ n. same_function n (system_generic f).name) t.definitions;
-}
+with_system f t = with_method (length t.functions) (system_method f) (with_made (system_generic f).name (system_options f) t)
 
 -- room for so many functions and methods besides
 abbrev pub initial : ℕ → ℕ → Table

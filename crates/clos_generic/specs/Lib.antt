@@ -4,5 +4,6 @@ pub mod FaultView
 pub mod Initial
 pub mod TableCode
 pub mod TableView
+pub mod Reserved
 pub mod Calls
 pub mod Changes

@@ -4,7 +4,7 @@ use Rattle.lisp_data.specs.Name.{Nam}
 use Rattle.lisp_data.specs.declared.ids.GenericId.{GenericId}
 use Rattle.clos_forms.specs.declared.operator.FunctionName.{FunctionName}
 use Rattle.clos_generic_core.specs.MethodIds.{method_numbers}
-use Rattle.clos_generic.specs.Table.{Function, Table, after_first, named_in, redefined, same_function, with_changed}
+use Rattle.clos_generic.specs.Table.{Function, Table, after_first, made, named_in, redefined, same_function, with_changed}
 use Rattle.clos_generic.specs.declared.options.Options.{Options}
 use Rattle.clos_generic.specs.declared.function.Function as code
 
@@ -22,8 +22,8 @@ abbrev pub functions_in : List code.Function → List Function
 functions_in fs = map function_of fs
 
 -- with one more function, which is defined with that
-abbrev pub with_last : code.Function → Table → Table
-with_last f t = record t { functions = t.functions ++ function_of f ∷ []; definitions = after_first (λ n. same_function n f.name) t.definitions }
+abbrev pub with_made : FunctionName → Options → Table → Table
+with_made name o t = record t { functions = t.functions ++ made name o ∷ []; definitions = after_first (λ n. same_function n name) t.definitions }
 
 -- with other options of the function of this number, which is defined with that
 abbrev pub with_redefined : ℕ → FunctionName → Options → Table → Table

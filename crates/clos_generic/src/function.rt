@@ -1,5 +1,5 @@
 //! Generic functions.
-ghost use Rattle.std.specs.Prelude.{◌≡◌, ◌==◌, ◌<◌, ◌≤◌, ◌+◌, [], IfOk, OnOk, OnErr, option_map};
+ghost use Rattle.std.specs.Prelude.{◌≡◌, ◌==◌, ◌<◌, ◌≤◌, ◌+◌, [], IfOk, IsOk, OnOk, OnErr, option_map, vec_len, vec_capacity};
 ghost use Rattle.std.specs.List.{find};
 ghost use Rattle.clos_generic.specs.Table.{added, is_alike_at, made, redefined, with_methods, without};
 ghost use Rattle.clos_generic_core.specs.MethodIds.{method_numbers};
@@ -78,8 +78,8 @@ impl Function {
         self.options = options;
     }
 
-    #[tactic(auto, using(crate::proofs::Places::one_more_number))]
     /// Puts the next method, which is this one, at the end; gives back the one whose place it takes (HyperSpec 7.6.3).
+    #[tactic(auto, using(crate::proofs::Places::one_more_number))]
     pub(crate) fn put(
         &mut self,
         all: &[Method],
@@ -88,6 +88,10 @@ impl Function {
         ensures ok { OnOk result (function_of self.new ≡ with_methods (added all.now method.now) (function_of self.old)) }
         ensures replaced { IfOk result (λ r. option_map (λ m. m.0) r ≡ find (is_alike_at all.now method.now.qualifiers method.now.specializers) (function_of self.old).methods) }
         ensures err { OnErr result (function_of self.new ≡ function_of self.old) }
+        ensures succeeds { vec_len self.old.methods < vec_capacity self.old.methods → IsOk result }
+        ensures len { OnOk result (vec_len self.new.methods ≤ vec_len self.old.methods + 1) }
+        ensures err_len { OnErr result (vec_len self.new.methods ≡ vec_len self.old.methods) }
+        ensures capacity { vec_capacity self.old.methods ≤ vec_capacity self.new.methods }
     {
         let id = MethodId(all.len() as u64);
         self.methods.reserve(1)?;
@@ -104,7 +108,19 @@ impl Function {
     /// Takes the method of this number out.
     pub(crate) fn take_out(&mut self, id: MethodId)
         ensures seen { function_of self.new ≡ with_methods (without (λ n. n == id.0)) (function_of self.old) }
+        ensures len { vec_len self.new.methods ≤ vec_len self.old.methods }
+        ensures capacity { vec_capacity self.new.methods ≡ vec_capacity self.old.methods }
     {
         take_number(&mut self.methods, id);
+    }
+
+    /// Takes the memory for so many more methods.
+    pub(crate) fn reserve(&mut self, methods: usize) -> Result<(), AllocError>
+        ensures same { function_of self.new ≡ function_of self.old }
+        ensures ok { OnOk result (vec_len self.new.methods + methods ≤ vec_capacity self.new.methods) }
+        ensures len { vec_len self.new.methods ≡ vec_len self.old.methods }
+        ensures capacity { vec_capacity self.old.methods ≤ vec_capacity self.new.methods }
+    {
+        self.methods.reserve(methods)
     }
 }

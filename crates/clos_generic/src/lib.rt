@@ -10,6 +10,7 @@ mod methods;
 mod names;
 mod options;
 mod refuse;
+mod spare;
 mod system;
 mod table;
 

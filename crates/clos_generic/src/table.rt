@@ -1,24 +1,27 @@
 //! The generic functions of a session and their methods.
-ghost use Rattle.std.specs.Prelude.{◌≡◌, ◌==◌, ◌<◌, ◌+◌, ◌-◌, ◌++◌, ◌∷◌, [], None, IfOk, IfErr, IfSome, OnOk, OnErr, MatchResult, is_some, length, option_map, option_copied, slice_get};
+ghost use Rattle.std.specs.Prelude.{◌≡◌, ◌==◌, ◌<◌, ◌+◌, ◌-◌, ◌++◌, ◌∷◌, [], true, None, IfOk, IsOk, IfErr, IfSome, OnOk, OnErr, MatchResult, is_some, length, option_map, option_copied, slice_get};
 ghost use Rattle.std.specs.List.{list_any};
+ghost use Rattle.clos_generic.specs.Changes.{changes_refusal, released, reserved};
 ghost use Rattle.clos_generic.specs.Fault.{addition_refusal, all_fit, definition_refusal, is_system, refusal_at, removal_refusal, system_count, takes_in};
 ghost use Rattle.clos_generic.specs.FaultView.{Refuses, Tells};
 ghost use Rattle.clos_generic.specs.Initial.{empty, initial, with_system};
-ghost use Rattle.clos_generic.specs.Table.{find_method, methods_named, methods_of, named, number, with_definition, with_method, without_method};
-ghost use Rattle.clos_generic.specs.TableView.{function_of, with_last, with_redefined};
+ghost use Rattle.clos_generic.specs.Table.{find_method, is_first, methods_named, methods_of, named, number, same_function, with_definition, with_method, without_method};
+ghost use Rattle.clos_generic.specs.TableView.{function_of, with_made, with_redefined};
 
+use crate::changes::Changes;
 use crate::fault::GenericFault;
 use crate::function::Function;
-use crate::functions::{put_at, redefine_at, take_out_at};
+use crate::functions::{put_at, redefine_at, reserve_each, take_out_at};
 use crate::methods::{all_fit, all_permitted, find_alike, is_among};
-use crate::names::{copy_name, note_function};
+use crate::names::{is_same, note_function};
 use crate::options::Options;
-use crate::system::{system_generic, system_method};
+use crate::spare::{Spare, functions_of, pass_addition, spares_for, take_spare};
+use crate::system::{system_method, system_options};
 use clos_forms::FunctionName;
 use clos_generic_core::{Method, Qualifiers, Shape, Specializers, SystemFunction, is_congruent};
 use lisp_data::{GenericId, MethodId, Name};
 use std::alloc::{AllocError, Global};
-use std::collections::HashMap;
+use std::collections::{HashMap, VecDeque};
 use std::marker::Model;
 
 /// The generic functions of a session and all methods that were ever made, each known by its number, its place among them.
@@ -33,10 +36,13 @@ pub struct Generics {
     methods: Vec<Method>,
     most_functions: u64,
     most_methods: u64,
+    /// For the next definitions, in order.
+    spares: VecDeque<Spare>,
+    /// The functions of the next additions, in order: each has the room that it needs.
+    additions: VecDeque<GenericId>,
 }
 
 impl Model for Generics {
-    ghost use Rattle.std.specs.Prelude.{[]};
     ghost use Rattle.clos_generic.specs.Table.{Table};
 
     ghost Value = { Table };
@@ -45,14 +51,16 @@ impl Model for Generics {
 
     ghost coded = { table_code };
 
-    ghost use Rattle.std.specs.HashMap.{get};
+    ghost use Rattle.std.specs.HashMap.{get, spare};
+    ghost use Rattle.clos_generic.specs.Reserved.{IsReady, ids_of, keys_of};
     ghost use Rattle.lisp_data.specs.Name.{same_name};
     ghost use Rattle.clos_forms.specs.declared.operator.FunctionName.TheVariants.{Symbol, Setf};
     ghost use Rattle.clos_generic.specs.TableView.{IsIndexed, functions_in};
 
-    ghost view = { λ a. record { functions = functions_in a.functions.items; methods = a.methods.items; most_functions = a.most_functions; most_methods = a.most_methods; definitions = []; additions = [] } };
+    ghost view = { λ a. record { functions = functions_in a.functions.items; methods = a.methods.items; most_functions = a.most_functions; most_methods = a.most_methods; definitions = keys_of a.spares.items; additions = ids_of a.additions.items } };
 
-    ghost invariant = { λ a. IsIndexed (functions_in a.functions.items) Symbol (λ n. get same_name a.symbols n) × IsIndexed (functions_in a.functions.items) Setf (λ n. get same_name a.setters n) };
+    ghost invariant = { λ a. IsIndexed (functions_in a.functions.items) Symbol (λ n. get same_name a.symbols n) × IsIndexed (functions_in a.functions.items) Setf (λ n. get same_name a.setters n)
+        × IsReady a.functions (spare a.symbols) (spare a.setters) a.methods a.spares.items a.additions.items };
 }
 
 impl Generics {
@@ -150,29 +158,79 @@ impl Generics {
             methods: Vec::new(alloc),
             most_functions: functions,
             most_methods: methods,
+            spares: VecDeque::new(alloc),
+            additions: VecDeque::new(alloc),
         }
-    }
-
-    /// One more function, which comes last.
-    fn push(&mut self, function: Function) -> Result<(), AllocError>
-        ensures ok { OnOk result (self.new ≡ with_last function self.old) }
-        ensures err { OnErr result (self.new ≡ self.old) }
-    {
-        let id = GenericId(self.functions.len() as u64);
-        let key = copy_name(&function.name)?;
-        self.functions.reserve(1)?;
-        note_function(&mut self.symbols, &mut self.setters, key, id)?;
-        self.functions.push_reserved(function);
-        Ok(())
     }
 
     /// A function of the system, with its method.
     fn push_system(&mut self, alloc: Global, function: SystemFunction) -> Result<(), AllocError>
         ensures { OnOk result (self.new ≡ with_system function self.old) }
     {
+        let id = GenericId(self.function_count());
+        let options = system_options(alloc, function)?;
         let method = system_method(alloc, function)?;
-        self.push(system_generic(alloc, function)?)?;
-        self.methods.push(method)?;
+        self.make(alloc, FunctionName::Symbol(function.name()), options)?;
+        self.put(id, method)?;
+        Ok(())
+    }
+
+    /// Whether the next definition that is sure to find memory is of this name.
+    fn is_reserved(&self, name: &FunctionName) -> bool
+        ensures { result ≡ is_first (λ n. same_function n name.now) self.now.definitions }
+    {
+        match self.spares.front() {
+            None => false,
+            Some(spare) => is_same(&spare.key, name),
+        }
+    }
+
+    /// Takes the memory for a function of this name, in place of that for other definitions.
+    fn prepare(&mut self, alloc: Global, name: &FunctionName) -> Result<(), AllocError>
+        ensures ok { OnOk result (self.new ≡ record self.old { definitions = name.now ∷ [] }) }
+        ensures err { OnErr result (self.new ≡ self.old) }
+    {
+        let spare = Spare::new(alloc, name, self.additions.len())?;
+        self.functions.reserve(1)?;
+        self.symbols.reserve(1)?;
+        self.setters.reserve(1)?;
+        self.spares.reserve(1)?;
+        self.spares.clear();
+        self.spares.push_back_reserved(spare);
+        Ok(())
+    }
+
+    /// Makes a function, for which there is memory.
+    fn make_reserved(&mut self, name: FunctionName, options: Options)
+        requires { is_first (λ n. same_function n name) self.old.definitions ≡ true }
+        ensures { self.new ≡ with_made name options self.old }
+    {
+        let id = GenericId(self.functions.len() as u64);
+        let Some(spare) = take_spare(&mut self.spares, &name) else {
+            unreachable!()
+        };
+        let Ok(()) = note_function(&mut self.symbols, &mut self.setters, spare.key, id) else {
+            unreachable!()
+        };
+        self.functions
+            .push_reserved(Function::new(name, options, spare.methods));
+    }
+
+    /// Makes a function, which comes last.
+    fn make(
+        &mut self,
+        alloc: Global,
+        name: FunctionName,
+        options: Options,
+    ) -> Result<(), AllocError>
+        ensures ok { OnOk result (self.new ≡ with_made name options self.old) }
+        ensures succeeds { is_first (λ n. same_function n name) self.old.definitions ≡ true → IsOk result }
+        ensures err { OnErr result (self.new ≡ self.old) }
+    {
+        if !self.is_reserved(&name) {
+            self.prepare(alloc, &name)?;
+        }
+        self.make_reserved(name, options);
         Ok(())
     }
 
@@ -182,7 +240,7 @@ impl Generics {
         id: Option<GenericId>,
         options: &Options,
     ) -> Result<(), GenericFault>
-        ensures { MatchResult result (λ _. refusal_at self.now (option_map (λ g. g.0) id) options.now ≡ None) (λ e. Refuses e (refusal_at self.now (option_map (λ g. g.0) id) options.now)) }
+        ensures { MatchResult result (λ _. refusal_at self.now (option_map (λ g. g.0) id) options.now ≡ None) (λ e. Tells e (refusal_at self.now (option_map (λ g. g.0) id) options.now)) }
     {
         if !self.methods_fit(id, &options.shape) {
             return Err(GenericFault::Incongruent);
@@ -216,6 +274,7 @@ impl Generics {
 
     /// Defines a generic function, or defines it again: it keeps its methods (HyperSpec 7.7, defgeneric). Gives its
     /// number.
+    #[tactic(auto, using(crate::proofs::Told::told_refuses, crate::proofs::Told::told_none))]
     pub fn ensure(
         &mut self,
         alloc: Global,
@@ -225,10 +284,13 @@ impl Generics {
         ensures ok { OnOk result ((definition_refusal self.old name options ≡ None) × (self.new ≡ with_definition name options self.old)) }
         ensures id { IfOk result (λ g. g.0 ≡ number self.old name) }
         ensures fault { IfErr result (λ e. Refuses e (definition_refusal self.old name options)) }
+        ensures reserved { is_first (λ n. same_function n name) self.old.definitions ≡ true → definition_refusal self.old name options ≡ None → IsOk result }
         ensures err { OnErr result (self.new ≡ self.old) }
     {
         let found = self.named(&name);
-        self.refuse_definition(found, &options)?;
+        if let Err(fault) = self.refuse_definition(found, &options) {
+            return Err(fault);
+        }
         match found {
             Some(id) => {
                 self.redefine(id, &name, options);
@@ -236,22 +298,23 @@ impl Generics {
             }
             None => {
                 let id = GenericId(self.function_count());
-                self.push(Function::new(name, options, Vec::new(alloc)))?;
+                self.make(alloc, name, options)?;
                 Ok(id)
             }
         }
     }
 
-    fn redefine(&mut self, id: GenericId, _name: &FunctionName, options: Options)
+    fn redefine(&mut self, id: GenericId, name: &FunctionName, options: Options)
         requires { id.0 < length self.old.functions }
-        ensures { self.new ≡ with_redefined id.0 _name.now options self.old }
+        ensures { self.new ≡ with_redefined id.0 name.now options self.old }
     {
         redefine_at(&mut self.functions, id, options);
+        let _ = take_spare(&mut self.spares, name);
     }
 
     /// The fault of an addition of this method to a function.
     fn refuse_addition(&self, id: GenericId, method: &Method) -> Result<(), GenericFault>
-        ensures { MatchResult result (λ _. addition_refusal self.now id.0 method.now ≡ None) (λ e. Refuses e (addition_refusal self.now id.0 method.now)) }
+        ensures { MatchResult result (λ _. addition_refusal self.now id.0 method.now ≡ None) (λ e. Tells e (addition_refusal self.now id.0 method.now)) }
     {
         if !self.takes(id, &method.shape) {
             return Err(GenericFault::Incongruent);
@@ -310,6 +373,7 @@ impl Generics {
     /// Adds a method to its function. It has the next number, which is how many methods there were, and takes the place of
     /// the function's method of the same qualifiers and specializers, whose number is given back where there is one
     /// (HyperSpec 7.6.3, 7.7, add-method).
+    #[tactic(auto, using(crate::proofs::Told::told_refuses, crate::proofs::Told::told_none))]
     pub fn add_method(
         &mut self,
         id: GenericId,
@@ -320,17 +384,32 @@ impl Generics {
         ensures ok { OnOk result ((addition_refusal self.old id.0 method ≡ None) × (self.new ≡ with_method id.0 method self.old)) }
         ensures replaced { IfOk result (λ r. option_map (λ m. m.0) r ≡ find_method self.old id.0 method.qualifiers method.specializers) }
         ensures fault { IfErr result (λ e. Refuses e (addition_refusal self.old id.0 method)) }
+        ensures reserved { is_first (λ h. h == id.0) self.old.additions ≡ true → addition_refusal self.old id.0 method ≡ None → IsOk result }
         ensures err { OnErr result (self.new ≡ self.old) }
     {
-        self.refuse_addition(id, &method)?;
+        if let Err(fault) = self.refuse_addition(id, &method) {
+            return Err(fault);
+        }
+        Ok(self.put(id, method)?)
+    }
+
+    /// Puts the next method, which is this one, at the end of a function's.
+    fn put(&mut self, id: GenericId, method: Method) -> Result<Option<MethodId>, AllocError>
+        requires { id.0 < length self.old.functions }
+        ensures ok { OnOk result (self.new ≡ with_method id.0 method self.old) }
+        ensures replaced { IfOk result (λ r. option_map (λ m. m.0) r ≡ find_method self.old id.0 method.qualifiers method.specializers) }
+        ensures succeeds { is_first (λ h. h == id.0) self.old.additions ≡ true → IsOk result }
+        ensures err { OnErr result (self.new ≡ self.old) }
+    {
         self.methods.reserve(1)?;
         let replaced = put_at(&mut self.functions, id, &self.methods, &method)?;
         self.methods.push_reserved(method);
+        pass_addition(&mut self.additions, id);
         Ok(replaced)
     }
 
-    #[tactic(auto, using(crate::proofs::Told::told_refuses))]
     /// Takes a method out of its function. It stays among all methods (HyperSpec 7.7, remove-method).
+    #[tactic(auto, using(crate::proofs::Told::told_refuses))]
     pub fn remove_method(&mut self, id: GenericId, method: MethodId) -> Result<(), GenericFault>
         ensures ok { OnOk result ((removal_refusal self.old id.0 method.0 ≡ None) × (self.new ≡ without_method id.0 method.0 self.old)) }
         ensures fault { IfErr result (λ e. Refuses e (removal_refusal self.old id.0 method.0)) }
@@ -372,5 +451,51 @@ impl Generics {
             None => false,
             Some(function) => is_among(function.methods(), method),
         }
+    }
+
+    /// Nothing is reserved after it.
+    pub fn release(&mut self)
+        ensures { self.new ≡ released self.old }
+    {
+        self.spares.clear();
+        self.additions.clear();
+    }
+
+    /// Takes the memory for the changes of a definition form, and nothing else is reserved then. After it, while there are
+    /// no other definitions and additions, the removals of these changes, their definitions in order, and then their
+    /// additions in order are not refused for want of memory. Else it tells the first fault of the changes, or that memory
+    /// was refused, and nothing is reserved. The functions and the methods stay as they were.
+    #[tactic(auto, using(crate::proofs::Told::told_refuses, crate::proofs::Told::told_none))]
+    pub fn reserve(&mut self, alloc: Global, changes: &Changes) -> Result<(), GenericFault>
+        ensures ok { OnOk result ((changes_refusal self.old changes.now ≡ None) × (self.new ≡ reserved changes.now self.old)) }
+        ensures fault { IfErr result (λ e. Refuses e (changes_refusal self.old changes.now)) }
+        ensures err { OnErr result (self.new ≡ released self.old) }
+    {
+        if let Err(fault) = self.refuse_changes(changes) {
+            self.release();
+            return Err(fault);
+        }
+        self.release();
+        self.take_memory(alloc, changes)?;
+        Ok(())
+    }
+
+    fn take_memory(&mut self, alloc: Global, changes: &Changes) -> Result<(), AllocError>
+        requires { self.old ≡ released self.old }
+        ensures ok { OnOk result (self.new ≡ reserved changes.now self.old) }
+        ensures err { OnErr result (self.new ≡ self.old) }
+    {
+        let definitions = changes.definitions().len();
+        let methods = changes.additions().len();
+        let spares = spares_for(alloc, changes.definitions(), methods)?;
+        let additions = functions_of(alloc, changes.additions())?;
+        self.functions.reserve(definitions)?;
+        self.symbols.reserve(definitions)?;
+        self.setters.reserve(definitions)?;
+        self.methods.reserve(methods)?;
+        reserve_each(&mut self.functions, &additions, methods)?;
+        self.spares = spares;
+        self.additions = additions;
+        Ok(())
     }
 }

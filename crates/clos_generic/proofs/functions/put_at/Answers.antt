@@ -1,3 +1,5 @@
+use Rattle.std.proofs.Common.{◌+◌}
+use Rattle.clos_generic.proofs.Rooms.{room_changed, room_there}
 use Rattle.std.proofs.Common.{arith, subst, sym}
 use Rattle.std.specs.Prelude.{IfOk, option_map, ◌≡◌}
 use Rattle.std.specs.List.{find}
@@ -21,3 +23,22 @@ returns-clause-replaced c =
 pub returns-clause-err : goal.returns-clause-err
 returns-clause-err c =
     on_err c.put.result (unchanged_at function_of c.args.functions.now.items c.args.id.0 c.index_mut.result.now c.put.new.self c.index_mut.ensures.value) c.put.ensures.err
+
+pub returns-clause-succeeds : goal.returns-clause-succeeds
+returns-clause-succeeds c = λ h.
+    let r = room_there 1 c.args.functions.now.items c.args.id.0 c.index_mut.result.now (omega (arith, c.args.functions.now.ok.0)) c.index_mut.ensures.value h in
+    c.put.ensures.succeeds (omega (arith, r))
+
+pub returns-clause-rooms : goal.returns-clause-rooms
+returns-clause-rooms c =
+    on_ok c.put.result
+    (λ l n g h. room_changed (n + 1) n c.args.functions.now.items c.args.id.0 c.index_mut.result.now c.put.new.self g c.index_mut.ensures.value (omega arith)
+    (λ k. omega (arith, k, l, c.put.ensures.capacity)) h)
+    c.put.ensures.len
+
+pub returns-clause-err_rooms : goal.returns-clause-err_rooms
+returns-clause-err_rooms c =
+    on_err c.put.result
+    (λ l n g h. room_changed n n c.args.functions.now.items c.args.id.0 c.index_mut.result.now c.put.new.self g c.index_mut.ensures.value (omega arith)
+    (λ k. omega (arith, k, l, c.put.ensures.capacity)) h)
+    c.put.ensures.err_len

@@ -1,0 +1,38 @@
+use Rattle.std.proofs.Common.{refl, arith, ap, sym, true≢false, ◌+◌, ◌∙◌}
+use Rattle.std.specs.Prelude.{◌==◌}
+use Rattle.std.specs.HashMap.{get, spare}
+use Rattle.lisp_data.specs.Name.{same_name}
+use Rattle.clos_forms.specs.declared.operator.FunctionName.TheVariants.{Symbol, Setf}
+use Rattle.clos_generic.specs.Table.{added, with_methods}
+use Rattle.clos_generic.specs.TableView.{functions_in}
+use Rattle.clos_generic.proofs.Named.{same_indexed, still_indexed}
+use Rattle.clos_generic.proofs.Ready.{first_room, ready_added, ready_changed}
+use Rattle.clos_generic.proofs.table.Generics.put.Goals as goal
+
+pub invariant_of-self-in_err-replaced : goal.invariant_of-self-in_err-replaced
+invariant_of-self-in_err-replaced c =
+    let w = c.self.inside in (
+      same_indexed Symbol (λ n. get same_name w.symbols n) (functions_in w.functions.items) (functions_in c.put_at.new.functions.items) c.self.invariant.0 c.in_err-replaced.ensures.err,
+      same_indexed Setf (λ n. get same_name w.setters n) (functions_in w.functions.items) (functions_in c.put_at.new.functions.items) c.self.invariant.1 c.in_err-replaced.ensures.err,
+      ready_changed w.functions c.put_at.new.functions (spare w.symbols) (spare w.setters) w.methods w.spares.items w.additions.items c.reserve.new.self c.self.invariant.2
+          c.put_at.ensures.len c.put_at.ensures.capacity c.reserve.ensures.len c.reserve.ensures.capacity c.in_err-replaced.ensures.err_rooms,
+    )
+
+pub returns-in_err-replaced-clause-succeeds : goal.returns-in_err-replaced-clause-succeeds
+returns-in_err-replaced-clause-succeeds c = λ h.
+    let r = first_room c.self.inside.functions.items c.self.inside.additions.items c.args.self.now.additions c.args.id.0 (ap (λ t. t.additions) c.self.view_is) h c.self.invariant.2.rooms in
+    absurd (true≢false (sym (c.in_err-replaced.ensures.succeeds r)))
+
+pub invariant_of-self-2 : goal.invariant_of-self-2
+invariant_of-self-2 c =
+    let w = c.self.inside in
+    let change = with_methods (added c.deref.result.now c.args.method) in (
+      still_indexed change (λ f. refl) Symbol (λ n. get same_name w.symbols n) (functions_in w.functions.items) (functions_in c.put_at.new.functions.items) c.args.id.0 c.self.invariant.0
+          c.in_ok-replaced.ensures.ok,
+      still_indexed change (λ f. refl) Setf (λ n. get same_name w.setters n) (functions_in w.functions.items) (functions_in c.put_at.new.functions.items) c.args.id.0 c.self.invariant.1
+          c.in_ok-replaced.ensures.ok,
+      ready_added w.functions c.put_at.new.functions (spare w.symbols) (spare w.setters) w.methods c.push_reserved.new.self w.spares.items (λ h. h.0 == c.args.id.0) w.additions.items
+          c.pass_addition.new.additions.items c.self.invariant.2 c.pass_addition.ensures c.put_at.ensures.len c.put_at.ensures.capacity
+          (c.push_reserved.ensures.len ∙ ap (λ n. n + 1) c.reserve.ensures.len)
+          (omega (arith, c.reserve.ensures.capacity, c.push_reserved.ensures.capacity)) c.push_reserved.new.self.ok.1 c.in_ok-replaced.ensures.rooms,
+    )
