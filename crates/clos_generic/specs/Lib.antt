@@ -7,3 +7,4 @@ pub mod TableView
 pub mod Reserved
 pub mod Calls
 pub mod Changes
+pub mod Examples

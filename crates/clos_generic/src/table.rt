@@ -273,7 +273,9 @@ impl Generics {
     }
 
     /// Defines a generic function, or defines it again: it keeps its methods (HyperSpec 7.7, defgeneric). Gives its
-    /// number.
+    /// number. The faults, the first that is so: a method that stays is not congruent with the new lambda list, the function
+    /// is the system's, there are as many functions as there may be. Only a new function takes memory, and none where it was
+    /// reserved.
     #[tactic(auto, using(crate::proofs::Told::told_refuses, crate::proofs::Told::told_none))]
     pub fn ensure(
         &mut self,
@@ -285,6 +287,7 @@ impl Generics {
         ensures id { IfOk result (λ g. g.0 ≡ number self.old name) }
         ensures fault { IfErr result (λ e. Refuses e (definition_refusal self.old name options)) }
         ensures reserved { is_first (λ n. same_function n name) self.old.definitions ≡ true → definition_refusal self.old name options ≡ None → IsOk result }
+        ensures again { is_some (named self.old name) ≡ true → definition_refusal self.old name options ≡ None → IsOk result }
         ensures err { OnErr result (self.new ≡ self.old) }
     {
         let found = self.named(&name);
@@ -372,7 +375,9 @@ impl Generics {
 
     /// Adds a method to its function. It has the next number, which is how many methods there were, and takes the place of
     /// the function's method of the same qualifiers and specializers, whose number is given back where there is one
-    /// (HyperSpec 7.6.3, 7.7, add-method).
+    /// (HyperSpec 7.6.3, 7.7, add-method). The faults, the first that is so: its lambda list is not congruent with the
+    /// function's, an eql specializer's object is a string or a list that is not empty or the method would take the place of
+    /// the system's, there are as many methods as there may be. It takes no memory where that was reserved.
     #[tactic(auto, using(crate::proofs::Told::told_refuses, crate::proofs::Told::told_none))]
     pub fn add_method(
         &mut self,
@@ -408,11 +413,11 @@ impl Generics {
         Ok(replaced)
     }
 
-    /// Takes a method out of its function. It stays among all methods (HyperSpec 7.7, remove-method).
-    #[tactic(auto, using(crate::proofs::Told::told_refuses))]
+    /// Takes a method out of its function. It stays among all methods (HyperSpec 7.7, remove-method). The faults: the method
+    /// is the system's, or else not one of the function's. It takes no memory.
     pub fn remove_method(&mut self, id: GenericId, method: MethodId) -> Result<(), GenericFault>
         ensures ok { OnOk result ((removal_refusal self.old id.0 method.0 ≡ None) × (self.new ≡ without_method id.0 method.0 self.old)) }
-        ensures fault { IfErr result (λ e. Refuses e (removal_refusal self.old id.0 method.0)) }
+        ensures fault { IfErr result (λ e. Tells e (removal_refusal self.old id.0 method.0)) }
         ensures err { OnErr result (self.new ≡ self.old) }
     {
         if let Err(fault) = self.refuse_removal(id, method) {
