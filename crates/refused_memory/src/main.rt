@@ -4,16 +4,14 @@
 //! had taken. The second session gives that form so many steps and all others their limit: then it writes the same, and its
 //! other replies are the same.
 //!
-//! Each line of the input is a number: so often the program allocates before the first form. So, where the environment
-//! refuses one allocation of the program, by its place among all, the input says which one of the first session that is.
+//! The first line of the input is a number: so often the program allocates before the first form. So, where the environment
+//! refuses one allocation of the program, by its place among all, the input says which one of the first session that is. The
+//! lines after it are the script.
 #![tactic(auto)]
-
-mod script;
 
 use clos_system::{Limits, Reply, Session};
 use lisp_data::{Datum, Value, equal};
 use lisp_reader::{ReadFault, read_form};
-use script::{CALLS, DEFINITIONS, INITIALIZATIONS, SLOTS};
 use std::alloc::{AllocError, Global};
 use std::io;
 
@@ -46,45 +44,20 @@ struct Performance {
     replies: Vec<Reply>,
 }
 
-/// Adds the data of a text, unless it has one that can't be read.
-fn add_data(alloc: Global, text: &str, data: &mut Vec<Datum>) -> Result<(), ReadFault> {
+/// The data of a text, unless it has one that can't be read.
+fn data_of(alloc: Global, text: &str) -> Result<Vec<Datum>, ReadFault> {
     let bytes = text.as_bytes();
+    let mut data = Vec::new(alloc);
     let mut at = 0;
     for _ in 0..bytes.len() {
         let Some((datum, next)) = read_form(alloc, bytes, at.min(bytes.len()))? else {
-            return Ok(());
+            return Ok(data);
         };
         if data.push(datum).is_err() {
             return Err(ReadFault::Memory);
         }
         at = next;
     }
-    Ok(())
-}
-
-fn add_definitions(alloc: Global, data: &mut Vec<Datum>) -> Result<(), ReadFault> {
-    add_data(alloc, DEFINITIONS, data)
-}
-
-fn add_calls(alloc: Global, data: &mut Vec<Datum>) -> Result<(), ReadFault> {
-    add_data(alloc, CALLS, data)
-}
-
-fn add_slots(alloc: Global, data: &mut Vec<Datum>) -> Result<(), ReadFault> {
-    add_data(alloc, SLOTS, data)
-}
-
-fn add_initializations(alloc: Global, data: &mut Vec<Datum>) -> Result<(), ReadFault> {
-    add_data(alloc, INITIALIZATIONS, data)
-}
-
-/// The forms of the script.
-fn read_script(alloc: Global) -> Result<Vec<Datum>, ReadFault> {
-    let mut data = Vec::new(alloc);
-    add_definitions(alloc, &mut data)?;
-    add_calls(alloc, &mut data)?;
-    add_slots(alloc, &mut data)?;
-    add_initializations(alloc, &mut data)?;
     Ok(data)
 }
 
@@ -233,13 +206,32 @@ fn tell(rt: &HostRuntime, outcome: Outcome) -> io::Result<()> {
     }
 }
 
+/// A line, and the end of it, after this text.
+fn push_line(text: &mut String, line: &str) -> Result<(), AllocError> {
+    text.push_str(line)?;
+    text.push('\n')
+}
+
+fn out_of_memory() -> io::Error {
+    io::Error::from(io::ErrorKind::OutOfMemory)
+}
+
 fn main(rt: HostRuntime) -> io::Result<()> {
-    let Ok(script) = read_script(rt.alloc()) else {
-        return Err(io::Error::from(io::ErrorKind::OutOfMemory));
-    };
+    let mut times = None;
+    let mut text = String::new(rt.alloc());
     for line in rt.lines(rt.alloc()) {
-        let times = line?.as_str().parse().unwrap_or(0);
-        tell(&rt, compare(rt.alloc(), script.as_slice(), times))?;
+        let line = line?;
+        if times.is_none() {
+            times = Some(line.as_str().parse().unwrap_or(0));
+        } else if push_line(&mut text, line.as_str()).is_err() {
+            return Err(out_of_memory());
+        }
     }
-    Ok(())
+    let Ok(script) = data_of(rt.alloc(), text.as_str()) else {
+        return Err(out_of_memory());
+    };
+    tell(
+        &rt,
+        compare(rt.alloc(), script.as_slice(), times.unwrap_or(0)),
+    )
 }
