@@ -103,9 +103,7 @@ pub fn fill(
             filling.place = place;
             match found {
                 Found::Value(value) => fill_first(alloc, machine, world, filling, value, steps),
-                Found::Initform(form) => {
-                    begin(machine, form, Frame::Filled(filling))
-                }
+                Found::Initform(form) => { begin(machine, form, Frame::Filled(filling)) }
             }
         }
     }
