@@ -1,10 +1,11 @@
 //! Standard method combination (HyperSpec 7.6.6.2).
-ghost use Rattle.std.specs.Prelude.{◌≡◌, ◌++◌, ◌∷◌, [], IfOk, map, reverse};
+ghost use Rattle.std.specs.Prelude.{◌≡◌, ◌++◌, ◌∷◌, [], true, IfOk, IsOk, is_some, map, reverse};
 ghost use Rattle.clos_forms.specs.Form.{cons, form, nil};
 ghost use Rattle.clos_forms.specs.Operator.{made, the_method};
 ghost use Rattle.clos_forms.specs.OperatorView.{operator_of};
 ghost use Rattle.clos_comb.specs.Numbers.{numbers};
 ghost use Rattle.clos_comb.specs.OutcomeView.{combined_of};
+ghost use Rattle.clos_comb.specs.Role.{without_role};
 ghost use Rattle.clos_comb.specs.Standard.{alone, around_form, called_before, combined, main_form, method_called, with_primary};
 
 use crate::outcome::Outcome;
@@ -138,13 +139,14 @@ fn combine_groups(
     }
 }
 
-/// These methods, the most specific first, combined by standard method combination.
+/// These methods, the most specific first, combined by standard method combination. To refuse a method takes no memory.
 pub(crate) fn combine_standard(
     alloc: Global,
     methods: &[Method],
     ids: &[MethodId],
 ) -> Result<Outcome, AllocError>
-    ensures { IfOk result (λ r. combined_of r ≡ combined methods.now (numbers ids.now)) }
+    ensures outcome { IfOk result (λ r. combined_of r ≡ combined methods.now (numbers ids.now)) }
+    ensures invalid { is_some (without_role methods.now (numbers ids.now)) ≡ true → IsOk result }
 {
     if let Some(invalid) = without_role(methods, ids) {
         return Ok(Outcome::InvalidMethod(invalid));

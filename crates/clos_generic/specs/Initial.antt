@@ -2,9 +2,9 @@
 use Rattle.std.specs.Prelude.{ℕ, zero, suc, codes, false, List, [], ◌∷◌, ◌++◌, length, map}
 use Rattle.lisp_data.specs.Datum.{nil}
 use Rattle.clos_forms.specs.declared.operator.FunctionName.TheVariants.{Symbol}
-use Rattle.clos_generic_core.specs.System.{system_functions, system_method_shape, system_number, system_required, system_shape, system_specializers, system_text}
+use Rattle.clos_generic_core.specs.Method.{system_method}
+use Rattle.clos_generic_core.specs.System.{system_functions, system_number, system_required, system_shape, system_text}
 use Rattle.clos_generic_core.specs.declared.method.Method.{Method}
-use Rattle.clos_generic_core.specs.declared.method.MethodBody.TheVariants.{System}
 use Rattle.clos_generic_core.specs.declared.system.SystemFunction.{SystemFunction}
 use Rattle.clos_syntax.specs.declared.generic.CombinationUse.{CombinationUse}
 use Rattle.clos_generic.specs.Table.{Function, Table, with_method}
@@ -27,16 +27,6 @@ system_generic f = record {
   precedence = left_to_right (system_required f);
   combination = standard;
   methods = system_number f ∷ [];
-}
-
-abbrev pub system_method : SystemFunction → Method
-system_method f = record {
-  generic = record { 0 = system_number f };
-  qualifiers = [];
-  specializers = system_specializers f;
-  shape = system_method_shape f;
-  initial = false;
-  body = System f;
 }
 
 abbrev pub empty : ℕ → ℕ → Table

@@ -1,10 +1,10 @@
 //! The system's generic functions and their methods.
 ghost use Rattle.std.specs.Prelude.{◌≡◌, ◌++◌, ◌∷◌, [], IfOk};
 ghost use Rattle.lisp_data.specs.Datum.{nil};
-ghost use Rattle.clos_generic.specs.Initial.{standard, system_method, system_options};
+ghost use Rattle.clos_generic.specs.Initial.{standard, system_options};
 
 use crate::options::{Options, Positions};
-use clos_generic_core::{Method, MethodBody, Qualifiers, SystemFunction};
+use clos_generic_core::SystemFunction;
 use clos_syntax::CombinationUse;
 use lisp_data::{Data, Name};
 use std::alloc::{AllocError, Global};
@@ -28,19 +28,5 @@ pub fn system_options(alloc: Global, function: SystemFunction) -> Result<Options
         precedence: Positions::left_to_right(alloc, required)?,
         shape: function.shape(),
         combination: standard(),
-    })
-}
-
-/// The method of a function of the system.
-pub fn system_method(alloc: Global, function: SystemFunction) -> Result<Method, AllocError>
-    ensures { IfOk result (λ r. r ≡ system_method function) }
-{
-    Ok(Method {
-        generic: function.id(),
-        qualifiers: Qualifiers::new(alloc),
-        specializers: function.specializers(alloc)?,
-        shape: function.method_shape(),
-        initial: false,
-        body: MethodBody::System(function),
     })
 }

@@ -16,7 +16,7 @@ use crate::methods::{all_fit, all_permitted, find_alike, is_among};
 use crate::names::{is_same, note_function};
 use crate::options::Options;
 use crate::spare::{Spare, functions_of, pass_addition, spares_for, take_spare};
-use crate::system::{system_method, system_options};
+use crate::system::system_options;
 use clos_forms::FunctionName;
 use clos_generic_core::{Method, Qualifiers, Shape, Specializers, SystemFunction, is_congruent};
 use lisp_data::{GenericId, MethodId, Name};
@@ -169,7 +169,7 @@ impl Generics {
     {
         let id = GenericId(self.function_count());
         let options = system_options(alloc, function)?;
-        let method = system_method(alloc, function)?;
+        let method = Method::of_system(alloc, function)?;
         self.make(alloc, FunctionName::Symbol(function.name()), options)?;
         self.put(id, method)?;
         Ok(())
