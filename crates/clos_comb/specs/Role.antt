@@ -1,6 +1,6 @@
 -- The roles of methods in standard method combination (HyperSpec 7.6.6.2).
 use Rattle.std.specs.Prelude.{ℕ, ◌&&◌, codes, Bool, true, false, List, [], ◌∷◌, Option, Some, None, if◌then◌else◌, filter, slice_get}
-use Rattle.std.specs.List.{find}
+use Rattle.std.specs.List.{find, list_any}
 use Rattle.std.specs.Str.{bytes_eq}
 use Rattle.lisp_data.specs.Name.{Nam}
 use Rattle.lisp_data.specs.Value.{Val, symbol}
@@ -53,6 +53,13 @@ has_none (Some r) = false
 -- those of these methods that have this role
 abbrev pub group : List Method → Role → List ℕ → List ℕ
 group methods r ms = filter (λ m. has_role r (role_of methods m)) ms
+
+-- whether one of them is a primary one
+abbrev pub is_primary : List Method → ℕ → Bool
+is_primary methods m = has_role Primary (role_of methods m)
+
+abbrev pub has_primary : List Method → List ℕ → Bool
+has_primary methods ms = list_any (is_primary methods) ms
 
 -- the first that has no role
 abbrev pub without_role : List Method → List ℕ → Option ℕ

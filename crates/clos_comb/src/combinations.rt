@@ -1,9 +1,9 @@
 //! The method combinations of a session (HyperSpec 7.6.6).
-ghost use Rattle.std.specs.Prelude.{◌≡◌, ◌+◌, true, IfOk, IsOk, is_some, min};
+ghost use Rattle.std.specs.Prelude.{◌≡◌, ◌+◌, true, false, IfOk, IsOk, is_some, min};
 ghost use Rattle.clos_comb.specs.Effective.{effective};
 ghost use Rattle.clos_comb.specs.Numbers.{numbers};
 ghost use Rattle.clos_comb.specs.OutcomeView.{combined_of};
-ghost use Rattle.clos_comb.specs.Role.{without_role};
+ghost use Rattle.clos_comb.specs.Role.{has_primary, without_role};
 
 use crate::meter::Meter;
 use crate::outcome::Outcome;
@@ -29,7 +29,7 @@ impl Combinations {
     }
 
     /// Combines these methods of a generic function, the most specific first, into an effective method, or tells why there is
-    /// none; to refuse a method takes no memory. The meter is raised each time.
+    /// none; to refuse them takes no memory. The meter is raised each time.
     pub fn effective(
         &self,
         alloc: Global,
@@ -40,6 +40,7 @@ impl Combinations {
     ) -> Result<Outcome, AllocError>
         ensures outcome { IfOk result (λ r. combined_of r ≡ effective generics.now id.0 (numbers methods.now)) }
         ensures invalid { is_some (without_role generics.now.methods (numbers methods.now)) ≡ true → IsOk result }
+        ensures empty { has_primary generics.now.methods (numbers methods.now) ≡ false → IsOk result }
         ensures meter { meter.new ≡ min (meter.old + 1) u64.MAX }
     {
         let _ = id;

@@ -1,7 +1,8 @@
 //! The roles of methods in standard method combination (HyperSpec 7.6.6.2).
 ghost use Rattle.std.specs.Prelude.{◌≡◌, IfOk, map, option_map};
 ghost use Rattle.lisp_data.specs.ValueView.{value_of};
-ghost use Rattle.clos_comb.specs.Role.{group, has_role, is_role, role_called, role_in, role_named, role_of, role_of_name, without_role};
+ghost use Rattle.std.specs.List.{list_any};
+ghost use Rattle.clos_comb.specs.Role.{group, has_role, is_primary, is_role, role_called, role_in, role_named, role_of, role_of_name, without_role};
 ghost use Rattle.clos_comb.specs.Numbers.{numbers};
 
 use clos_generic_core::{Method, Qualifiers, method_numbered};
@@ -104,6 +105,24 @@ pub(crate) fn group(
         }
     }
     Ok(members)
+}
+
+/// Whether one of these methods is a primary one.
+pub(crate) fn has_primary(methods: &[Method], ids: &[MethodId]) -> bool
+    ensures { result ≡ list_any (is_primary methods.now) (numbers ids.now) }
+{
+    for id in ids {
+        if is_primary(methods, *id) {
+            return true;
+        }
+    }
+    false
+}
+
+fn is_primary(methods: &[Method], id: MethodId) -> bool
+    ensures { result ≡ is_primary methods.now id.0 }
+{
+    has_role(Role::Primary, role_of(methods, id))
 }
 
 /// The first of these methods that has no role.

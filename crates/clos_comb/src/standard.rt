@@ -1,15 +1,15 @@
 //! Standard method combination (HyperSpec 7.6.6.2).
-ghost use Rattle.std.specs.Prelude.{◌≡◌, ◌++◌, ◌∷◌, [], true, IfOk, IsOk, is_some, map, reverse};
+ghost use Rattle.std.specs.Prelude.{◌≡◌, ◌++◌, ◌∷◌, [], true, false, IfOk, IsOk, is_some, map, reverse};
 ghost use Rattle.clos_forms.specs.Form.{cons, form, nil};
 ghost use Rattle.clos_forms.specs.Operator.{made, the_method};
 ghost use Rattle.clos_forms.specs.OperatorView.{operator_of};
 ghost use Rattle.clos_comb.specs.Numbers.{numbers};
 ghost use Rattle.clos_comb.specs.OutcomeView.{combined_of};
-ghost use Rattle.clos_comb.specs.Role.{without_role};
+ghost use Rattle.clos_comb.specs.Role.{has_primary, without_role};
 ghost use Rattle.clos_comb.specs.Standard.{alone, around_form, called_before, combined, main_form, method_called, with_primary};
 
 use crate::outcome::Outcome;
-use crate::role::{Role, group, without_role};
+use crate::role::{Role, group, has_primary, without_role};
 use clos_forms::{CalledMethod, Form, Forms, NextMethods, Operator};
 use clos_generic_core::Method;
 use lisp_data::{MethodId, Name};
@@ -139,7 +139,8 @@ fn combine_groups(
     }
 }
 
-/// These methods, the most specific first, combined by standard method combination. To refuse a method takes no memory.
+/// These methods, the most specific first, combined by standard method combination. To refuse them takes no memory.
+#[tactic(auto, using(crate::proofs::Primary::no_primary))]
 pub(crate) fn combine_standard(
     alloc: Global,
     methods: &[Method],
@@ -147,9 +148,13 @@ pub(crate) fn combine_standard(
 ) -> Result<Outcome, AllocError>
     ensures outcome { IfOk result (λ r. combined_of r ≡ combined methods.now (numbers ids.now)) }
     ensures invalid { is_some (without_role methods.now (numbers ids.now)) ≡ true → IsOk result }
+    ensures empty { has_primary methods.now (numbers ids.now) ≡ false → IsOk result }
 {
     if let Some(invalid) = without_role(methods, ids) {
         return Ok(Outcome::InvalidMethod(invalid));
+    }
+    if !has_primary(methods, ids) {
+        return Ok(Outcome::RequiredGroupEmpty(Name::fixed(&"PRIMARY")));
     }
     let around = group(alloc, methods, Role::Around, ids)?;
     let before = group(alloc, methods, Role::Before, ids)?;

@@ -1,7 +1,7 @@
 -- One element of a list is changed.
 use Rattle.std.proofs.Common.{◌≡◌, ℕ, zero, suc, List, [], ◌∷◌, ◌<◌, ◌≤◌, length, arith, map, refl, ap, sym, ◌∙◌}
 use Rattle.std.specs.Prelude.{slice_get, slice_set, slice_index_or, Result, Ok, Err, OnOk, OnErr}
-use Rattle.clos_generic.specs.Table.{methods_in, with_changed}
+use Rattle.clos_generic.specs.Table.{Function, methods_in, with_changed}
 use Rattle.clos_generic_core.specs.MethodIds.{method_numbers}
 use Rattle.clos_generic.specs.TableView.{functions_in}
 use Rattle.clos_generic.specs.declared.function.Function as code
@@ -42,3 +42,8 @@ pub past_all : {A : Type 0} (change : A → A) (xs : List A) (i : ℕ) → lengt
 past_all change [] i h = refl
 past_all change (x ∷ xs) zero h = absurd (omega (arith, h))
 past_all change (x ∷ xs) (suc i) h = ap (λ l. x ∷ l) (past_all change xs i (omega (arith, h)))
+
+pub methods_past_all : (fs : List Function) (i : ℕ) → length fs ≤ i → methods_in (slice_get fs i) ≡ []
+methods_past_all [] i h = refl
+methods_past_all (f ∷ fs) zero h = absurd (omega (arith, h))
+methods_past_all (f ∷ fs) (suc i) h = methods_past_all fs i (omega (arith, h))

@@ -5,6 +5,7 @@ use Rattle.clos_forms.specs.declared.operator.FunctionName.TheVariants.{Symbol}
 use Rattle.clos_generic_core.specs.Method.{system_method}
 use Rattle.clos_generic_core.specs.System.{system_functions, system_number, system_required, system_shape, system_text}
 use Rattle.clos_generic_core.specs.declared.method.Method.{Method}
+use Rattle.clos_generic_core.specs.declared.shape.Shape.{Shape}
 use Rattle.clos_generic_core.specs.declared.system.SystemFunction.{SystemFunction}
 use Rattle.clos_syntax.specs.declared.generic.CombinationUse.{CombinationUse}
 use Rattle.clos_generic.specs.Table.{Function, Table, with_method}
@@ -32,8 +33,12 @@ system_generic f = record {
 abbrev pub empty : ℕ → ℕ → Table
 empty functions methods = record { functions = []; methods = []; most_functions = functions; most_methods = methods; definitions = []; additions = [] }
 
+-- of a function of this shape, where no options are written
+abbrev pub standard_options : Shape → Options
+standard_options s = record { shape = s; precedence = left_to_right s.required; combination = standard }
+
 abbrev pub system_options : SystemFunction → Options
-system_options f = record { shape = system_shape f; precedence = left_to_right (system_required f); combination = standard }
+system_options f = standard_options (system_shape f)
 
 -- with one more, and its method
 abbrev pub with_system : SystemFunction → Table → Table

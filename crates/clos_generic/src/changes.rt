@@ -1,5 +1,5 @@
 //! The changes of one definition form.
-ghost use Rattle.std.specs.Prelude.{◌≡◌, ◌++◌, ◌∷◌, [], if◌then◌else◌, is_ok};
+ghost use Rattle.std.specs.Prelude.{◌≡◌, ◌++◌, ◌∷◌, [], MatchOption, if◌then◌else◌, is_ok};
 
 use crate::options::Options;
 use clos_forms::FunctionName;
@@ -100,6 +100,16 @@ impl Changes {
     {
         self.additions.push(addition)?;
         Ok(())
+    }
+
+    /// Takes the first definition out.
+    pub fn take_definition(&mut self) -> Option<Definition>
+        ensures { MatchOption result ((self.old.definitions ≡ []) × (self.new ≡ self.old)) (λ d. self.old ≡ record self.new { definitions = d ∷ self.new.definitions }) }
+    {
+        if self.definitions.is_empty() {
+            return None;
+        }
+        Some(self.definitions.remove(0))
     }
 
     /// The removals.

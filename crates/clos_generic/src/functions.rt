@@ -23,14 +23,14 @@ pub fn redefine_at(functions: &mut Vec<Function>, id: GenericId, options: Option
     functions[id.0 as usize].redefine(options);
 }
 
-/// A function has the next method, which is this one; gives back the one whose place it takes.
+/// A function has the next method, which is this one; gives back the one whose place it takes. Where there is no function
+/// of this number, nothing is changed.
 pub fn put_at(
     functions: &mut Vec<Function>,
     id: GenericId,
     all: &[Method],
     method: &Method,
 ) -> Result<Option<MethodId>, AllocError>
-    requires { id.0 < vec_len functions.old }
     ensures ok { OnOk result (functions_in functions.new.items ≡ with_changed (with_methods (added all.now method.now)) id.0 (functions_in functions.old.items)) }
     ensures replaced { IfOk result (λ r. option_map (λ m. m.0) r ≡ find (is_alike_at all.now method.now.qualifiers method.now.specializers) (methods_in (slice_get (functions_in functions.old.items) id.0))) }
     ensures err { OnErr result (functions_in functions.new.items ≡ functions_in functions.old.items) }
@@ -40,7 +40,10 @@ pub fn put_at(
     ensures len { vec_len functions.new ≡ vec_len functions.old }
     ensures capacity { vec_capacity functions.new ≡ vec_capacity functions.old }
 {
-    functions[id.0 as usize].put(all, method)
+    if id.0 < functions.len() as u64 {
+        return functions[id.0 as usize].put(all, method);
+    }
+    Ok(None)
 }
 
 /// A method is taken out of a function.

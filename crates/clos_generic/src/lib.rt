@@ -17,5 +17,6 @@ mod table;
 pub use changes::{Addition, Changes, Definition, Likeness, Removal};
 pub use fault::GenericFault;
 pub use function::Function;
-pub use options::{Options, Positions};
+pub use names::{copy_name, is_same};
+pub use options::{Options, Positions, standard_combination};
 pub use table::Generics;

@@ -1,9 +1,10 @@
 //! What a definition says of a generic function, besides its name and its methods.
 ghost use Rattle.std.specs.Prelude.{◌≡◌, ◌++◌, ◌∷◌, [], IfOk, OnOk, if◌then◌else◌, is_ok};
-ghost use Rattle.clos_generic.specs.Initial.{left_to_right};
+ghost use Rattle.clos_generic.specs.Initial.{left_to_right, standard, standard_options};
 
 use clos_generic_core::Shape;
 use clos_syntax::CombinationUse;
+use lisp_data::{Data, Name};
 use std::alloc::{AllocError, Global};
 use std::marker::Model;
 
@@ -66,4 +67,27 @@ pub struct Options {
     /// The argument precedence order: each required parameter once.
     pub precedence: Positions,
     pub combination: CombinationUse,
+}
+
+impl Options {
+    /// Of a function of this shape, where no options are written.
+    pub fn standard(alloc: Global, shape: Shape) -> Result<Options, AllocError>
+        ensures { IfOk result (λ r. r ≡ standard_options shape) }
+    {
+        Ok(Options {
+            precedence: Positions::left_to_right(alloc, shape.required)?,
+            shape,
+            combination: standard_combination(),
+        })
+    }
+}
+
+/// The standard method combination (HyperSpec 7.6.6.2).
+pub fn standard_combination() -> CombinationUse
+    ensures { result ≡ standard }
+{
+    CombinationUse {
+        name: Name::fixed(&"STANDARD"),
+        arguments: Data::new(),
+    }
 }

@@ -122,7 +122,8 @@ impl Generics {
         shape
     }
 
-    fn addition_fits(&self, definitions: &[Definition], addition: &Addition) -> bool
+    /// Whether a method may be one of its function, as it is after these definitions (HyperSpec 7.6.4).
+    pub fn addition_fits(&self, definitions: &[Definition], addition: &Addition) -> bool
         ensures { result ≡ addition_fits self.now definitions.now addition.now }
     {
         match self.shape_after(definitions, addition.generic) {
@@ -248,8 +249,8 @@ impl Generics {
         Ok(())
     }
 
-    /// The first fault of these changes.
-    pub(crate) fn refuse_changes(&self, changes: &Changes) -> Result<(), GenericFault>
+    /// The first fault of these changes. It takes no memory.
+    pub fn refuse_changes(&self, changes: &Changes) -> Result<(), GenericFault>
         ensures { MatchResult result (λ _. changes_refusal self.now changes.now ≡ None) (λ e. Tells e (changes_refusal self.now changes.now)) }
     {
         if !self.all_congruent(changes) {

@@ -1,6 +1,7 @@
 //! The generic functions of a session and their methods.
-ghost use Rattle.std.specs.Prelude.{◌≡◌, ◌==◌, ◌<◌, ◌+◌, ◌-◌, ◌++◌, ◌∷◌, [], true, None, IfOk, IsOk, IfErr, IfSome, OnOk, OnErr, MatchResult, is_some, length, option_map, option_copied, slice_get};
+ghost use Rattle.std.specs.Prelude.{◌≡◌, ◌==◌, ◌<◌, ◌+◌, ◌-◌, ◌++◌, ◌∷◌, ◌||◌, [], true, None, IfOk, IsOk, IfErr, IfSome, OnOk, OnErr, MatchResult, is_some, length, option_map, option_copied, slice_get};
 ghost use Rattle.std.specs.List.{list_any};
+ghost use Rattle.clos_forms.specs.declared.operator.FunctionName.TheVariants.{Symbol, Setf};
 ghost use Rattle.clos_generic.specs.Changes.{changes_refusal, released, reserved};
 ghost use Rattle.clos_generic.specs.Fault.{addition_refusal, all_fit, definition_refusal, is_system, refusal_at, removal_refusal, system_count, takes_in};
 ghost use Rattle.clos_generic.specs.FaultView.{Refuses, Tells};
@@ -87,9 +88,23 @@ impl Generics {
         ensures { option_map (λ g. g.0) result ≡ named self.now name.now }
     {
         match name {
-            FunctionName::Symbol(name) => self.symbols.get(name).copied(),
-            FunctionName::Setf(name) => self.setters.get(name).copied(),
+            FunctionName::Symbol(name) => self.named_by_symbol(name),
+            FunctionName::Setf(name) => self.named_by_setf(name),
         }
+    }
+
+    /// The number of the function that this symbol names.
+    pub fn named_by_symbol(&self, name: &Name) -> Option<GenericId>
+        ensures { option_map (λ g. g.0) result ≡ named self.now (Symbol name.now) }
+    {
+        self.symbols.get(name).copied()
+    }
+
+    /// The number of the function that `(setf name)` names.
+    pub fn named_by_setf(&self, name: &Name) -> Option<GenericId>
+        ensures { option_map (λ g. g.0) result ≡ named self.now (Setf name.now) }
+    {
+        self.setters.get(name).copied()
     }
 
     /// How many functions there are.
@@ -307,6 +322,26 @@ impl Generics {
         }
     }
 
+    /// The same where it can't be refused: the memory for it is reserved, or the function is there. It does not ask whether
+    /// the changes to come allow it, as `reserve` does.
+    pub fn define_reserved(&mut self, name: FunctionName, options: Options) -> GenericId
+        requires { (is_first (λ n. same_function n name) self.old.definitions || is_some (named self.old name)) ≡ true }
+        ensures seen { self.new ≡ with_definition name options self.old }
+        ensures id { result.0 ≡ number self.old name }
+    {
+        match self.named(&name) {
+            Some(id) => {
+                self.redefine(id, &name, options);
+                id
+            }
+            None => {
+                let id = GenericId(self.function_count());
+                self.make_reserved(name, options);
+                id
+            }
+        }
+    }
+
     fn redefine(&mut self, id: GenericId, name: &FunctionName, options: Options)
         requires { id.0 < length self.old.functions }
         ensures { self.new ≡ with_redefined id.0 name.now options self.old }
@@ -400,7 +435,6 @@ impl Generics {
 
     /// Puts the next method, which is this one, at the end of a function's.
     fn put(&mut self, id: GenericId, method: Method) -> Result<Option<MethodId>, AllocError>
-        requires { id.0 < length self.old.functions }
         ensures ok { OnOk result (self.new ≡ with_method id.0 method self.old) }
         ensures replaced { IfOk result (λ r. option_map (λ m. m.0) r ≡ find_method self.old id.0 method.qualifiers method.specializers) }
         ensures succeeds { is_first (λ h. h == id.0) self.old.additions ≡ true → IsOk result }
@@ -411,6 +445,18 @@ impl Generics {
         self.methods.push_reserved(method);
         pass_addition(&mut self.additions, id);
         Ok(replaced)
+    }
+
+    /// The same where it can't be refused, since the memory for it is reserved.
+    pub fn add_reserved(&mut self, id: GenericId, method: Method) -> Option<MethodId>
+        requires { is_first (λ h. h == id.0) self.old.additions ≡ true }
+        ensures seen { self.new ≡ with_method id.0 method self.old }
+        ensures replaced { option_map (λ m. m.0) result ≡ find_method self.old id.0 method.qualifiers method.specializers }
+    {
+        let Ok(replaced) = self.put(id, method) else {
+            unreachable!()
+        };
+        replaced
     }
 
     /// Takes a method out of its function. It stays among all methods (HyperSpec 7.7, remove-method). The faults: the method
@@ -427,7 +473,8 @@ impl Generics {
         Ok(())
     }
 
-    fn take_out(&mut self, id: GenericId, method: MethodId)
+    /// The same where it can't be refused: where the function has no such method, nothing is changed.
+    pub fn take_out(&mut self, id: GenericId, method: MethodId)
         ensures { self.new ≡ without_method id.0 method.0 self.old }
     {
         if id.0 < self.function_count() {

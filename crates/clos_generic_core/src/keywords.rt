@@ -65,7 +65,8 @@ fn any_checks(methods: &[Method], applicable: &[MethodId]) -> bool
     false
 }
 
-fn any_allows(methods: &[Method], applicable: &[MethodId]) -> bool
+/// Whether one of these methods has `&allow-other-keys`.
+pub fn any_allows(methods: &[Method], applicable: &[MethodId]) -> bool
     ensures { result ≡ list_any (method_allows methods.now) (method_numbers applicable.now) }
 {
     for id in applicable {
@@ -76,7 +77,8 @@ fn any_allows(methods: &[Method], applicable: &[MethodId]) -> bool
     false
 }
 
-fn any_names(methods: &[Method], applicable: &[MethodId], name: &Name) -> bool
+/// Whether one of these methods names this keyword.
+pub fn any_names(methods: &[Method], applicable: &[MethodId], name: &Name) -> bool
     ensures { result ≡ list_any (method_names methods.now name.now) (method_numbers applicable.now) }
 {
     for id in applicable {

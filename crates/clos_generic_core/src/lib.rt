@@ -15,8 +15,8 @@ pub mod system;
 
 pub use applicable::{has_eql, is_applicable};
 pub use arguments::{Argument, Arguments};
-pub use keywords::{accepts_keyword, allows_all, checks_keywords};
-pub use method::{Method, MethodBody, method_numbered};
+pub use keywords::{accepts_keyword, allows_all, any_allows, any_names, checks_keywords};
+pub use method::{Method, MethodBody, SharedLambdaList, method_numbered};
 pub use method_ids::MethodIds;
 pub use order::ordered_methods;
 pub use qualifiers::Qualifiers;

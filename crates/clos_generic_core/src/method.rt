@@ -10,13 +10,57 @@ use clos_forms::Forms;
 use clos_lambda::LambdaList;
 use lisp_data::{GenericId, MethodId, Name};
 use std::alloc::{AllocError, Global};
+use std::marker::Model;
 use std::rc::Rc;
+
+/// A lambda list that is copied by sharing it. Contracts see the lambda list.
+#[derive(Drop)]
+pub struct SharedLambdaList {
+    shared: Rc<LambdaList>,
+}
+
+impl Model for SharedLambdaList {
+    ghost use Rattle.clos_lambda.specs.contracts.lambda_list.LambdaList as lambda_list;
+    ghost use Rattle.clos_lambda.specs.declared.lambda_list.LambdaList.{LambdaList};
+
+    ghost Value = { LambdaList };
+
+    ghost coded = { lambda_list.the_row.coded };
+
+    ghost view = { λ a. a.shared.value };
+}
+
+impl SharedLambdaList {
+    /// This one.
+    pub fn new(alloc: Global, list: LambdaList) -> Result<SharedLambdaList, AllocError>
+        ensures { IfOk result (λ r. r ≡ list) }
+    {
+        let shared = Rc::new(alloc, list)?;
+        Ok(SharedLambdaList { shared })
+    }
+
+    /// The same, in a few steps.
+    pub fn copy(&self) -> Result<SharedLambdaList, AllocError>
+        ensures { IfOk result (λ r. r ≡ self.now) }
+    {
+        Ok(SharedLambdaList {
+            shared: self.shared.clone()?,
+        })
+    }
+
+    /// The lambda list.
+    pub fn list(&self) -> &LambdaList
+        ensures { result.now ≡ self.now }
+    {
+        self.shared.as_ref()
+    }
+}
 
 /// What a method does with its arguments.
 #[derive(Drop)]
 pub enum MethodBody {
     /// The parameters of the lambda list are bound to them, and the forms are evaluated.
-    Forms(Rc<LambdaList>, Forms),
+    Forms(SharedLambdaList, Forms),
     /// Reads the slot of this name (HyperSpec 7.5.2).
     Reader(Name),
     /// Writes it.

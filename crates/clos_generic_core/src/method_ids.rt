@@ -14,9 +14,12 @@ pub struct MethodIds {
 
 impl Model for MethodIds {
     ghost use Rattle.std.specs.Prelude.{List, ℕ};
+    ghost use Rattle.std.specs.Coded.{coded_list, coded_ℕ};
     ghost use Rattle.clos_generic_core.specs.MethodIds.{method_numbers};
 
     ghost Value = { List ℕ };
+
+    ghost coded = { coded_list coded_ℕ };
 
     ghost view = { λ a. method_numbers a.ids.items };
 }
