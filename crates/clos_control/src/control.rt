@@ -12,9 +12,10 @@ ghost use Rattle.clos_machine.specs.Outcome.{Run, Gave, then_do};
 ghost use Rattle.clos_machine.specs.declared.machine.Doing.TheVariants.{Act};
 
 use clos_forms::{Form, Forms};
+use clos_generic_core::SystemFunction;
 use clos_machine::machine::{Action, Control, Doing, Frame, Level, Levels, Machine};
 use clos_machine::truth::{is_true, nil};
-use clos_world::{Stop, SystemFunction, Values};
+use clos_world::{Stop, Values};
 use lisp_data::Value;
 use std::alloc::AllocError;
 

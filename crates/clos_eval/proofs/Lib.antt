@@ -1,5 +1,8 @@
 pub mod Naming
 pub mod Settled
 pub mod Shrinking
-pub mod Unmatched
+pub mod Dispatching
 pub mod Counted
+pub mod Accessing
+pub mod Nexting
+pub mod Calling

@@ -16,7 +16,6 @@ use Rattle.clos_world.specs.declared.condition.ConditionKind.TheVariants.{Unsupp
 use Rattle.clos_world.specs.declared.condition.Stop.{Stop}
 use Rattle.clos_world.specs.declared.condition.Stop.TheVariants.{Refused, Storage}
 use Rattle.clos_machine.specs.Bodies.{body_run, parameters_run, restoring, scoped}
-use Rattle.clos_machine.specs.GenericCalls.{known}
 use Rattle.clos_machine.specs.Control.{sequence}
 use Rattle.clos_machine.specs.Machine.{Binds, Leads, Settles, at, given_to, inside, resume, settled, under}
 use Rattle.clos_machine.specs.Meaning.{closed, meaning}
@@ -102,30 +101,30 @@ parameter_bound m saved outer x v ps fs w r p e h =
     (given_to m (Bind x ps fs saved outer) v) w r p (λ t. ap (bound_or_not m saved outer x v ps fs w t) e) h
 
 -- a body in a context of its own
-pub planned : (m : Machine) (saved env : Context) (outer xs : List Local) (vs : List Val) (ps : Sources) (fs : Frms) (w : State) (r : Result Doing Stop) (p : Machine)
-    → saved ≡ m.context → outer ≡ m.locals → env ≡ known vs → xs ≡ []
-    → Leads (under (record m { context = env; locals = xs }) saved outer (parameters_run (meaning m.room) env ps fs)) w r p → Leads (inside m (body_run (meaning m.room) vs ps fs)) w r p
-planned m saved env outer xs vs ps fs w r p e d k l h =
-    leads_same (under (record m { context = env; locals = xs }) saved outer (parameters_run (meaning m.room) env ps fs)) (inside m (body_run (meaning m.room) vs ps fs)) w r p
+pub planned : (m : Machine) (saved env : Context) (outer xs : List Local) (ctx : Context) (ps : Sources) (fs : Frms) (w : State) (r : Result Doing Stop) (p : Machine)
+    → saved ≡ m.context → outer ≡ m.locals → env ≡ ctx → xs ≡ []
+    → Leads (under (record m { context = env; locals = xs }) saved outer (parameters_run (meaning m.room) env ps fs)) w r p → Leads (inside m (body_run (meaning m.room) ctx ps fs)) w r p
+planned m saved env outer xs ctx ps fs w r p e d k l h =
+    leads_same (under (record m { context = env; locals = xs }) saved outer (parameters_run (meaning m.room) env ps fs)) (inside m (body_run (meaning m.room) ctx ps fs)) w r p
     (λ t. ap (λ x. under (record m { context = x; locals = xs }) saved outer (parameters_run (meaning m.room) x ps fs) w t) k
-    ∙ ap (λ x. under (record m { context = known vs; locals = x }) saved outer (parameters_run (meaning m.room) (known vs) ps fs) w t) l
-    ∙ ap (λ x. under (record m { context = known vs; locals = [] }) x outer (parameters_run (meaning m.room) (known vs) ps fs) w t) e
-    ∙ ap (λ x. under (record m { context = known vs; locals = [] }) m.context x (parameters_run (meaning m.room) (known vs) ps fs) w t) d) h
+    ∙ ap (λ x. under (record m { context = ctx; locals = x }) saved outer (parameters_run (meaning m.room) ctx ps fs) w t) l
+    ∙ ap (λ x. under (record m { context = ctx; locals = [] }) x outer (parameters_run (meaning m.room) ctx ps fs) w t) e
+    ∙ ap (λ x. under (record m { context = ctx; locals = [] }) m.context x (parameters_run (meaning m.room) ctx ps fs) w t) d) h
 
-pub bound_stops : (m : Machine) (vs us : List Val) (ns : List Nam) (fs : Frms) (w : State) (stop : Stop) (p : Machine) → us ≡ vs
-    → Binds (settled w.globals (required_sources ns us) []) (Err stop) → Leads (inside m (body_run (meaning m.room) vs (required_sources ns vs) fs)) w (Err stop) p
-bound_stops m vs us ns fs w Storage p k e = tt
-bound_stops m vs us ns fs w (Refused d) p k e = λ t.
-    settles m.levels m.context m.locals (meaning m.room) (known vs) fs w t (required_sources ns vs) []
-    ∙ ap (from m.levels m.context m.locals (meaning m.room) (known vs) fs w t) (ap (λ x. settled w.globals (required_sources ns x) []) (sym k) ∙ e)
+pub bound_stops : (m : Machine) (ctx : Context) (us : List Val) (ns : List Nam) (fs : Frms) (w : State) (stop : Stop) (p : Machine) → us ≡ ctx.arguments
+    → Binds (settled w.globals (required_sources ns us) []) (Err stop) → Leads (inside m (body_run (meaning m.room) ctx (required_sources ns ctx.arguments) fs)) w (Err stop) p
+bound_stops m ctx us ns fs w Storage p k e = tt
+bound_stops m ctx us ns fs w (Refused d) p k e = λ t.
+    settles m.levels m.context m.locals (meaning m.room) ctx fs w t (required_sources ns ctx.arguments) []
+    ∙ ap (from m.levels m.context m.locals (meaning m.room) ctx fs w t) (ap (λ x. settled w.globals (required_sources ns x) []) (sym k) ∙ e)
 
-pub bound_goes : (m : Machine) (vs us : List Val) (ns : List Nam) (fs : Frms) (w : State) (xs : List Local) (r : Result Doing Stop) (p : Machine) → us ≡ vs
+pub bound_goes : (m : Machine) (ctx : Context) (us : List Val) (ns : List Nam) (fs : Frms) (w : State) (xs : List Local) (r : Result Doing Stop) (p : Machine) → us ≡ ctx.arguments
     → settled w.globals (required_sources ns us) [] ≡ Ok (xs, [])
-    → Leads (inside m (scoped (sequence (meaning m.room) (known vs) fs (value.list value.nil)) xs)) w r p → Leads (inside m (body_run (meaning m.room) vs (required_sources ns vs) fs)) w r p
-bound_goes m vs us ns fs w xs r p k e h =
-    leads_same (inside m (scoped (sequence (meaning m.room) (known vs) fs (value.list value.nil)) xs)) (inside m (body_run (meaning m.room) vs (required_sources ns vs) fs)) w r p
-    (λ t. sym (settles m.levels m.context m.locals (meaning m.room) (known vs) fs w t (required_sources ns vs) []
-    ∙ ap (from m.levels m.context m.locals (meaning m.room) (known vs) fs w t) (ap (λ x. settled w.globals (required_sources ns x) []) (sym k) ∙ e))) h
+    → Leads (inside m (scoped (sequence (meaning m.room) ctx fs (value.list value.nil)) xs)) w r p → Leads (inside m (body_run (meaning m.room) ctx (required_sources ns ctx.arguments) fs)) w r p
+bound_goes m ctx us ns fs w xs r p k e h =
+    leads_same (inside m (scoped (sequence (meaning m.room) ctx fs (value.list value.nil)) xs)) (inside m (body_run (meaning m.room) ctx (required_sources ns ctx.arguments) fs)) w r p
+    (λ t. sym (settles m.levels m.context m.locals (meaning m.room) ctx fs w t (required_sources ns ctx.arguments) []
+    ∙ ap (from m.levels m.context m.locals (meaning m.room) ctx fs w t) (ap (λ x. settled w.globals (required_sources ns x) []) (sym k) ∙ e))) h
 
 -- where all parameters are required
 none_other : (ns : List Nam) (os : List Optional) (o : Option Nam) (k : Option Keys) (vs us : List Val) → true ≡ (is_empty os && is_none o && is_none k)

@@ -1,5 +1,5 @@
 -- What adds less than an action weighs makes a turn.
-use Rattle.std.proofs.Common.{ℕ, ◌+◌, ◌≤◌, List, Result, Ok, Err, arith}
+use Rattle.std.proofs.Common.{ℕ, ◌≤◌, List, Result, Ok, Err, arith}
 use Rattle.clos_world.specs.declared.condition.Stop.{Stop}
 use Rattle.clos_machine.specs.Machine.{Grows, Shrinks}
 use Rattle.clos_machine.specs.declared.machine.Doing.{Doing}
@@ -23,6 +23,10 @@ module _ (s s' : ℕ) (old : List Level) (m : Machine) where
   grows_6 (Ok d) g h = omega (arith, g, h)
   grows_6 (Err e) g h = tt
 
+  pub grows_9 : (r : Result Doing Stop) → Grows 9 old r m → s' ≤ s → Shrinks 12 s s' old r m
+  grows_9 (Ok d) g h = omega (arith, g, h)
+  grows_9 (Err e) g h = tt
+
   pub grows_12 : (r : Result Doing Stop) → Grows 12 old r m → s' ≤ s → Shrinks 13 s s' old r m
   grows_12 (Ok d) g h = omega (arith, g, h)
   grows_12 (Err e) g h = tt
@@ -39,3 +43,15 @@ grows_6_9 old (Err e) m h = tt
 pub grows_2_6 : (old : List Level) (r : Result Doing Stop) (m : Machine) → Grows 2 old r m → Grows 6 old r m
 grows_2_6 old (Ok d) m h = omega (arith, h)
 grows_2_6 old (Err e) m h = tt
+
+pub grows_13_16 : (old : List Level) (r : Result Doing Stop) (m : Machine) → Grows 13 old r m → Grows 16 old r m
+grows_13_16 old (Ok d) m h = omega (arith, h)
+grows_13_16 old (Err e) m h = tt
+
+pub grows_2_9 : (old : List Level) (r : Result Doing Stop) (m : Machine) → Grows 2 old r m → Grows 9 old r m
+grows_2_9 old (Ok d) m h = omega (arith, h)
+grows_2_9 old (Err e) m h = tt
+
+pub grows_9_13 : (old : List Level) (r : Result Doing Stop) (m : Machine) → Grows 9 old r m → Grows 13 old r m
+grows_9_13 old (Ok d) m h = omega (arith, h)
+grows_9_13 old (Err e) m h = tt

@@ -11,10 +11,13 @@ ghost use Rattle.clos_machine.specs.Meaning.{acted, body, changed_place, evaluat
 ghost use Rattle.clos_machine.specs.SlotNames.{name_set, place_denoted};
 ghost use Rattle.clos_machine.specs.declared.machine.Doing.TheVariants.{Start};
 
-use crate::calls::{
-    call, call_method, call_setter, compute, function_named, invoke, new_value, next_of_body,
-    next_parameter, next_value, start_call,
+use crate::bodies::{next_of_body, next_parameter};
+use crate::functions::{
+    call, call_setter, compute, function_named, new_value, next_value, start_call,
 };
+use crate::generic_calls::invoke;
+use crate::methods::call_method;
+use crate::next_methods::{call_next_given, call_next_method, has_next};
 use crate::output::{end_line, print};
 use clos_control::arguments::collect_values;
 use clos_control::assignment::{
@@ -35,6 +38,7 @@ use clos_machine::truth::{is_true, nil, t};
 use clos_objects::class_functions::{call_class_function, truth};
 use clos_objects::creation::{allocate, make_instance, next_default};
 use clos_objects::filling::{fill, fill_with};
+use clos_objects::find_method::call_find_method;
 use clos_objects::slots::{call_slot_function, call_writer, set_slot_value};
 use clos_world::{ConditionKind, Stop, Values, World, plain};
 use lisp_data::{Name, Value};
@@ -56,7 +60,7 @@ fn start_form(
 }
 
 /// An operator begins with its parts.
-#[tactic(auto, using(clos_machine::proofs::Turns::stopped_through, clos_machine::proofs::Turns::grows_6_16, clos_machine::proofs::Turns::grows_9_16))]
+#[tactic(auto, using(clos_machine::proofs::Turns::stopped_through, clos_machine::proofs::Turns::grows_6_16, clos_machine::proofs::Turns::grows_9_16, crate::proofs::Shrinking::grows_13_16))]
 fn operate(
     alloc: Global,
     machine: &mut Machine,
@@ -102,9 +106,11 @@ fn operate(
         Operator::Clause => Err(Stop::Refused(plain(alloc, ConditionKind::Unsupported))),
         Operator::Place(_) => Err(Stop::Refused(plain(alloc, ConditionKind::Unsupported))),
         Operator::WithSlots(_) => start_slots(alloc, machine, form, parts),
-        Operator::CallNextMethod => Err(Stop::Refused(plain(alloc, ConditionKind::Unsupported))),
-        Operator::NextMethodP => Err(Stop::Refused(plain(alloc, ConditionKind::Unsupported))),
-        Operator::CallMethod(method, _) => call_method(alloc, machine, world, method, parts),
+        Operator::CallNextMethod => call_next_method(alloc, machine, world, parts),
+        Operator::NextMethodP => Ok(Doing::Give(truth(has_next(machine)))),
+        Operator::CallMethod(method, next) => {
+            call_method(alloc, machine, world, method, next, parts)
+        }
     }
 }
 
@@ -126,6 +132,7 @@ fn apply(
         Callee::Terpri => end_line(alloc, machine, world, &values, steps),
         Callee::Primitive(primitive) => compute(alloc, machine, world, primitive, &values),
         Callee::MakeInstance => make_instance(alloc, machine, world, values, steps),
+        Callee::FindMethod => call_find_method(alloc, machine, world, &values),
         Callee::ClassFunction(function) => {
             call_class_function(alloc, machine, world, function, &values)
         }
@@ -137,7 +144,7 @@ fn apply(
 }
 
 /// A place is set with its arguments and the new value.
-#[tactic(auto, using(clos_machine::proofs::Running::turns_of_leads))]
+#[tactic(auto, using(crate::proofs::Calling::turns_of_call))]
 fn set_place(
     alloc: Global,
     machine: &mut Machine,
@@ -299,7 +306,7 @@ fn change_name(
 }
 
 /// An action is done with its values.
-#[tactic(auto, using(clos_machine::proofs::Running::turns_of_leads, crate::proofs::Shrinking::grows_2, crate::proofs::Shrinking::grows_4, crate::proofs::Shrinking::grows_5, crate::proofs::Shrinking::grows_6, crate::proofs::Shrinking::grows_12, crate::proofs::Shrinking::grows_14))]
+#[tactic(auto, using(clos_machine::proofs::Running::turns_of_leads, crate::proofs::Shrinking::grows_2, crate::proofs::Shrinking::grows_4, crate::proofs::Shrinking::grows_5, crate::proofs::Shrinking::grows_6, crate::proofs::Shrinking::grows_9, crate::proofs::Shrinking::grows_12, crate::proofs::Shrinking::grows_14))]
 fn act(
     alloc: Global,
     machine: &mut Machine,
@@ -340,6 +347,7 @@ fn act(
         }
         Action::Write(slot) => call_writer(alloc, machine, world, slot, &values, steps),
         Action::Read(target) => read_place(alloc, machine, world, &target, values, steps),
+        Action::CallNext => call_next_given(alloc, machine, world, values),
     }
 }
 
@@ -451,7 +459,7 @@ pub fn evaluate(
     let Ok(arguments) = Arguments::new(alloc, Values::new(alloc)) else {
         return Err(Stop::Storage);
     };
-    let context = Context { arguments };
+    let context = Context::of_function(arguments);
     let levels = Levels::new(alloc);
     let mut machine = Machine {
         levels,

@@ -18,36 +18,47 @@ use Rattle.clos_forms.specs.Quotation.{name_value}
 use Rattle.clos_world.specs.Definitions.{Same}
 use Rattle.clos_world.specs.FunctionName.{setter_value}
 use Rattle.clos_world.specs.Functions.{function_in}
-use Rattle.clos_world.specs.Generic.{function_named, setter_named}
+use Rattle.clos_forms.specs.declared.operator.FunctionName.TheVariants.{Symbol, Setf}
+use Rattle.clos_generic.specs.Table.{named}
+use Rattle.clos_generic.specs.Table as generics
+use Rattle.clos_generic_core.specs.Shape.{takes_count}
+use Rattle.clos_generic_core.specs.declared.method.Method.{Method}
+use Rattle.clos_generic_core.specs.declared.method.MethodBody.{MethodBody}
+use Rattle.clos_generic_core.specs.declared.method.MethodBody.TheVariants.{Forms, Reader, Writer, System}
+use Rattle.clos_comb.specs.Effective as comb
+use Rattle.clos_comb.specs.Outcome.{Combined}
+use Rattle.clos_comb.specs.Outcome as outcome
+use Rattle.std.specs.Str.{bytes_eq}
+use Rattle.clos_world.specs.Dispatch.{ordered}
 use Rattle.clos_world.specs.Globals.{is_global, any_global}
-use Rattle.clos_world.specs.System.{system_number}
-use Rattle.clos_world.specs.declared.system.SystemFunction.{SystemFunction}
-use Rattle.clos_world.specs.declared.system.SystemFunction.TheVariants.{InitializeInstance, ReinitializeInstance, SharedInitialize, SlotUnbound, SlotMissing, NoApplicableMethod}
+use Rattle.clos_generic_core.specs.System.{system_number}
+use Rattle.clos_generic_core.specs.declared.system.SystemFunction.{SystemFunction}
+use Rattle.clos_generic_core.specs.declared.system.SystemFunction.TheVariants.{InitializeInstance, ReinitializeInstance, SharedInitialize, UpdateInstanceForRedefinedClass, UpdateInstanceForDifferentClass, SlotUnbound, SlotMissing, NoApplicableMethod, NoNextMethod}
 use Rattle.clos_world.specs.Values.{only_value, last_first}
-use Rattle.clos_world.specs.World.{State, Local, bound_as, unbound, local_named, names_of, class_of, class_of_instance, held, lists_of}
+use Rattle.clos_world.specs.World.{State, Local, bound_as, unbound, local_named, names_of, class_of, class_of_instance, held}
 use Rattle.clos_world.specs.declared.condition.Condition.{Condition}
 use Rattle.clos_world.specs.declared.condition.ConditionKind.TheVariants.{DepthLimit, ProgramError}
 use Rattle.clos_world.specs.declared.functions.Function.{Function}
-use Rattle.clos_world.specs.declared.generic.Generic.{Generic}
-use Rattle.clos_world.specs.declared.generic.Method.{Method}
-use Rattle.clos_world.specs.declared.generic.MethodBody.{MethodBody}
-use Rattle.clos_world.specs.declared.generic.MethodBody.TheVariants.{Forms, Reader, Writer, System}
 use Rattle.clos_machine.specs.Accessors.{read_by, read_of, written_by, written_of}
 use Rattle.clos_machine.specs.Assignment.{stored, stored_globally, stored_only, made_of, changed_only, global_set}
 use Rattle.clos_machine.specs.Callee.{callee_of}
 use Rattle.clos_machine.specs.ClassFunctions.{Answer, class_answer, comes_to}
 use Rattle.clos_machine.specs.Bodies.{restoring, parameters_run, body_run}
-use Rattle.clos_machine.specs.Calls.{called_defined, called_setter, called_setter_by, called_function, method_run, method_body_run, method_called, made_run}
-use Rattle.clos_machine.specs.GenericCalls.{known, takes, applicable, combination, combined_or, methods_called, unmatched_by, unmatched, called_generic, invoked}
-use Rattle.clos_machine.specs.SystemMethods.{class_in, shared_initialized, initialize, if_valid, reinitialize_as, reinitialize, filled_as, initialize_slots, system_method_run}
+use Rattle.clos_machine.specs.Calls.{called_defined, called_setter, called_setter_by, called_function, keys_are_even, method_run, method_body_run, method_called, made_run}
+use Rattle.clos_machine.specs.NextMethods.{next_by, next_called, next_given, next_in, next_run, none_next}
+use Rattle.clos_machine.specs.FindMethod.{method_answer}
+use Rattle.clos_machine.specs.Dispatch.{Dispatch}
+use Rattle.clos_machine.specs.Contexts.{in_call, known, running, with_arguments}
+use Rattle.clos_machine.specs.GenericCalls.{after_positional, called_generic, combined_run, invoked, keywords_fit, matched, matched_or, unmatched, unmatched_by}
+use Rattle.clos_machine.specs.SystemMethods.{class_in, shared_initialized, initialize, if_valid, reinitialize_as, reinitialize, filled_as, initialize_slots, shared_initialize, system_method_run}
 use Rattle.clos_machine.specs.Control.{keeping, sequence, while_true, until_true, branch, followed, going, tested, clause, clauses}
 use Rattle.clos_machine.specs.Fault.{answered}
-use Rattle.clos_machine.specs.Meaning.{acted, collect, collected, alone, setq, setf, assigned, place_in, with_amount, set_place, changed_from, changed_place, changing, changed_by, other_function, is_plain_function, symbol_function, setter_function, function_value, operated, body, meaning, closed, evaluation, name_changed}
+use Rattle.clos_machine.specs.Meaning.{acted, collect, collected, alone, setq, setf, assigned, place_in, next_method, with_amount, set_place, changed_from, changed_place, changing, changed_by, other_function, is_plain_function, symbol_function, setter_function, function_value, operated, body, meaning, closed, evaluation, name_changed}
 use Rattle.clos_machine.specs.Objects.{designated}
 use Rattle.clos_machine.specs.Filling.{are_slot_names, Filler, nothing, initform, filler, filled, filled_with, filled_by, fill, fill_with, is_the_class, slots_left, Subject, subject_of}
 use Rattle.clos_machine.specs.Filling as filler
 use Rattle.clos_machine.specs.Functions.{applied, place_read, place_set}
-use Rattle.clos_machine.specs.Initialization.{allocate, initialized, invalid_initarg, is_given, made, defaulted, making_of, making, instance_made}
+use Rattle.clos_machine.specs.Initialization.{allocate, checked, initialized, invalid_initarg, is_given, made, methods_reached, defaulted, making_of, making, instance_made}
 use Rattle.clos_machine.specs.Slots.{class_value, operation_name, missing_called, missing_changed, instance_in, slot_designated, slot_read, slot_tested, slot_changed, slot_answer, slot_applied, slot_called, slot_given, slot_set, slot_stored}
 use Rattle.clos_machine.specs.declared.callee.SlotFunction as of_slots
 use Rattle.clos_machine.specs.declared.callee.SlotFunction.TheVariants.{SlotValue, SlotBoundp, SlotMakunbound, SlotExistsP}
@@ -60,23 +71,24 @@ use Rattle.clos_store.specs.Store.{allocated, has_room, slot_found, with_instanc
 use Rattle.clos_world.specs.Class.{effective}
 use Rattle.clos_machine.specs.Outcome.{Out, Gave, Stopped, Run, Eval, then_do, step_then, gave, stopped, is_true}
 use Rattle.clos_machine.specs.Output.{output_of, text_by, written, line_ended}
-use Rattle.clos_machine.specs.Parameters.{Sources, argument, refused, init, are_pairs, fits, required_sources, sources}
+use Rattle.clos_machine.specs.Parameters.{Sources, argument, refused, init, are_even, are_pairs, fits, sources}
 use Rattle.clos_machine.specs.Variables.{Loop, found_value, variable_value, inner, leaving, init_form, within, binding, in_order, together, aside, name_in, counted, body_of, result_value, turns, turns_in, repeated, dotimes}
 use Rattle.clos_machine.specs.SlotNames.{name_read, name_set, place_denoted, slot_locals, within_slots}
 use Rattle.clos_machine.specs.declared.arguments.Context.{Context}
+use Rattle.clos_machine.specs.declared.arguments.Running.{Running}
 use Rattle.clos_machine.specs.declared.callee.Callee.{Callee}
-use Rattle.clos_machine.specs.declared.callee.Callee.TheVariants.{Output, Terpri, Primitive, MakeInstance, ClassFunction, SlotFunction, Defined}
+use Rattle.clos_machine.specs.declared.callee.Callee.TheVariants.{Output, Terpri, Primitive, MakeInstance, FindMethod, ClassFunction, SlotFunction, Defined}
 use Rattle.clos_machine.specs.declared.callee.Output as output
 use Rattle.clos_machine.specs.declared.machine.Action.{Action}
-use Rattle.clos_machine.specs.declared.machine.Action.TheVariants.{Call, Set, Store, Change, NewValue, Amount, ChangePlace, Allocate, Fill, FillWith, Write, Read}
+use Rattle.clos_machine.specs.declared.machine.Action.TheVariants.{Call, Set, Store, Change, NewValue, Amount, ChangePlace, Allocate, Fill, FillWith, Write, Read, CallNext}
 use Rattle.clos_machine.specs.declared.machine.Control.{Control}
 use Rattle.clos_machine.specs.declared.machine.Control.TheVariants.{Progn, Prog1, If, When, Unless, And, Or}
 
 pub same : (w : State) → Same w w
-same w = (refl, refl, refl, refl, refl)
+same w = (refl, refl, refl, refl)
 
 pub same_then : (w u t : State) → Same w u → Same u t → Same w t
-same_then w u t h g = (g.0 ∙ h.0, g.1 ∙ h.1, g.2 ∙ h.2, g.3 ∙ h.3, g.4 ∙ h.4)
+same_then w u t h g = (g.0 ∙ h.0, g.1 ∙ h.1, g.2 ∙ h.2, g.3 ∙ h.3)
 
 -- the definitions after it are those before
 abbrev pub Kept : State → Out → Type 0
@@ -171,25 +183,32 @@ collect_kept ev h env (cons f fs) vs go g w k =
     then_kept w (ev env f w k) (λ v. collect ev env fs (vs ++ v ∷ []) go) (h env f w k)
     (λ v u j. collect_kept ev h env fs (vs ++ v ∷ []) go g u j)
 
-combined_kept_or : (ev : Eval) → Keeps ev → (vs : List Val) (other : Run) (o : Option Frm) (w : State) (k : ℕ) → Kept w (other w k) → Kept w (combined_or ev vs other o w k)
-combined_kept_or ev h vs other None w k g = g
-combined_kept_or ev h vs other (Some f) w k g = h (known vs) f w k
+combined_kept : (ev : Eval) → Keeps ev → (env : Context) (f : generics.Function) (c : Combined) (w : State) (k : ℕ) → Kept w (combined_run ev env f c w k)
+combined_kept ev h env f (outcome.effective e) w k = h env e w k
+combined_kept ev h env f (outcome.invalid_method m) w k = same w
+combined_kept ev h env f (outcome.group_empty name) w k = same w
 
-methods_kept : (ev : Eval) → Keeps ev → (vs : List Val) (other : Run) (g : Generic) (w : State) (k : ℕ) → Kept w (other w k) → Kept w (methods_called ev vs other g w k)
-methods_kept ev h vs other g w k e = combined_kept_or ev h vs other (combination (applicable w vs g)) w k e
+matched_kept : (ev : Eval) → Keeps ev → (vs : List Val) (g : ℕ) (f : generics.Function) (other : Run) (ms : List ℕ) (w : State) (k : ℕ) → Kept w (other w k)
+    → Kept w (matched_or ev vs g f other ms w k)
+matched_kept ev h vs g f other [] w k e = e
+matched_kept ev h vs g f other (m ∷ ms) w k e =
+    choice_kept (keywords_fit w.generics g (m ∷ ms) (after_positional f.shape vs)) w _ _
+    (combined_kept ev h (in_call (record { generic = g; methods = m ∷ ms }) vs) f (comb.effective w.generics g (m ∷ ms)) w k) (same w)
 
-unmatched_kept : (ev : Eval) → Keeps ev → (vs : List Val) (o : Option Generic) (w : State) (k : ℕ) → Kept w (unmatched_by ev vs o w k)
+unmatched_kept : (ev : Eval) → Keeps ev → (vs : List Val) (o : Option generics.Function) (w : State) (k : ℕ) → Kept w (unmatched_by ev vs o w k)
 unmatched_kept ev h vs None w k = same w
-unmatched_kept ev h vs (Some g) w k = methods_kept ev h vs (stopped ProgramError []) g w k (same w)
+unmatched_kept ev h vs (Some f) w k =
+    matched_kept ev h vs (system_number NoApplicableMethod) f (stopped ProgramError []) (ordered w (system_number NoApplicableMethod) vs) w k (same w)
 
-generic_kept : (ev : Eval) → Keeps ev → (vs : List Val) (n : ℕ) (o : Option Generic) (w : State) (k : ℕ) → Kept w (called_generic ev vs n o w k)
-generic_kept ev h vs n None w k = same w
-generic_kept ev h vs n (Some g) w k =
-    choice_kept (takes g vs) w (methods_called ev vs (unmatched ev n vs) g w k) _
-    (methods_kept ev h vs (unmatched ev n vs) g w k (unmatched_kept ev h (value.generic n ∷ vs) (slice_get w.generics (system_number NoApplicableMethod)) w k)) (same w)
+generic_kept : (ev : Eval) → Keeps ev → (vs : List Val) (g : ℕ) (o : Option generics.Function) (w : State) (k : ℕ) → Kept w (called_generic ev vs g o w k)
+generic_kept ev h vs g None w k = same w
+generic_kept ev h vs g (Some f) w k =
+    choice_kept (takes_count f.shape (length vs)) w _ _
+    (matched_kept ev h vs g f (unmatched ev g vs) (ordered w g vs) w k
+    (unmatched_kept ev h (value.generic g ∷ vs) (slice_get w.generics.functions (system_number NoApplicableMethod)) w k)) (same w)
 
 invoked_kept : (ev : Eval) → Keeps ev → (f : SystemFunction) (vs : List Val) (w : State) (k : ℕ) → Kept w (invoked ev f vs w k)
-invoked_kept ev h f vs w k = generic_kept ev h vs (system_number f) (slice_get w.generics (system_number f)) w k
+invoked_kept ev h f vs w k = generic_kept ev h vs (system_number f) (slice_get w.generics.functions (system_number f)) w k
 
 restored : (l : List Local) (w : State) (o : Out) → Kept w o → Kept w (then_do o (restoring l))
 restored l w (Gave v u k) h = h
@@ -207,18 +226,17 @@ parameters_kept ev h env ((x, init f) ∷ ps) fs w k =
     then_kept w (ev env f w k) (λ v. binding x v (parameters_run ev env ps fs)) (h env f w k)
     (λ v u j. binding_kept x v (parameters_run ev env ps fs) (λ t i. parameters_kept ev h env ps fs t i) u j)
 
-body_kept : (ev : Eval) → Keeps ev → (vs : List Val) (ps : Sources) (fs : Frms) (w : State) (k : ℕ) → Kept w (body_run ev vs ps fs w k)
-body_kept ev h vs ps fs w k =
-    restored w.locals w (parameters_run ev (known vs) ps fs (bound_as [] w) k) (parameters_kept ev h (known vs) ps fs (bound_as [] w) k)
+body_kept : (ev : Eval) → Keeps ev → (env : Context) (ps : Sources) (fs : Frms) (w : State) (k : ℕ) → Kept w (body_run ev env ps fs w k)
+body_kept ev h env ps fs w k = restored w.locals w (parameters_run ev env ps fs (bound_as [] w) k) (parameters_kept ev h env ps fs (bound_as [] w) k)
 
 defined_kept : (ev : Eval) → Keeps ev → (vs : List Val) (name : Val) (o : Option Function) (w : State) (k : ℕ) → Kept w (called_defined ev vs name o w k)
 defined_kept ev h vs name None w k = same w
 defined_kept ev h vs name (Some f) w k =
-    choice_kept (fits f.lambda_list vs) w (body_run ev vs (sources f.lambda_list vs) f.body w k) _ (body_kept ev h vs (sources f.lambda_list vs) f.body w k) (same w)
+    choice_kept (fits f.lambda_list vs) w (body_run ev (known vs) (sources f.lambda_list vs) f.body w k) _ (body_kept ev h (known vs) (sources f.lambda_list vs) f.body w k) (same w)
 
 function_kept : (ev : Eval) → Keeps ev → (name : Nam) (vs : List Val) (o : Option ℕ) (w : State) (k : ℕ) → Kept w (called_function ev name vs o w k)
 function_kept ev h name vs None w k = defined_kept ev h vs (name_value name) (function_in w.functions name) w k
-function_kept ev h name vs (Some g) w k = generic_kept ev h vs g (slice_get w.generics g) w k
+function_kept ev h name vs (Some g) w k = generic_kept ev h vs g (slice_get w.generics.functions g) w k
 
 -- ---- slots
 
@@ -327,11 +345,15 @@ initialized_kept ev h c vs i (Some x) w k = same w
 initialized_kept ev h c vs i None w k =
     then_kept w (invoked ev InitializeInstance (value.instance i ∷ vs) w k) (λ v. gave (value.instance i)) (invoked_kept ev h InitializeInstance (value.instance i ∷ vs) w k) (λ v u j. same u)
 
+checked_kept : (ev : Eval) → Keeps ev → (c : ℕ) (e : Whole) (vs : List Val) (i : ℕ) (w : State) (k : ℕ) → Kept w (checked ev c e vs i w k)
+checked_kept ev h c e vs i w k =
+    initialized_kept ev h c vs i (invalid_initarg w.generics.methods (methods_reached w InitializeInstance i (truth true)) e.slots vs) w k
+
 allocate_kept : (ev : Eval) → Keeps ev → (env : Context) (c : ℕ) (e : Whole) (vs : List Val) (w : State) (k : ℕ) → Kept w (allocate ev env c e vs w k)
 allocate_kept ev h env c e vs w k =
     choice_kept (has_room w.store) w (step_then (made ev env c e vs) w k) _
     (step_kept (made ev env c e vs) w k
-    (λ j. initialized_kept ev h c vs (length w.store.instances + 1) (invalid_initarg e.slots vs) (record w { store = with_instance (allocated c e.layout) w.store }) j)) (same w)
+    (λ j. checked_kept ev h c e vs (length w.store.instances + 1) (record w { store = with_instance (allocated c e.layout) w.store }) j)) (same w)
 
 defaulted_kept : (ev : Eval) → Keeps ev → (env : Context) (c : ℕ) (e : Whole) (ds : List DefaultInitarg) (vs : List Val) (w : State) (k : ℕ) → Kept w (defaulted ev env c e ds vs w k)
 defaulted_kept ev h env c e [] vs w k = allocate_kept ev h env c e vs w k
@@ -375,9 +397,10 @@ applied_kept ev h env (Output o) name vs w k = output_kept o (only_value vs) w k
 applied_kept ev h env Terpri name vs w k = line_kept vs w k
 applied_kept ev h env (Primitive p) name vs w k = answered_kept (answer p vs) w k
 applied_kept ev h env MakeInstance name vs w k = instance_kept ev h vs w k
+applied_kept ev h env FindMethod name vs w k = comes_kept (method_answer w.classes w.generics vs) w k
 applied_kept ev h env (SlotFunction f) name vs w k = slot_called_kept ev h env f vs w k
 applied_kept ev h env (ClassFunction f) name vs w k = comes_kept (class_answer f w.classes (class_of w) vs) w k
-applied_kept ev h env Defined name vs w k = function_kept ev h name vs (function_named w.generics name) w k
+applied_kept ev h env Defined name vs w k = function_kept ev h name vs (named w.generics (Symbol name)) w k
 
 -- ---- variables
 
@@ -465,10 +488,10 @@ changed_kept p name (Some amount) w k =
 
 setter_kept_by : (ev : Eval) → Keeps ev → (name : Nam) (vs : List Val) (o : Option ℕ) (w : State) (k : ℕ) → Kept w (called_setter_by ev name vs o w k)
 setter_kept_by ev h name vs None w k = defined_kept ev h vs (setter_value name) (function_in w.setters name) w k
-setter_kept_by ev h name vs (Some g) w k = generic_kept ev h vs g (slice_get w.generics g) w k
+setter_kept_by ev h name vs (Some g) w k = generic_kept ev h vs g (slice_get w.generics.functions g) w k
 
 setter_kept : (ev : Eval) → Keeps ev → (name : Nam) (vs : List Val) (w : State) (k : ℕ) → Kept w (called_setter ev name vs w k)
-setter_kept ev h name vs w k = setter_kept_by ev h name (last_first vs) (setter_named w.generics name) w k
+setter_kept ev h name vs w k = setter_kept_by ev h name (last_first vs) (named w.generics (Setf name)) w k
 
 read_kept : (ev : Eval) → Keeps ev → (env : Context) (t : Target) (vs : List Val) (w : State) (k : ℕ) → Kept w (place_read ev env t vs w k)
 read_kept ev h env (target.Call name) vs w k = applied_kept ev h env (callee_of name) name vs w k
@@ -515,6 +538,112 @@ within_slots_kept : (ev : Eval) → Keeps ev → (env : Context) (bs : List Boun
     → Kept w (within_slots ev env bs fs object w k)
 within_slots_kept ev h env bs fs object w k = within_kept ev h env (length w.locals) fs none (bound_as (slot_locals bs object ++ w.locals) w) k
 
+-- ---- the system's methods
+
+shared_kept : (ev : Eval) → Keeps ev → (i : ℕ) (names : Val) (vs : List Val) (w : State) (k : ℕ) → Kept w (shared_initialized ev i names vs w k)
+shared_kept ev h i names vs w k =
+    then_kept w (invoked ev SharedInitialize (value.instance i ∷ names ∷ vs) w k) (λ v. gave (value.instance i))
+    (invoked_kept ev h SharedInitialize (value.instance i ∷ names ∷ vs) w k) (λ v u j. same u)
+
+initialize_kept : (ev : Eval) → Keeps ev → (vs : List Val) (d : Result ℕ Condition) (w : State) (k : ℕ) → Kept w (initialize ev vs d w k)
+initialize_kept ev h vs (Err c) w k = same w
+initialize_kept ev h vs (Ok i) w k = shared_kept ev h i (truth true) vs w k
+
+valid_kept : (c : ℕ) (o : Option Val) (go : Run) (w : State) (k : ℕ) → Kept w (go w k) → Kept w (if_valid c o go w k)
+valid_kept c None go w k h = h
+valid_kept c (Some x) go w k h = same w
+
+reinitialize_kept_as : (ev : Eval) → Keeps ev → (vs : List Val) (i : ℕ) (o : Option (ℕ × Whole)) (w : State) (k : ℕ) → Kept w (reinitialize_as ev vs i o w k)
+reinitialize_kept_as ev h vs i None w k = same w
+reinitialize_kept_as ev h vs i (Some p) w k =
+    valid_kept p.0 (invalid_initarg w.generics.methods (methods_reached w ReinitializeInstance i none) p.1.slots vs) (shared_initialized ev i none vs) w k (shared_kept ev h i none vs w k)
+
+reinitialize_kept : (ev : Eval) → Keeps ev → (vs : List Val) (d : Result ℕ Condition) (w : State) (k : ℕ) → Kept w (reinitialize ev vs d w k)
+reinitialize_kept ev h vs (Err c) w k = same w
+reinitialize_kept ev h vs (Ok i) w k = reinitialize_kept_as ev h vs i (class_in w i) w k
+
+filled_as_kept : (ev : Eval) → Keeps ev → (i : ℕ) (names : Val) (vs : List Val) (o : Option (ℕ × Whole)) (w : State) (k : ℕ) → Kept w (filled_as ev i names vs o w k)
+filled_as_kept ev h i names vs None w k = same w
+filled_as_kept ev h i names vs (Some p) w k =
+    let f : Subject = record { instance = i; class = p.0; names = names; initargs = vs } in
+    restored w.locals w (fill ev (known []) f p.1.slots (bound_as [] w) k) (fill_kept ev h (known []) f p.1.slots (bound_as [] w) k)
+
+slots_kept : (ev : Eval) → Keeps ev → (names : Val) (vs : List Val) (d : Result ℕ Condition) (w : State) (k : ℕ) → Kept w (initialize_slots ev names vs d w k)
+slots_kept ev h names vs (Err c) w k = same w
+slots_kept ev h names vs (Ok i) w k =
+    choice_kept (are_slot_names names) w (filled_as ev i names vs (class_in w i) w k) _ (filled_as_kept ev h i names vs (class_in w i) w k) (same w)
+
+system_kept : (ev : Eval) → Keeps ev → (f : SystemFunction) (vs : List Val) (w : State) (k : ℕ) → Kept w (system_method_run ev f vs w k)
+system_kept ev h InitializeInstance [] w k = same w
+system_kept ev h InitializeInstance (v ∷ vs) w k = initialize_kept ev h vs (instance_in v) w k
+system_kept ev h ReinitializeInstance [] w k = same w
+system_kept ev h ReinitializeInstance (v ∷ vs) w k = reinitialize_kept ev h vs (instance_in v) w k
+system_kept ev h SharedInitialize [] w k = same w
+system_kept ev h SharedInitialize (v ∷ []) w k = same w
+system_kept ev h SharedInitialize (v ∷ (names ∷ vs)) w k =
+    choice_kept (are_even vs) w (initialize_slots ev names vs (instance_in v) w k) _ (slots_kept ev h names vs (instance_in v) w k) (same w)
+system_kept ev h UpdateInstanceForRedefinedClass [] w k = same w
+system_kept ev h UpdateInstanceForRedefinedClass (v ∷ vs) w k = same w
+system_kept ev h UpdateInstanceForDifferentClass [] w k = same w
+system_kept ev h UpdateInstanceForDifferentClass (v ∷ vs) w k = same w
+system_kept ev h SlotUnbound vs w k = same w
+system_kept ev h SlotMissing vs w k = same w
+system_kept ev h NoApplicableMethod [] w k = same w
+system_kept ev h NoApplicableMethod (v ∷ vs) w k = same w
+system_kept ev h NoNextMethod [] w k = same w
+system_kept ev h NoNextMethod (v ∷ []) w k = same w
+system_kept ev h NoNextMethod (v ∷ (m ∷ vs)) w k = same w
+
+-- ---- methods
+
+method_body_kept : (ev : Eval) → Keeps ev → (env : Context) (b : MethodBody) (w : State) (k : ℕ) → Kept w (method_body_run ev env b w k)
+method_body_kept ev h env (Forms l fs) w k =
+    choice_kept (keys_are_even l env.arguments) w (body_run ev env (sources l env.arguments) fs w k) _
+    (body_kept ev h env (sources l env.arguments) fs w k) (same w)
+method_body_kept ev h env (Reader slot) w k = reader_kept ev h env slot env.arguments w k
+method_body_kept ev h env (Writer slot) w k = writer_kept ev h env slot env.arguments w k
+method_body_kept ev h env (System f) w k = system_kept ev h f env.arguments w k
+
+method_kept : (ev : Eval) → Keeps ev → (env : Context) (o : Option Method) (w : State) (k : ℕ) → Kept w (method_run ev env o w k)
+method_kept ev h env None w k = same w
+method_kept ev h env (Some m) w k = method_body_kept ev h env m.body w k
+
+made_kept : (ev : Eval) → Keeps ev → (env : Context) (fs : Frms) (w : State) (k : ℕ) → Kept w (made_run ev env fs w k)
+made_kept ev h env nil w k = same w
+made_kept ev h env (cons f fs) w k = h env f w k
+
+called_kept_method : (ev : Eval) → Keeps ev → (env : Context) (m : Callable) (next : List Callable) (fs : Frms) (w : State) (k : ℕ) → Kept w (method_called ev env m next fs w k)
+called_kept_method ev h env (of.the_method m) next fs w k = method_kept ev h (running m next fs env) (slice_get w.generics.methods m) w k
+called_kept_method ev h env of.made next fs w k = made_kept ev h env fs w k
+
+-- ---- next methods
+
+none_next_kept : (ev : Eval) → Keeps ev → (o : Option Dispatch) (m : ℕ) (vs : List Val) (w : State) (k : ℕ) → Kept w (none_next ev o m vs w k)
+none_next_kept ev h None m vs w k = same w
+none_next_kept ev h (Some d) m vs w k = invoked_kept ev h NoNextMethod (value.generic d.generic ∷ value.method m ∷ vs) w k
+
+next_run_kept : (ev : Eval) → Keeps ev → (env : Context) (r : Running) (ns : List Callable) (vs : List Val) (w : State) (k : ℕ) → Kept w (next_run ev env r ns vs w k)
+next_run_kept ev h env r [] vs w k = none_next_kept ev h env.call r.method.0 vs w k
+next_run_kept ev h env r (n ∷ ns) vs w k = called_kept_method ev h (with_arguments vs env) n ns r.forms w k
+
+next_called_kept : (ev : Eval) → Keeps ev → (env : Context) (o : Option Running) (vs : List Val) (w : State) (k : ℕ) → Kept w (next_called ev env o vs w k)
+next_called_kept ev h env None vs w k = same w
+next_called_kept ev h env (Some r) vs w k = next_run_kept ev h env r r.next vs w k
+
+next_by_kept : (ev : Eval) → Keeps ev → (env : Context) (r : Running) (d : Dispatch) (o : Option generics.Function) (vs : List Val) (w : State) (k : ℕ) → Kept w (next_by ev env r d o vs w k)
+next_by_kept ev h env r d None vs w k = same w
+next_by_kept ev h env r d (Some f) vs w k =
+    choice_kept (takes_count f.shape (length vs)) w _ _
+    (choice_kept (bytes_eq (ordered w d.generic vs) d.methods) w (next_run ev env r r.next vs w k) _ (next_run_kept ev h env r r.next vs w k) (same w)) (same w)
+
+next_in_kept : (ev : Eval) → Keeps ev → (env : Context) (r : Running) (o : Option Dispatch) (vs : List Val) (w : State) (k : ℕ) → Kept w (next_in ev env r o vs w k)
+next_in_kept ev h env r None vs w k = same w
+next_in_kept ev h env r (Some d) vs w k = next_by_kept ev h env r d (slice_get w.generics.functions d.generic) vs w k
+
+next_given_kept : (ev : Eval) → Keeps ev → (env : Context) (o : Option Running) (vs : List Val) (w : State) (k : ℕ) → Kept w (next_given ev env o vs w k)
+next_given_kept ev h env None vs w k = same w
+next_given_kept ev h env (Some r) vs w k = next_in_kept ev h env r env.call vs w k
+
 -- ---- actions
 
 acted_kept : (ev : Eval) → Keeps ev → (env : Context) (a : Action) (vs : List Val) (w : State) (k : ℕ) → Kept w (acted ev env a vs w k)
@@ -532,6 +661,7 @@ acted_kept ev h env (Fill f) vs w k = fill_kept ev h env (subject_of f) (slots_l
 acted_kept ev h env (FillWith f v) vs w k = fill_with_kept ev h env (subject_of f) (slots_left f) (value_of v) w k
 acted_kept ev h env (Write slot) vs w k = writer_kept ev h env slot vs w k
 acted_kept ev h env (Read t) vs w k = read_kept ev h env t vs w k
+acted_kept ev h env CallNext vs w k = next_given_kept ev h env env.running vs w k
 
 collected_kept : (ev : Eval) → Keeps ev → (env : Context) (fs : Frms) (a : Action) (w : State) (k : ℕ) → Kept w (collected ev env fs a w k)
 collected_kept ev h env fs a w k = collect_kept ev h env fs [] (acted ev env a) (λ us u j. acted_kept ev h env a us u j) w k
@@ -583,78 +713,14 @@ setter_value_kept name None w k = other_kept (is_some (function_in w.setters nam
 setter_value_kept name (Some g) w k = same w
 
 value_kept : (c : Called) (w : State) (k : ℕ) → Kept w (function_value c w k)
-value_kept (by_symbol name) w k = symbol_kept name (function_named w.generics name) w k
-value_kept (by_setf name) w k = setter_value_kept name (setter_named w.generics name) w k
-
--- ---- the system's methods
-
-shared_kept : (ev : Eval) → Keeps ev → (i : ℕ) (names : Val) (vs : List Val) (w : State) (k : ℕ) → Kept w (shared_initialized ev i names vs w k)
-shared_kept ev h i names vs w k =
-    then_kept w (invoked ev SharedInitialize (value.instance i ∷ names ∷ vs) w k) (λ v. gave (value.instance i))
-    (invoked_kept ev h SharedInitialize (value.instance i ∷ names ∷ vs) w k) (λ v u j. same u)
-
-initialize_kept : (ev : Eval) → Keeps ev → (vs : List Val) (d : Result ℕ Condition) (w : State) (k : ℕ) → Kept w (initialize ev vs d w k)
-initialize_kept ev h vs (Err c) w k = same w
-initialize_kept ev h vs (Ok i) w k = shared_kept ev h i (truth true) vs w k
-
-valid_kept : (c : ℕ) (o : Option Val) (go : Run) (w : State) (k : ℕ) → Kept w (go w k) → Kept w (if_valid c o go w k)
-valid_kept c None go w k h = h
-valid_kept c (Some x) go w k h = same w
-
-reinitialize_kept_as : (ev : Eval) → Keeps ev → (vs : List Val) (i : ℕ) (o : Option (ℕ × Whole)) (w : State) (k : ℕ) → Kept w (reinitialize_as ev vs i o w k)
-reinitialize_kept_as ev h vs i None w k = same w
-reinitialize_kept_as ev h vs i (Some p) w k =
-    valid_kept p.0 (invalid_initarg p.1.slots vs) (shared_initialized ev i none vs) w k (shared_kept ev h i none vs w k)
-
-reinitialize_kept : (ev : Eval) → Keeps ev → (vs : List Val) (d : Result ℕ Condition) (w : State) (k : ℕ) → Kept w (reinitialize ev vs d w k)
-reinitialize_kept ev h vs (Err c) w k = same w
-reinitialize_kept ev h vs (Ok i) w k = reinitialize_kept_as ev h vs i (class_in w i) w k
-
-filled_as_kept : (ev : Eval) → Keeps ev → (i : ℕ) (names : Val) (vs : List Val) (o : Option (ℕ × Whole)) (w : State) (k : ℕ) → Kept w (filled_as ev i names vs o w k)
-filled_as_kept ev h i names vs None w k = same w
-filled_as_kept ev h i names vs (Some p) w k =
-    let f : Subject = record { instance = i; class = p.0; names = names; initargs = vs } in
-    restored w.locals w (fill ev (known []) f p.1.slots (bound_as [] w) k) (fill_kept ev h (known []) f p.1.slots (bound_as [] w) k)
-
-slots_kept : (ev : Eval) → Keeps ev → (names : Val) (vs : List Val) (d : Result ℕ Condition) (w : State) (k : ℕ) → Kept w (initialize_slots ev names vs d w k)
-slots_kept ev h names vs (Err c) w k = same w
-slots_kept ev h names vs (Ok i) w k =
-    choice_kept (are_slot_names names) w (filled_as ev i names vs (class_in w i) w k) _ (filled_as_kept ev h i names vs (class_in w i) w k) (same w)
-
-system_kept : (ev : Eval) → Keeps ev → (f : SystemFunction) (vs : List Val) (w : State) (k : ℕ) → Kept w (system_method_run ev f vs w k)
-system_kept ev h InitializeInstance [] w k = same w
-system_kept ev h InitializeInstance (v ∷ vs) w k = initialize_kept ev h vs (instance_in v) w k
-system_kept ev h ReinitializeInstance [] w k = same w
-system_kept ev h ReinitializeInstance (v ∷ vs) w k = reinitialize_kept ev h vs (instance_in v) w k
-system_kept ev h SharedInitialize [] w k = same w
-system_kept ev h SharedInitialize (v ∷ []) w k = same w
-system_kept ev h SharedInitialize (v ∷ (names ∷ vs)) w k = slots_kept ev h names vs (instance_in v) w k
-system_kept ev h SlotUnbound vs w k = same w
-system_kept ev h SlotMissing vs w k = same w
-system_kept ev h NoApplicableMethod [] w k = same w
-system_kept ev h NoApplicableMethod (v ∷ vs) w k = same w
-
--- ---- methods
-
-method_body_kept : (ev : Eval) → Keeps ev → (env : Context) (b : MethodBody) (w : State) (k : ℕ) → Kept w (method_body_run ev env b w k)
-method_body_kept ev h env (Forms ps fs) w k = body_kept ev h env.arguments (required_sources ps env.arguments) fs w k
-method_body_kept ev h env (Reader slot) w k = reader_kept ev h env slot env.arguments w k
-method_body_kept ev h env (Writer slot) w k = writer_kept ev h env slot env.arguments w k
-method_body_kept ev h env (System f) w k = system_kept ev h f env.arguments w k
-
-method_kept : (ev : Eval) → Keeps ev → (env : Context) (o : Option Method) (w : State) (k : ℕ) → Kept w (method_run ev env o w k)
-method_kept ev h env None w k = same w
-method_kept ev h env (Some m) w k = method_body_kept ev h env m.body w k
-
-made_kept : (ev : Eval) → Keeps ev → (env : Context) (fs : Frms) (w : State) (k : ℕ) → Kept w (made_run ev env fs w k)
-made_kept ev h env nil w k = same w
-made_kept ev h env (cons f fs) w k = h env f w k
-
-called_kept_method : (ev : Eval) → Keeps ev → (env : Context) (m : Callable) (fs : Frms) (w : State) (k : ℕ) → Kept w (method_called ev env m fs w k)
-called_kept_method ev h env (of.the_method m) fs w k = method_kept ev h env (slice_get w.methods m) w k
-called_kept_method ev h env of.made fs w k = made_kept ev h env fs w k
+value_kept (by_symbol name) w k = symbol_kept name (named w.generics (Symbol name)) w k
+value_kept (by_setf name) w k = setter_value_kept name (named w.generics (Setf name)) w k
 
 -- ---- forms
+
+next_method_kept : (ev : Eval) → Keeps ev → (env : Context) (fs : Frms) (w : State) (k : ℕ) → Kept w (next_method ev env fs w k)
+next_method_kept ev h env nil w k = next_called_kept ev h env env.running env.arguments w k
+next_method_kept ev h env (cons f fs) w k = collected_kept ev h env (cons f fs) CallNext w k
 
 operated_kept : (ev : Eval) → Keeps ev → (env : Context) (o : Opr) (ps : Frms) (w : State) (k : ℕ) → Kept w (operated ev env o ps w k)
 operated_kept ev h env (of.constant v) ps w k = same w
@@ -682,10 +748,10 @@ operated_kept ev h env (of.dotimes n b) ps w k =
     (λ gs v u j. repeated_kept ev h env (record { outer = length w.locals; name = n; has_result = b; forms = gs }) v u j) w k
 operated_kept ev h env (of.with_slots bs) ps w k =
     init_kept ev h env ps (λ rest object. within_slots ev env bs rest object) (λ gs object u j. within_slots_kept ev h env bs gs object u j) w k
-operated_kept ev h env of.call_next_method ps w k = same w
+operated_kept ev h env of.call_next_method ps w k = next_method_kept ev h env ps w k
 operated_kept ev h env of.next_method_p ps w k = same w
 operated_kept ev h env (of.call name) ps w k = collected_kept ev h env ps (Call name) w k
-operated_kept ev h env (of.call_method m ns) ps w k = called_kept_method ev h env m ps w k
+operated_kept ev h env (of.call_method m ns) ps w k = called_kept_method ev h env m ns ps w k
 
 meaning_kept : (n : ℕ) → Keeps (meaning n)
 meaning_kept zero env f w k = step_kept (stopped DepthLimit []) w k (λ j. same w)

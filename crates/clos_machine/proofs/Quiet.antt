@@ -13,33 +13,49 @@ use Rattle.clos_forms.specs.Quotation.{name_value}
 use Rattle.clos_forms.specs.Operator.{Bound, BoundSlot, Plc, variable_place, slot_value_place, call_place}
 use Rattle.clos_world.specs.FunctionName.{setter_value}
 use Rattle.clos_world.specs.Functions.{function_in}
-use Rattle.clos_world.specs.Generic.{function_named, setter_named}
+use Rattle.clos_forms.specs.Operator.{Callable, the_method, made}
+use Rattle.clos_forms.specs.declared.operator.FunctionName.TheVariants.{Symbol, Setf}
+use Rattle.clos_generic.specs.Table.{named}
+use Rattle.clos_generic.specs.Table as generics
+use Rattle.clos_generic_core.specs.Shape.{takes_count}
+use Rattle.clos_generic_core.specs.declared.method.Method.{Method}
+use Rattle.clos_generic_core.specs.declared.method.MethodBody.{MethodBody}
+use Rattle.clos_generic_core.specs.declared.method.MethodBody.TheVariants.{Forms, Reader, Writer, System}
+use Rattle.clos_comb.specs.Effective as comb
+use Rattle.clos_comb.specs.Outcome.{Combined}
+use Rattle.clos_comb.specs.Outcome as outcome
+use Rattle.clos_world.specs.Dispatch.{ordered}
 use Rattle.clos_world.specs.Globals.{is_global, any_global}
-use Rattle.clos_world.specs.System.{system_number}
-use Rattle.clos_world.specs.declared.system.SystemFunction.{SystemFunction}
-use Rattle.clos_world.specs.declared.system.SystemFunction.TheVariants.{SlotUnbound, SlotMissing, NoApplicableMethod}
+use Rattle.clos_generic_core.specs.System.{system_number}
+use Rattle.clos_generic_core.specs.declared.system.SystemFunction.{SystemFunction}
+use Rattle.clos_generic_core.specs.declared.system.SystemFunction.TheVariants.{InitializeInstance, ReinitializeInstance, SharedInitialize, UpdateInstanceForRedefinedClass, UpdateInstanceForDifferentClass, SlotUnbound, SlotMissing, NoApplicableMethod, NoNextMethod}
 use Rattle.clos_world.specs.Values.{only_value, last_first}
-use Rattle.clos_world.specs.World.{State, Local, unbound, bound_as, local_named, class_of, class_of_instance, held, lists_of}
+use Rattle.clos_world.specs.World.{State, Local, unbound, bound_as, local_named, class_of, class_of_instance, held}
 use Rattle.clos_world.specs.declared.condition.Condition.{Condition}
 use Rattle.clos_world.specs.declared.condition.ConditionKind.TheVariants.{ProgramError, StepLimit}
 use Rattle.clos_world.specs.declared.functions.Function.{Function}
-use Rattle.clos_world.specs.declared.generic.Generic.{Generic}
-use Rattle.clos_machine.specs.Accessors.{written_by, written_of}
+use Rattle.clos_machine.specs.Accessors.{read_by, read_of, written_by, written_of}
 use Rattle.clos_machine.specs.Assignment.{stored, stored_globally, stored_only, made_of, changed_only}
 use Rattle.clos_machine.specs.Callee.{callee_of}
 use Rattle.clos_machine.specs.ClassFunctions.{Answer, class_answer, comes_to}
 use Rattle.clos_machine.specs.Bodies.{restoring, parameters_run, body_run}
-use Rattle.clos_machine.specs.Calls.{called_defined, called_setter, called_setter_by, called_function}
-use Rattle.clos_machine.specs.GenericCalls.{known, takes, applicable, combination, combined_or, methods_called, unmatched_by, unmatched, called_generic, invoked}
+use Rattle.clos_machine.specs.Calls.{called_defined, called_setter, called_setter_by, called_function, keys_are_even, made_run, method_body_run, method_called, method_run}
+use Rattle.clos_machine.specs.NextMethods.{next_by, next_given, next_in, next_run, none_next}
+use Rattle.clos_machine.specs.FindMethod.{method_answer}
+use Rattle.clos_machine.specs.SystemMethods.{class_in, filled_as, if_valid, initialize, initialize_slots, reinitialize, reinitialize_as, shared_initialized, system_method_run}
+use Rattle.clos_machine.specs.Dispatch.{Dispatch}
+use Rattle.std.specs.Str.{bytes_eq}
+use Rattle.clos_machine.specs.Contexts.{in_call, known, running, with_arguments}
+use Rattle.clos_machine.specs.GenericCalls.{after_positional, called_generic, combined_run, invoked, keywords_fit, matched, matched_or, unmatched, unmatched_by}
 use Rattle.clos_machine.specs.Control.{keeping, sequence, while_true, until_true, branch, followed, tested, clause, clauses}
 use Rattle.clos_machine.specs.Fault.{answered}
 use Rattle.clos_machine.specs.Machine.{at, below, after, resume, leaves, denote, loop_of, slot_names, targets}
 use Rattle.clos_machine.specs.Meaning.{acted, collect, collected, alone, with_amount, set_place, changed_from, changed_place, setq, setf, assigned, place_in, meaning, closed, name_changed}
 use Rattle.clos_machine.specs.Objects.{designated}
-use Rattle.clos_machine.specs.Filling.{Filler, nothing, initform, filler, filled_with, filled_by, fill, fill_with, is_the_class, slots_left, Subject, subject_of}
+use Rattle.clos_machine.specs.Filling.{are_slot_names, Filler, nothing, initform, filler, filled_with, filled_by, fill, fill_with, is_the_class, slots_left, Subject, subject_of}
 use Rattle.clos_machine.specs.Filling as filler
 use Rattle.clos_machine.specs.Functions.{applied, place_read, place_set}
-use Rattle.clos_machine.specs.Initialization.{allocate, is_given, defaulted, default_given, making_of, making, instance_made}
+use Rattle.clos_machine.specs.Initialization.{allocate, invalid_initarg, is_given, defaulted, default_given, making_of, making, methods_reached, instance_made}
 use Rattle.clos_machine.specs.Slots.{class_value, operation_name, missing_called, missing_changed, instance_in, slot_designated, slot_read, slot_tested, slot_changed, slot_answer, slot_applied, slot_called, slot_given, slot_set}
 use Rattle.clos_machine.specs.declared.callee.SlotFunction as of_slots
 use Rattle.clos_machine.specs.declared.callee.SlotFunction.TheVariants.{SlotValue, SlotBoundp, SlotMakunbound, SlotExistsP}
@@ -52,15 +68,16 @@ use Rattle.clos_store.specs.Store.{has_room, slot_found}
 use Rattle.clos_world.specs.Class.{effective}
 use Rattle.clos_machine.specs.Outcome.{Out, Gave, Stopped, Run, then_do, gave, stopped, is_true}
 use Rattle.clos_machine.specs.Output.{output_of, line_ended}
-use Rattle.clos_machine.specs.Parameters.{Sources, argument, refused, init, are_pairs, fits, sources}
+use Rattle.clos_machine.specs.Parameters.{Sources, argument, refused, init, are_even, are_pairs, fits, sources}
 use Rattle.clos_machine.specs.SlotNames.{name_set, place_denoted, slot_locals, within_slots}
 use Rattle.clos_machine.specs.Variables.{Loop, found_value, variable_value, inner, leaving, init_form, within, binding, in_order, together, aside, name_in, counted, result_value, turns, turns_in, repeated}
 use Rattle.clos_machine.specs.declared.arguments.Context.{Context}
+use Rattle.clos_machine.specs.declared.arguments.Running.{Running}
 use Rattle.clos_machine.specs.declared.callee.Callee.{Callee}
-use Rattle.clos_machine.specs.declared.callee.Callee.TheVariants.{Output, Terpri, Primitive, MakeInstance, ClassFunction, SlotFunction, Defined}
+use Rattle.clos_machine.specs.declared.callee.Callee.TheVariants.{Output, Terpri, Primitive, MakeInstance, FindMethod, ClassFunction, SlotFunction, Defined}
 use Rattle.clos_machine.specs.declared.callee.Output as output
 use Rattle.clos_machine.specs.declared.machine.Action.{Action}
-use Rattle.clos_machine.specs.declared.machine.Action.TheVariants.{Call, Set, Store, Change, NewValue, Amount, ChangePlace, Allocate, Fill, FillWith, Write, Read}
+use Rattle.clos_machine.specs.declared.machine.Action.TheVariants.{Call, Set, Store, Change, NewValue, Amount, ChangePlace, Allocate, Fill, FillWith, Write, Read, CallNext}
 use Rattle.clos_machine.specs.declared.machine.Control.{Control}
 use Rattle.clos_machine.specs.declared.machine.Control.TheVariants.{Progn, Prog1, If, When, Unless, And, Or}
 use Rattle.clos_machine.specs.declared.machine.Doing.TheVariants.{Start, Act, Invoke}
@@ -112,25 +129,31 @@ follows_quiet (Stopped c u k) go w h g = h
 follows_quiet (Gave v u k) go w h g =
     subst (λ x. leaves (closed (go v u k)) x 0) h.0 (subst (λ j. leaves (closed (go v u j)) (unbound u) 0) (sym h.1) (g v u))
 
-combined_quiet : (n : ℕ) (vs : List Val) (other : Run) (o : Option Frm) (w : State) → Quiet (other w 0) w → Quiet (combined_or (meaning n) vs other o w 0) w
-combined_quiet n vs other None w h = h
-combined_quiet n vs other (Some f) w h = task_quiet n (known vs) f w
+combined_quiet : (n : ℕ) (env : Context) (f : generics.Function) (c : Combined) (w : State) → Quiet (combined_run (meaning n) env f c w 0) w
+combined_quiet n env f (outcome.effective e) w = task_quiet n env e w
+combined_quiet n env f (outcome.invalid_method m) w = (refl, refl)
+combined_quiet n env f (outcome.group_empty name) w = (refl, refl)
 
-methods_quiet : (n : ℕ) (vs : List Val) (other : Run) (g : Generic) (w : State) → Quiet (other w 0) w → Quiet (methods_called (meaning n) vs other g w 0) w
-methods_quiet n vs other g w h = combined_quiet n vs other (combination (applicable w vs g)) w h
+matched_quiet : (n : ℕ) (vs : List Val) (g : ℕ) (f : generics.Function) (other : Run) (ms : List ℕ) (w : State) → Quiet (other w 0) w → Quiet (matched_or (meaning n) vs g f other ms w 0) w
+matched_quiet n vs g f other [] w h = h
+matched_quiet n vs g f other (m ∷ ms) w h =
+    choice_quiet (keywords_fit w.generics g (m ∷ ms) (after_positional f.shape vs)) _ _ w
+    (combined_quiet n (in_call (record { generic = g; methods = m ∷ ms }) vs) f (comb.effective w.generics g (m ∷ ms)) w) (refl, refl)
 
-unmatched_quiet : (n : ℕ) (vs : List Val) (o : Option Generic) (w : State) → Quiet (unmatched_by (meaning n) vs o w 0) w
+unmatched_quiet : (n : ℕ) (vs : List Val) (o : Option generics.Function) (w : State) → Quiet (unmatched_by (meaning n) vs o w 0) w
 unmatched_quiet n vs None w = (refl, refl)
-unmatched_quiet n vs (Some g) w = methods_quiet n vs (stopped ProgramError []) g w (refl, refl)
+unmatched_quiet n vs (Some f) w =
+    matched_quiet n vs (system_number NoApplicableMethod) f (stopped ProgramError []) (ordered w (system_number NoApplicableMethod) vs) w (refl, refl)
 
-generic_quiet : (n : ℕ) (vs : List Val) (i : ℕ) (o : Option Generic) (w : State) → leaves (closed (called_generic (meaning n) vs i o w 0)) (unbound w) 0
-generic_quiet n vs i None w = (refl, refl)
-generic_quiet n vs i (Some g) w =
-    choice_quiet (takes g vs) (methods_called (meaning n) vs (unmatched (meaning n) i vs) g w 0) _ w
-    (methods_quiet n vs (unmatched (meaning n) i vs) g w (unmatched_quiet n (value.generic i ∷ vs) (slice_get w.generics (system_number NoApplicableMethod)) w)) (refl, refl)
+generic_quiet : (n : ℕ) (vs : List Val) (g : ℕ) (o : Option generics.Function) (w : State) → leaves (closed (called_generic (meaning n) vs g o w 0)) (unbound w) 0
+generic_quiet n vs g None w = (refl, refl)
+generic_quiet n vs g (Some f) w =
+    choice_quiet (takes_count f.shape (length vs)) _ _ w
+    (matched_quiet n vs g f (unmatched (meaning n) g vs) (ordered w g vs) w
+    (unmatched_quiet n (value.generic g ∷ vs) (slice_get w.generics.functions (system_number NoApplicableMethod)) w)) (refl, refl)
 
 invoked_quiet : (n : ℕ) (f : SystemFunction) (vs : List Val) (w : State) → Quiet (invoked (meaning n) f vs w 0) w
-invoked_quiet n f vs w = generic_quiet n vs (system_number f) (slice_get w.generics (system_number f)) w
+invoked_quiet n f vs w = generic_quiet n vs (system_number f) (slice_get w.generics.functions (system_number f)) w
 
 sequence_quiet : (n : ℕ) (env : Context) (fs : Frms) (v : Val) (w : State) → Quiet (sequence (meaning n) env fs v w 0) w
 sequence_quiet n env nil v w = (refl, refl)
@@ -149,19 +172,18 @@ parameters_quiet n env ((x, argument v) ∷ ps) fs w = binding_quiet x v (parame
 parameters_quiet n env ((x, refused c) ∷ ps) fs w = (refl, refl)
 parameters_quiet n env ((x, init f) ∷ ps) fs w = then_quiet n env f (λ v. binding x v (parameters_run (meaning n) env ps fs)) w
 
-body_quiet : (n : ℕ) (vs : List Val) (ps : Sources) (fs : Frms) (w : State) → Quiet (body_run (meaning n) vs ps fs w 0) w
-body_quiet n vs ps fs w =
-    restored_quiet w.locals (parameters_run (meaning n) (known vs) ps fs (bound_as [] w) 0) w (parameters_quiet n (known vs) ps fs (bound_as [] w))
+body_quiet : (n : ℕ) (env : Context) (ps : Sources) (fs : Frms) (w : State) → Quiet (body_run (meaning n) env ps fs w 0) w
+body_quiet n env ps fs w = restored_quiet w.locals (parameters_run (meaning n) env ps fs (bound_as [] w) 0) w (parameters_quiet n env ps fs (bound_as [] w))
 
 defined_quiet : (n : ℕ) (vs : List Val) (name : Val) (o : Option Function) (w : State) → Quiet (called_defined (meaning n) vs name o w 0) w
 defined_quiet n vs name None w = (refl, refl)
 defined_quiet n vs name (Some f) w =
-    choice_quiet (fits f.lambda_list vs) (body_run (meaning n) vs (sources f.lambda_list vs) f.body w 0) _ w
-    (body_quiet n vs (sources f.lambda_list vs) f.body w) (refl, refl)
+    choice_quiet (fits f.lambda_list vs) (body_run (meaning n) (known vs) (sources f.lambda_list vs) f.body w 0) _ w
+    (body_quiet n (known vs) (sources f.lambda_list vs) f.body w) (refl, refl)
 
 function_quiet : (n : ℕ) (name : Nam) (vs : List Val) (o : Option ℕ) (w : State) → Quiet (called_function (meaning n) name vs o w 0) w
 function_quiet n name vs None w = defined_quiet n vs (name_value name) (function_in w.functions name) w
-function_quiet n name vs (Some g) w = generic_quiet n vs g (slice_get w.generics g) w
+function_quiet n name vs (Some g) w = generic_quiet n vs g (slice_get w.generics.functions g) w
 
 output_quiet : (o : output.Output) (x : Option Val) (w : State) → leaves (closed (output_of o x w 0)) (unbound w) 0
 output_quiet o None w = (refl, refl)
@@ -292,9 +314,10 @@ applied_quiet n env (Output o) name vs w = output_quiet o (only_value vs) w
 applied_quiet n env Terpri name vs w = line_quiet vs w
 applied_quiet n env (Primitive p) name vs w = answered_quiet (answer p vs) w
 applied_quiet n env MakeInstance name vs w = instance_quiet n vs w
+applied_quiet n env FindMethod name vs w = comes_quiet (method_answer w.classes w.generics vs) w
 applied_quiet n env (ClassFunction f) name vs w = comes_quiet (class_answer f w.classes (class_of w) vs) w
 applied_quiet n env (SlotFunction f) name vs w = slot_called_quiet n env f vs w
-applied_quiet n env Defined name vs w = function_quiet n name vs (function_named w.generics name) w
+applied_quiet n env Defined name vs w = function_quiet n name vs (named w.generics (Symbol name)) w
 
 -- ---- assignment
 
@@ -326,10 +349,10 @@ changed_quiet p name (Some amount) w =
 
 setter_quiet_by : (n : ℕ) (name : Nam) (vs : List Val) (o : Option ℕ) (w : State) → Quiet (called_setter_by (meaning n) name vs o w 0) w
 setter_quiet_by n name vs None w = defined_quiet n vs (setter_value name) (function_in w.setters name) w
-setter_quiet_by n name vs (Some g) w = generic_quiet n vs g (slice_get w.generics g) w
+setter_quiet_by n name vs (Some g) w = generic_quiet n vs g (slice_get w.generics.functions g) w
 
 setter_quiet : (n : ℕ) (name : Nam) (vs : List Val) (w : State) → Quiet (called_setter (meaning n) name vs w 0) w
-setter_quiet n name vs w = setter_quiet_by n name (last_first vs) (setter_named w.generics name) w
+setter_quiet n name vs w = setter_quiet_by n name (last_first vs) (named w.generics (Setf name)) w
 
 read_quiet : (n : ℕ) (env : Context) (t : Target) (vs : List Val) (w : State) → Quiet (place_read (meaning n) env t vs w 0) w
 read_quiet n env (target.Call name) vs w = applied_quiet n env (callee_of name) name vs w
@@ -369,6 +392,121 @@ name_changed_quiet : (n : ℕ) (env : Context) (p : of_values.Primitive) (name :
 name_changed_quiet n env p name None vs w = changed_quiet p name (only_value vs) w
 name_changed_quiet n env p name (Some place) vs w = change_place_quiet n env p target.SlotValue (last_first (place ++ vs)) w
 
+-- ---- the system's methods
+
+shared_quiet : (n : ℕ) (i : ℕ) (names : Val) (vs : List Val) (w : State) → Quiet (shared_initialized (meaning n) i names vs w 0) w
+shared_quiet n i names vs w =
+    follows_quiet (invoked (meaning n) SharedInitialize (value.instance i ∷ names ∷ vs) w 0) (λ v. gave (value.instance i)) w
+    (invoked_quiet n SharedInitialize (value.instance i ∷ names ∷ vs) w) (λ v u. (refl, refl))
+
+initialize_quiet : (n : ℕ) (vs : List Val) (d : Result ℕ Condition) (w : State) → Quiet (initialize (meaning n) vs d w 0) w
+initialize_quiet n vs (Err c) w = (refl, refl)
+initialize_quiet n vs (Ok i) w = shared_quiet n i (truth true) vs w
+
+valid_quiet : (c : ℕ) (o : Option Val) (go : Run) (w : State) → Quiet (go w 0) w → Quiet (if_valid c o go w 0) w
+valid_quiet c None go w h = h
+valid_quiet c (Some x) go w h = (refl, refl)
+
+abbrev none : Val
+none = value.list value.nil
+
+reinitialize_quiet_as : (n : ℕ) (vs : List Val) (i : ℕ) (o : Option (ℕ × Whole)) (w : State) → Quiet (reinitialize_as (meaning n) vs i o w 0) w
+reinitialize_quiet_as n vs i None w = (refl, refl)
+reinitialize_quiet_as n vs i (Some p) w =
+    valid_quiet p.0 (invalid_initarg w.generics.methods (methods_reached w ReinitializeInstance i none) p.1.slots vs) (shared_initialized (meaning n) i none vs) w
+    (shared_quiet n i none vs w)
+
+reinitialize_quiet : (n : ℕ) (vs : List Val) (d : Result ℕ Condition) (w : State) → Quiet (reinitialize (meaning n) vs d w 0) w
+reinitialize_quiet n vs (Err c) w = (refl, refl)
+reinitialize_quiet n vs (Ok i) w = reinitialize_quiet_as n vs i (class_in w i) w
+
+filled_as_quiet : (n : ℕ) (i : ℕ) (names : Val) (vs : List Val) (o : Option (ℕ × Whole)) (w : State) → Quiet (filled_as (meaning n) i names vs o w 0) w
+filled_as_quiet n i names vs None w = (refl, refl)
+filled_as_quiet n i names vs (Some p) w =
+    let f : Subject = record { instance = i; class = p.0; names = names; initargs = vs } in
+    restored_quiet w.locals (fill (meaning n) (known []) f p.1.slots (bound_as [] w) 0) w (fill_quiet n (known []) f p.1.slots (bound_as [] w))
+
+slots_quiet : (n : ℕ) (names : Val) (vs : List Val) (d : Result ℕ Condition) (w : State) → Quiet (initialize_slots (meaning n) names vs d w 0) w
+slots_quiet n names vs (Err c) w = (refl, refl)
+slots_quiet n names vs (Ok i) w =
+    choice_quiet (are_slot_names names) (filled_as (meaning n) i names vs (class_in w i) w 0) _ w (filled_as_quiet n i names vs (class_in w i) w) (refl, refl)
+
+system_quiet : (n : ℕ) (f : SystemFunction) (vs : List Val) (w : State) → Quiet (system_method_run (meaning n) f vs w 0) w
+system_quiet n InitializeInstance [] w = (refl, refl)
+system_quiet n InitializeInstance (v ∷ vs) w = initialize_quiet n vs (instance_in v) w
+system_quiet n ReinitializeInstance [] w = (refl, refl)
+system_quiet n ReinitializeInstance (v ∷ vs) w = reinitialize_quiet n vs (instance_in v) w
+system_quiet n SharedInitialize [] w = (refl, refl)
+system_quiet n SharedInitialize (v ∷ []) w = (refl, refl)
+system_quiet n SharedInitialize (v ∷ (names ∷ vs)) w =
+    choice_quiet (are_even vs) (initialize_slots (meaning n) names vs (instance_in v) w 0) _ w (slots_quiet n names vs (instance_in v) w) (refl, refl)
+system_quiet n UpdateInstanceForRedefinedClass [] w = (refl, refl)
+system_quiet n UpdateInstanceForRedefinedClass (v ∷ vs) w = (refl, refl)
+system_quiet n UpdateInstanceForDifferentClass [] w = (refl, refl)
+system_quiet n UpdateInstanceForDifferentClass (v ∷ vs) w = (refl, refl)
+system_quiet n SlotUnbound vs w = (refl, refl)
+system_quiet n SlotMissing vs w = (refl, refl)
+system_quiet n NoApplicableMethod [] w = (refl, refl)
+system_quiet n NoApplicableMethod (v ∷ vs) w = (refl, refl)
+system_quiet n NoNextMethod [] w = (refl, refl)
+system_quiet n NoNextMethod (v ∷ []) w = (refl, refl)
+system_quiet n NoNextMethod (v ∷ (m ∷ vs)) w = (refl, refl)
+
+-- ---- methods
+
+read_of_quiet : (n : ℕ) (env : Context) (slot : Nam) (d : Result ℕ Condition) (w : State) → Quiet (read_of (meaning n) env slot d w 0) w
+read_of_quiet n env slot (Err c) w = (refl, refl)
+read_of_quiet n env slot (Ok i) w = slot_read_quiet n env i slot (slot_found w.store i slot) w
+
+reader_quiet : (n : ℕ) (env : Context) (slot : Nam) (vs : List Val) (w : State) → Quiet (read_by (meaning n) env slot vs w 0) w
+reader_quiet n env slot [] w = (refl, refl)
+reader_quiet n env slot (v ∷ []) w = read_of_quiet n env slot (instance_in v) w
+reader_quiet n env slot (v ∷ (x ∷ vs)) w = (refl, refl)
+
+method_body_quiet : (n : ℕ) (env : Context) (b : MethodBody) (w : State) → Quiet (method_body_run (meaning n) env b w 0) w
+method_body_quiet n env (Forms l fs) w =
+    choice_quiet (keys_are_even l env.arguments) (body_run (meaning n) env (sources l env.arguments) fs w 0) _ w
+    (body_quiet n env (sources l env.arguments) fs w) (refl, refl)
+method_body_quiet n env (Reader slot) w = reader_quiet n env slot env.arguments w
+method_body_quiet n env (Writer slot) w = written_quiet n env slot env.arguments w
+method_body_quiet n env (System f) w = system_quiet n f env.arguments w
+
+method_quiet : (n : ℕ) (env : Context) (o : Option Method) (w : State) → Quiet (method_run (meaning n) env o w 0) w
+method_quiet n env None w = (refl, refl)
+method_quiet n env (Some m) w = method_body_quiet n env m.body w
+
+made_quiet : (n : ℕ) (env : Context) (fs : Frms) (w : State) → Quiet (made_run (meaning n) env fs w 0) w
+made_quiet n env nil w = (refl, refl)
+made_quiet n env (cons f fs) w = task_quiet n env f w
+
+called_method_quiet : (n : ℕ) (env : Context) (m : Callable) (next : List Callable) (fs : Frms) (w : State) → Quiet (method_called (meaning n) env m next fs w 0) w
+called_method_quiet n env (the_method m) next fs w = method_quiet n (running m next fs env) (slice_get w.generics.methods m) w
+called_method_quiet n env made next fs w = made_quiet n env fs w
+
+-- ---- next methods
+
+none_next_quiet : (n : ℕ) (o : Option Dispatch) (m : ℕ) (vs : List Val) (w : State) → Quiet (none_next (meaning n) o m vs w 0) w
+none_next_quiet n None m vs w = (refl, refl)
+none_next_quiet n (Some d) m vs w = invoked_quiet n NoNextMethod (value.generic d.generic ∷ value.method m ∷ vs) w
+
+next_run_quiet : (n : ℕ) (env : Context) (r : Running) (ns : List Callable) (vs : List Val) (w : State) → Quiet (next_run (meaning n) env r ns vs w 0) w
+next_run_quiet n env r [] vs w = none_next_quiet n env.call r.method.0 vs w
+next_run_quiet n env r (x ∷ ns) vs w = called_method_quiet n (with_arguments vs env) x ns r.forms w
+
+next_by_quiet : (n : ℕ) (env : Context) (r : Running) (d : Dispatch) (o : Option generics.Function) (vs : List Val) (w : State) → Quiet (next_by (meaning n) env r d o vs w 0) w
+next_by_quiet n env r d None vs w = (refl, refl)
+next_by_quiet n env r d (Some f) vs w =
+    choice_quiet (takes_count f.shape (length vs)) _ _ w
+    (choice_quiet (bytes_eq (ordered w d.generic vs) d.methods) (next_run (meaning n) env r r.next vs w 0) _ w (next_run_quiet n env r r.next vs w) (refl, refl)) (refl, refl)
+
+next_in_quiet : (n : ℕ) (env : Context) (r : Running) (o : Option Dispatch) (vs : List Val) (w : State) → Quiet (next_in (meaning n) env r o vs w 0) w
+next_in_quiet n env r None vs w = (refl, refl)
+next_in_quiet n env r (Some d) vs w = next_by_quiet n env r d (slice_get w.generics.functions d.generic) vs w
+
+next_given_quiet : (n : ℕ) (env : Context) (o : Option Running) (vs : List Val) (w : State) → Quiet (next_given (meaning n) env o vs w 0) w
+next_given_quiet n env None vs w = (refl, refl)
+next_given_quiet n env (Some r) vs w = next_in_quiet n env r env.call vs w
+
 -- ---- actions
 
 acted_quiet : (n : ℕ) (env : Context) (a : Action) (vs : List Val) (w : State) → Quiet (acted (meaning n) env a vs w 0) w
@@ -385,6 +523,7 @@ acted_quiet n env (Fill f) vs w = fill_quiet n env (subject_of f) (slots_left f)
 acted_quiet n env (FillWith f v) vs w = fill_with_quiet n env (subject_of f) (slots_left f) (value_of v) w
 acted_quiet n env (Write slot) vs w = written_quiet n env slot vs w
 acted_quiet n env (Read t) vs w = read_quiet n env t vs w
+acted_quiet n env CallNext vs w = next_given_quiet n env env.running vs w
 
 collect_quiet : (n : ℕ) (env : Context) (fs : Frms) (vs : List Val) (a : Action) (w : State) → Quiet (collect (meaning n) env fs vs (acted (meaning n) env a) w 0) w
 collect_quiet n env nil vs a w = acted_quiet n env a vs w

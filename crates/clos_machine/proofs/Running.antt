@@ -37,6 +37,7 @@ use Rattle.clos_machine.specs.declared.machine.Machine.{Machine}
 use Rattle.clos_world.specs.declared.functions.Function.{Function}
 use Rattle.clos_machine.specs.Bodies.{body_run}
 use Rattle.clos_machine.specs.Calls.{applied_to}
+use Rattle.clos_machine.specs.Contexts.{known}
 use Rattle.clos_machine.specs.Parameters.{fits, sources}
 use Rattle.clos_machine.proofs.Turns.{stopped_through, leads_same}
 use Rattle.clos_machine.proofs.Quiet.{no_step}
@@ -84,11 +85,11 @@ line_refused m (x ∷ xs) vs c w s h e k =
     (stopped_through m.levels m.context (record { kind = ProgramError; items = [] }) (at m w) s ∙ ap (λ d. Stopped d (unbound w) s) (sym k))
 
 pub applied_runs : (m : Machine) (ev : Eval) (vs us : List Val) (f : Function) (w : State) (r : Result Doing Stop) (p : Machine) → us ≡ vs
-    → true ≡ fits f.lambda_list vs → Leads (inside m (body_run ev us (sources f.lambda_list us) f.body)) w r p → Leads (inside m (applied_to ev vs f)) w r p
+    → true ≡ fits f.lambda_list vs → Leads (inside m (body_run ev (known us) (sources f.lambda_list us) f.body)) w r p → Leads (inside m (applied_to ev vs f)) w r p
 applied_runs m ev vs us f w r p e l h =
-    leads_same (inside m (body_run ev us (sources f.lambda_list us) f.body)) (inside m (applied_to ev vs f)) w r p
-    (λ t. ap (λ xs. inside m (body_run ev xs (sources f.lambda_list xs) f.body) w t) e
-    ∙ ap (λ b. closed (resume m.levels m.context (if b then body_run ev vs (sources f.lambda_list vs) f.body (at m w) t else stopped ProgramError [] (at m w) t))) l) h
+    leads_same (inside m (body_run ev (known us) (sources f.lambda_list us) f.body)) (inside m (applied_to ev vs f)) w r p
+    (λ t. ap (λ xs. inside m (body_run ev (known xs) (sources f.lambda_list xs) f.body) w t) e
+    ∙ ap (λ b. closed (resume m.levels m.context (if b then body_run ev (known vs) (sources f.lambda_list vs) f.body (at m w) t else stopped ProgramError [] (at m w) t))) l) h
 
 pub not_made : (x : Result Val prims.Condition) (f : PrimFault) (stop : Stop) (w : State)
     → AnswersUnlessMemory {A = Value} value_of (Err f) x → ((c : prims.Condition) → StandsFor f c → Signals c stop) → (f ≡ Memory → stop ≡ Storage)

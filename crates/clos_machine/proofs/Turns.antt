@@ -7,7 +7,7 @@ use Rattle.clos_world.specs.declared.condition.Condition.{Condition}
 use Rattle.clos_world.specs.declared.condition.ConditionKind.TheVariants.{ProgramError}
 use Rattle.clos_world.specs.declared.condition.Stop.{Stop}
 use Rattle.clos_world.specs.declared.condition.Stop.TheVariants.{Refused, Storage}
-use Rattle.clos_world.specs.declared.generic.Method.{Method}
+use Rattle.clos_generic_core.specs.declared.method.Method.{Method}
 use Rattle.clos_machine.specs.Calls.{method_run}
 use Rattle.clos_machine.specs.Control.{sequence, while_true, until_true, going}
 use Rattle.clos_machine.specs.Machine.{at, below, resume, inside, Grows, Leads, Shrinks}

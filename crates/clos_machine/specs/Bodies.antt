@@ -4,7 +4,6 @@ use Rattle.lisp_data.specs.Value.{Val, list, nil}
 use Rattle.clos_forms.specs.Form.{Frms}
 use Rattle.clos_world.specs.World.{Local, bound_as}
 use Rattle.clos_machine.specs.Control.{sequence}
-use Rattle.clos_machine.specs.GenericCalls.{known}
 use Rattle.clos_machine.specs.Outcome.{Gave, Stopped, Run, Eval, then_do}
 use Rattle.clos_machine.specs.Parameters.{Source, Sources, argument, refused, init}
 use Rattle.clos_machine.specs.Variables.{binding}
@@ -29,5 +28,5 @@ parameters_run ev env [] fs w s = sequence ev env fs (list nil) w s
 parameters_run ev env (p ∷ ps) fs w s = then_do (source_value ev env p.1 w s) (λ v. binding p.0 v (parameters_run ev env ps fs))
 
 -- A body runs in a context of its own, with its parameters and no other variables.
-abbrev pub body_run : Eval → List Val → Sources → Frms → Run
-body_run ev vs ps body w s = scoped (parameters_run ev (known vs) ps body) [] w s
+abbrev pub body_run : Eval → Context → Sources → Frms → Run
+body_run ev env ps body w s = scoped (parameters_run ev env ps body) [] w s

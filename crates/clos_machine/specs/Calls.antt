@@ -1,31 +1,34 @@
 -- Calls of functions (HyperSpec 3.1.2.1.2.3) and of methods (7.6.6).
-use Rattle.std.specs.Prelude.{ℕ, List, [], ◌∷◌, Option, Some, None, if◌then◌else◌, slice_get}
+use Rattle.std.specs.Prelude.{ℕ, Bool, ◌||◌, List, [], ◌∷◌, Option, Some, None, is_none, if◌then◌else◌, slice_get}
 use Rattle.lisp_data.specs.Name.{Nam}
 use Rattle.lisp_data.specs.Value.{Val}
 use Rattle.clos_forms.specs.Form.{Frms, nil, cons}
 use Rattle.clos_forms.specs.Operator.{Callable, the_method, made}
 use Rattle.clos_forms.specs.Quotation.{name_value}
+use Rattle.clos_forms.specs.declared.operator.FunctionName.TheVariants.{Setf}
+use Rattle.clos_generic.specs.Table.{named}
+use Rattle.clos_generic_core.specs.declared.method.Method.{Method}
+use Rattle.clos_generic_core.specs.declared.method.MethodBody.{MethodBody}
+use Rattle.clos_generic_core.specs.declared.method.MethodBody.TheVariants.{Forms, Reader, Writer, System}
+use Rattle.clos_lambda.specs.declared.lambda_list.LambdaList.{LambdaList}
 use Rattle.clos_world.specs.FunctionName.{setter_value}
 use Rattle.clos_world.specs.Functions.{function_in}
-use Rattle.clos_world.specs.Generic.{setter_named}
 use Rattle.clos_world.specs.Values.{last_first}
 use Rattle.clos_world.specs.declared.condition.ConditionKind.TheVariants.{ProgramError, UndefinedFunction}
 use Rattle.clos_world.specs.declared.functions.Function.{Function}
-use Rattle.clos_world.specs.declared.generic.Method.{Method}
-use Rattle.clos_world.specs.declared.generic.MethodBody.{MethodBody}
-use Rattle.clos_world.specs.declared.generic.MethodBody.TheVariants.{Forms, Reader, Writer, System}
 use Rattle.clos_machine.specs.Accessors.{read_by, written_by}
 use Rattle.clos_machine.specs.Bodies.{body_run}
+use Rattle.clos_machine.specs.Contexts.{known, running}
 use Rattle.clos_machine.specs.GenericCalls.{called_generic}
 use Rattle.clos_machine.specs.Outcome.{Run, Eval, stopped}
-use Rattle.clos_machine.specs.Parameters.{fits, required_sources, sources}
+use Rattle.clos_machine.specs.Parameters.{after_optional, are_even, fits, sources}
 use Rattle.clos_machine.specs.SystemMethods.{system_method_run}
 use Rattle.clos_machine.specs.declared.arguments.Context.{Context}
 
 -- ---- functions of the program's
 
 abbrev pub applied_to : Eval → List Val → Function → Run
-applied_to ev vs f w s = if fits f.lambda_list vs then body_run ev vs (sources f.lambda_list vs) f.body w s else stopped ProgramError [] w s
+applied_to ev vs f w s = if fits f.lambda_list vs then body_run ev (known vs) (sources f.lambda_list vs) f.body w s else stopped ProgramError [] w s
 
 -- the function, or the condition that there is none of this name
 abbrev pub called_defined : Eval → List Val → Val → Option Function → Run
@@ -36,13 +39,18 @@ called_defined ev vs name (Some f) w s = applied_to ev vs f w s
 
 abbrev pub called_function : Eval → Nam → List Val → Option ℕ → Run
 called_function ev name vs None w s = called_defined ev vs (name_value name) (function_in w.functions name) w s
-called_function ev name vs (Some g) w s = called_generic ev vs g (slice_get w.generics g) w s
+called_function ev name vs (Some g) w s = called_generic ev vs g (slice_get w.generics.functions g) w s
 
 -- ---- methods
 
+-- The names of keyword arguments are not checked again, but none may be without its argument.
+abbrev pub keys_are_even : LambdaList → List Val → Bool
+keys_are_even l vs = is_none l.keys || are_even (after_optional l vs)
+
 -- what a method does with the arguments
 abbrev pub method_body_run : Eval → Context → MethodBody → Run
-method_body_run ev env (Forms parameters fs) w s = body_run ev env.arguments (required_sources parameters env.arguments) fs w s
+method_body_run ev env (Forms l fs) w s =
+    if keys_are_even l env.arguments then body_run ev env (sources l env.arguments) fs w s else stopped ProgramError [] w s
 method_body_run ev env (Reader slot) w s = read_by ev env slot env.arguments w s
 method_body_run ev env (Writer slot) w s = written_by ev env slot env.arguments w s
 method_body_run ev env (System f) w s = system_method_run ev f env.arguments w s
@@ -51,21 +59,22 @@ abbrev pub method_run : Eval → Context → Option Method → Run
 method_run ev env None w s = stopped ProgramError [] w s
 method_run ev env (Some m) w s = method_body_run ev env m.body w s
 
--- call-method: a method, or a form of which one is made, with the arguments of the effective form
+-- the form of which a method is made, with the arguments of the effective form
 abbrev pub made_run : Eval → Context → Frms → Run
 made_run ev env nil w s = stopped ProgramError [] w s
 made_run ev env (cons f fs) w s = ev env f w s
 
-abbrev pub method_called : Eval → Context → Callable → Frms → Run
-method_called ev env (the_method m) fs w s = method_run ev env (slice_get w.methods m) w s
-method_called ev env made fs w s = made_run ev env fs w s
+-- a method with these next methods, of which those that are made are made of these forms; or a made one
+abbrev pub method_called : Eval → Context → Callable → List Callable → Frms → Run
+method_called ev env (the_method m) next fs w s = method_run ev (running m next fs env) (slice_get w.generics.methods m) w s
+method_called ev env made next fs w s = made_run ev env fs w s
 
 -- ---- functions (setf name): the new value is their first argument, though it is evaluated last
 
 -- a generic function, or what a defun defined
 abbrev pub called_setter_by : Eval → Nam → List Val → Option ℕ → Run
 called_setter_by ev name vs None w s = called_defined ev vs (setter_value name) (function_in w.setters name) w s
-called_setter_by ev name vs (Some g) w s = called_generic ev vs g (slice_get w.generics g) w s
+called_setter_by ev name vs (Some g) w s = called_generic ev vs g (slice_get w.generics.functions g) w s
 
 abbrev pub called_setter : Eval → Nam → List Val → Run
-called_setter ev name vs w s = called_setter_by ev name (last_first vs) (setter_named w.generics name) w s
+called_setter ev name vs w s = called_setter_by ev name (last_first vs) (named w.generics (Setf name)) w s

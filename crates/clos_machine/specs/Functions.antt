@@ -3,20 +3,22 @@ use Rattle.std.specs.Prelude.{List}
 use Rattle.lisp_data.specs.Name.{Nam}
 use Rattle.lisp_data.specs.Value.{Val}
 use Rattle.lisp_prims.specs.Primitive.{answer}
-use Rattle.clos_world.specs.Generic.{function_named}
+use Rattle.clos_forms.specs.declared.operator.FunctionName.TheVariants.{Symbol}
+use Rattle.clos_generic.specs.Table.{named}
 use Rattle.clos_world.specs.Values.{only_value}
 use Rattle.clos_world.specs.World.{class_of}
 use Rattle.clos_machine.specs.Callee.{callee_of}
 use Rattle.clos_machine.specs.Calls.{called_function, called_setter}
 use Rattle.clos_machine.specs.ClassFunctions.{class_answer, comes_to}
 use Rattle.clos_machine.specs.Fault.{answered}
+use Rattle.clos_machine.specs.FindMethod.{method_answer}
 use Rattle.clos_machine.specs.Initialization.{instance_made}
 use Rattle.clos_machine.specs.Outcome.{Run, Eval}
 use Rattle.clos_machine.specs.Output.{output_of, line_ended}
 use Rattle.clos_machine.specs.Slots.{slot_called, slot_set}
 use Rattle.clos_machine.specs.declared.arguments.Context.{Context}
 use Rattle.clos_machine.specs.declared.callee.Callee.{Callee}
-use Rattle.clos_machine.specs.declared.callee.Callee.TheVariants.{Output, Terpri, Primitive, MakeInstance, ClassFunction, SlotFunction, Defined}
+use Rattle.clos_machine.specs.declared.callee.Callee.TheVariants.{Output, Terpri, Primitive, MakeInstance, FindMethod, ClassFunction, SlotFunction, Defined}
 use Rattle.clos_machine.specs.declared.callee.SlotFunction.TheVariants as of_slots
 use Rattle.clos_machine.specs.declared.machine.Target.{Target}
 use Rattle.clos_machine.specs.declared.machine.Target.TheVariants as target
@@ -26,9 +28,10 @@ applied ev env (Output o) name vs w s = output_of o (only_value vs) w s
 applied ev env Terpri name vs w s = line_ended vs w s
 applied ev env (Primitive p) name vs w s = answered (answer p vs) w s
 applied ev env MakeInstance name vs w s = instance_made ev vs w s
+applied ev env FindMethod name vs w s = comes_to (method_answer w.classes w.generics vs) w s
 applied ev env (ClassFunction f) name vs w s = comes_to (class_answer f w.classes (class_of w) vs) w s
 applied ev env (SlotFunction f) name vs w s = slot_called ev env f vs w s
-applied ev env Defined name vs w s = called_function ev name vs (function_named w.generics name) w s
+applied ev env Defined name vs w s = called_function ev name vs (named w.generics (Symbol name)) w s
 
 abbrev pub called : Eval → Context → Nam → List Val → Run
 called ev env name vs w s = applied ev env (callee_of name) name vs w s

@@ -1,41 +1,58 @@
 -- The making of instances and their initialization (HyperSpec 7.1): make-instance, and the system's methods that it calls.
-use Rattle.std.specs.Prelude.{ℕ, ◌+◌, Bool, ◌||◌, List, [], ◌∷◌, ◌++◌, Option, Some, None, is_some, Result, Ok, Err, if◌then◌else◌, length}
+use Rattle.std.specs.Prelude.{ℕ, ◌+◌, Bool, true, false, ◌||◌, List, [], ◌∷◌, ◌++◌, Option, Some, None, is_some, Result, Ok, Err, if◌then◌else◌, length}
 use Rattle.std.specs.List.{list_any}
 use Rattle.lisp_data.specs.Name.{Nam}
 use Rattle.lisp_data.specs.Value.{Val, instance}
+use Rattle.lisp_prims.specs.Primitive.{truth}
 use Rattle.clos_forms.specs.Quotation.{name_value}
 use Rattle.clos_syntax.specs.declared.class.DefaultInitarg.{DefaultInitarg}
+use Rattle.clos_generic_core.specs.Keywords.{method_allows, method_names}
+use Rattle.clos_generic_core.specs.System.{system_number}
+use Rattle.clos_generic_core.specs.declared.method.Method.{Method}
+use Rattle.clos_generic_core.specs.declared.system.SystemFunction.{SystemFunction}
 use Rattle.clos_class.specs.Slots.{Effective}
 use Rattle.clos_class.specs.declared.effective_slots.EffectiveSlot.{EffectiveSlot}
 use Rattle.clos_store.specs.Store.{allocated, has_room, with_instance}
 use Rattle.clos_world.specs.Class.{class_name, effective}
+use Rattle.clos_world.specs.Dispatch.{ordered}
+use Rattle.clos_world.specs.World.{State}
 use Rattle.clos_world.specs.declared.condition.Condition.{Condition}
 use Rattle.clos_world.specs.declared.condition.ConditionKind.TheVariants.{ProgramError, InvalidInitarg, TableLimit}
-use Rattle.clos_world.specs.declared.system.SystemFunction.TheVariants.{InitializeInstance}
+use Rattle.clos_generic_core.specs.declared.system.SystemFunction.TheVariants.{InitializeInstance, SharedInitialize}
 use Rattle.clos_machine.specs.Bodies.{scoped}
-use Rattle.clos_machine.specs.GenericCalls.{known, invoked}
+use Rattle.clos_machine.specs.ClassFunctions.{symbol_in}
+use Rattle.clos_machine.specs.Contexts.{known}
+use Rattle.clos_machine.specs.GenericCalls.{invoked}
 use Rattle.clos_machine.specs.Objects.{designated}
 use Rattle.clos_machine.specs.Outcome.{Stopped, Run, Eval, then_do, gave, stopped, step_then}
 use Rattle.clos_machine.specs.Parameters.{are_pairs, argument_named, is_allow_other_keys, is_allowing, is_symbol_named}
 use Rattle.clos_machine.specs.declared.arguments.Context.{Context}
 
--- ---- the validity of initargs (7.1.2): each names a slot, or is :ALLOW-OTHER-KEYS
+-- ---- the validity of initargs (7.1.2): each names a slot, is a keyword of one of the methods that they reach, or is :ALLOW-OTHER-KEYS
+
+-- the methods that the initargs of an instance reach: those of this function, and those of shared-initialize with these names of slots
+abbrev pub methods_reached : State → SystemFunction → ℕ → Val → List ℕ
+methods_reached w f i names = ordered w (system_number f) (instance i ∷ []) ++ ordered w (system_number SharedInitialize) (instance i ∷ names ∷ [])
 
 abbrev pub fills : List EffectiveSlot → Val → Bool
 fills slots v = list_any (λ s. list_any (λ n. is_symbol_named n v) s.initargs) slots
 
-abbrev pub is_valid : List EffectiveSlot → Val → Bool
-is_valid slots v = is_allow_other_keys v || fills slots v
+abbrev pub is_keyword_of : List Method → List ℕ → Option Nam → Bool
+is_keyword_of methods ms None = false
+is_keyword_of methods ms (Some name) = list_any (method_names methods name) ms
+
+abbrev pub is_valid : List Method → List ℕ → List EffectiveSlot → Val → Bool
+is_valid methods ms slots v = is_allow_other_keys v || (fills slots v || is_keyword_of methods ms (symbol_in v))
 
 -- the leftmost name that is not valid
-abbrev pub first_invalid : List EffectiveSlot → List Val → Option Val
-first_invalid slots [] = None
-first_invalid slots (k ∷ []) = None
-first_invalid slots (k ∷ (v ∷ vs)) = if is_valid slots k then first_invalid slots vs else Some k
+abbrev pub first_invalid : List Method → List ℕ → List EffectiveSlot → List Val → Option Val
+first_invalid methods ms slots [] = None
+first_invalid methods ms slots (k ∷ []) = None
+first_invalid methods ms slots (k ∷ (v ∷ vs)) = if is_valid methods ms slots k then first_invalid methods ms slots vs else Some k
 
--- a true :ALLOW-OTHER-KEYS allows all
-abbrev pub invalid_initarg : List EffectiveSlot → List Val → Option Val
-invalid_initarg slots vs = if is_allowing vs then None else first_invalid slots vs
+-- A true :ALLOW-OTHER-KEYS allows all, and so does a method with &allow-other-keys.
+abbrev pub invalid_initarg : List Method → List ℕ → List EffectiveSlot → List Val → Option Val
+invalid_initarg methods ms slots vs = if is_allowing vs || list_any (method_allows methods) ms then None else first_invalid methods ms slots vs
 
 abbrev pub invalid_for : Val → Option Nam → Condition
 invalid_for k None = record { kind = InvalidInitarg; items = k ∷ [] }
@@ -49,9 +66,11 @@ initialized ev c vs i None w s = then_do (invoked ev InitializeInstance (instanc
 
 -- ---- the instance is made, in one step, and then initialized
 
+abbrev pub checked : Eval → ℕ → Effective → List Val → ℕ → Run
+checked ev c e vs i w s = initialized ev c vs i (invalid_initarg w.generics.methods (methods_reached w InitializeInstance i (truth true)) e.slots vs) w s
+
 abbrev pub made : Eval → Context → ℕ → Effective → List Val → Run
-made ev env c e vs w s =
-    initialized ev c vs (length w.store.instances + 1) (invalid_initarg e.slots vs) (record w { store = with_instance (allocated c e.layout) w.store }) s
+made ev env c e vs w s = checked ev c e vs (length w.store.instances + 1) (record w { store = with_instance (allocated c e.layout) w.store }) s
 
 abbrev pub allocate : Eval → Context → ℕ → Effective → List Val → Run
 allocate ev env c e vs w s = if has_room w.store then step_then (made ev env c e vs) w s else stopped TableLimit [] w s

@@ -1,5 +1,4 @@
 pub mod Callee
-pub mod Effective
 pub mod LocalsCode
 pub mod LocalsView
 pub mod Outcome
@@ -13,6 +12,8 @@ pub mod ClassFunctions
 pub mod Parameters
 pub mod ParametersCode
 pub mod ParametersView
+pub mod Dispatch
+pub mod Contexts
 pub mod GenericCalls
 pub mod Bodies
 pub mod Slots
@@ -21,6 +22,8 @@ pub mod Initialization
 pub mod Accessors
 pub mod SystemMethods
 pub mod Calls
+pub mod NextMethods
+pub mod FindMethod
 pub mod Functions
 pub mod SlotNames
 pub mod Meaning

@@ -27,7 +27,7 @@ use Rattle.clos_machine.specs.SlotNames.{within_slots}
 use Rattle.clos_machine.specs.Variables.{Loop, found_value, in_order, binding, within, aside, repeated, turns}
 use Rattle.clos_machine.specs.declared.arguments.Context.{Context}
 use Rattle.clos_machine.specs.declared.machine.Action.{Action}
-use Rattle.clos_machine.specs.declared.machine.Action.TheVariants.{Call, Set, Store, Change, NewValue, Amount, ChangePlace, Allocate, Fill, FillWith, Write, Read}
+use Rattle.clos_machine.specs.declared.machine.Action.TheVariants.{Call, Set, Store, Change, NewValue, Amount, ChangePlace, Allocate, Fill, FillWith, Write, Read, CallNext}
 use Rattle.clos_machine.specs.declared.machine.Doing.{Doing}
 use Rattle.clos_machine.specs.declared.machine.Doing.TheVariants.{Start, Act, Invoke, Give}
 use Rattle.clos_machine.specs.declared.machine.Doing.TheVariants as doing
@@ -174,6 +174,7 @@ lift (Fill f) = 0
 lift (FillWith f v) = 0
 lift (Write slot) = 0
 lift (Read t) = 0
+lift CallNext = 4
 
 -- What is left to do, which each turn makes smaller: a frame that may lead to an action weighs more, an action yet more.
 abbrev pub weight_of : Frame → ℕ

@@ -10,20 +10,22 @@ use Rattle.lisp_prims.specs.declared.primitive.Primitive.TheVariants.{Number}
 use Rattle.lisp_prims.specs.declared.arithmetic.Arithmetic.TheVariants.{Sum, Difference}
 use Rattle.clos_forms.specs.Form.{Frm, Frms, operator_in, parts_in}
 use Rattle.clos_forms.specs.Form as form
-use Rattle.clos_forms.specs.Names.{is_one_of, functions, system_functions}
+use Rattle.clos_forms.specs.Names.{is_one_of, functions}
 use Rattle.clos_forms.specs.Operator.{Opr, Plc, variable_place, slot_value_place, call_place}
 use Rattle.clos_forms.specs.Operator as of
 use Rattle.clos_forms.specs.Quotation.{name_value}
+use Rattle.clos_forms.specs.declared.operator.FunctionName.TheVariants.{Symbol, Setf}
+use Rattle.clos_generic.specs.Table.{named}
 use Rattle.clos_world.specs.FunctionName.{setter_value}
 use Rattle.clos_world.specs.Functions.{function_in}
-use Rattle.clos_world.specs.Generic.{function_named, setter_named}
 use Rattle.clos_world.specs.Values.{only_value, last_first}
 use Rattle.clos_world.specs.World.{State, unbound}
 use Rattle.clos_world.specs.declared.condition.ConditionKind.TheVariants.{ProgramError, UndefinedFunction, Unsupported, DepthLimit}
 use Rattle.clos_machine.specs.Accessors.{written_by}
 use Rattle.clos_machine.specs.Assignment.{changed_only}
 use Rattle.clos_machine.specs.Calls.{method_called}
-use Rattle.clos_machine.specs.GenericCalls.{known}
+use Rattle.clos_machine.specs.Contexts.{known}
+use Rattle.clos_machine.specs.NextMethods.{has_next, next_called, next_given}
 use Rattle.clos_machine.specs.Control.{going, clauses}
 use Rattle.clos_machine.specs.Fault.{answered}
 use Rattle.clos_machine.specs.Filling.{fill, fill_with, slots_left, subject_of}
@@ -34,7 +36,7 @@ use Rattle.clos_machine.specs.SlotNames.{name_read, name_set, place_denoted, wit
 use Rattle.clos_machine.specs.Variables.{in_order, aside, dotimes}
 use Rattle.clos_machine.specs.declared.arguments.Context.{Context}
 use Rattle.clos_machine.specs.declared.machine.Action.{Action}
-use Rattle.clos_machine.specs.declared.machine.Action.TheVariants.{Call, Set, Store, Change, NewValue, Amount, ChangePlace, Allocate, Fill, FillWith, Write, Read}
+use Rattle.clos_machine.specs.declared.machine.Action.TheVariants.{Call, Set, Store, Change, NewValue, Amount, ChangePlace, Allocate, Fill, FillWith, Write, Read, CallNext}
 use Rattle.clos_machine.specs.declared.machine.Control.TheVariants.{Progn, Prog1, If, When, Unless, And, Or}
 use Rattle.clos_machine.specs.declared.machine.Target.{Target}
 use Rattle.clos_machine.specs.declared.machine.Target.TheVariants as target
@@ -85,6 +87,7 @@ acted ev env (Fill f) vs w s = fill ev env (subject_of f) (slots_left f) w s
 acted ev env (FillWith f v) vs w s = fill_with ev env (subject_of f) (slots_left f) (value_of v) w s
 acted ev env (Write slot) vs w s = written_by ev env slot vs w s
 acted ev env (Read t) vs w s = place_read ev env t vs w s
+acted ev env CallNext vs w s = next_given ev env env.running vs w s
 
 -- these forms, and then what is done with their values
 abbrev pub collected : Eval → Context → Frms → Action → Run
@@ -132,7 +135,7 @@ other_function true name w s = stopped Unsupported [] w s
 other_function false name w s = stopped UndefinedFunction (name ∷ []) w s
 
 abbrev pub is_plain_function : State → Nam → Bool
-is_plain_function w name = is_one_of functions name || (is_one_of system_functions name || is_some (function_in w.functions name))
+is_plain_function w name = is_one_of functions name || is_some (function_in w.functions name)
 
 abbrev pub symbol_function : Nam → Option ℕ → Run
 symbol_function name None w s = other_function (is_plain_function w name) (name_value name) w s
@@ -143,8 +146,14 @@ setter_function name None w s = other_function (is_some (function_in w.setters n
 setter_function name (Some g) w s = Gave (generic g) w s
 
 abbrev pub function_value : Called → Run
-function_value (by_symbol name) w s = symbol_function name (function_named w.generics name) w s
-function_value (by_setf name) w s = setter_function name (setter_named w.generics name) w s
+function_value (by_symbol name) w s = symbol_function name (named w.generics (Symbol name)) w s
+function_value (by_setf name) w s = setter_function name (named w.generics (Setf name)) w s
+
+-- ---- call-next-method: without forms, with the arguments with which the method was called
+
+abbrev pub next_method : Eval → Context → Frms → Run
+next_method ev env form.nil w s = next_called ev env env.running env.arguments w s
+next_method ev env (form.cons f fs) w s = collected ev env (form.cons f fs) CallNext w s
 
 -- ---- forms
 
@@ -172,10 +181,10 @@ operated ev env of.decf ps w s = changing ev env (Number Difference) ps w s
 operated ev env (of.place p) ps w s = stopped Unsupported [] w s
 operated ev env (of.dotimes name has_result) ps w s = dotimes ev env (length w.locals) name has_result ps w s
 operated ev env (of.with_slots bs) ps w s = with_slots ev env bs ps w s
-operated ev env of.call_next_method ps w s = stopped Unsupported [] w s
-operated ev env of.next_method_p ps w s = stopped Unsupported [] w s
+operated ev env of.call_next_method ps w s = next_method ev env ps w s
+operated ev env of.next_method_p ps w s = Gave (truth (has_next env.running)) w s
 operated ev env (of.call name) ps w s = collected ev env ps (Call name) w s
-operated ev env (of.call_method m ns) ps w s = method_called ev env m ps w s
+operated ev env (of.call_method m ns) ps w s = method_called ev env m ns ps w s
 
 abbrev pub body : Eval → Context → Frm → Run
 body ev env f w s = operated ev env (operator_in f) (parts_in f) w s

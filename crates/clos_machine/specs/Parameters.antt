@@ -27,6 +27,12 @@ are_pairs [] = true
 are_pairs (k ∷ []) = false
 are_pairs (k ∷ (v ∷ vs)) = is_symbol k && are_pairs vs
 
+-- in pairs, whatever the first of each is
+abbrev pub are_even : List Val → Bool
+are_even [] = true
+are_even (k ∷ []) = false
+are_even (k ∷ (v ∷ vs)) = are_even vs
+
 -- the symbol of this name; NIL is the empty list
 abbrev pub is_symbol_named : Nam → Val → Bool
 is_symbol_named name (symbol n) = same_name n name

@@ -13,7 +13,7 @@ use Rattle.clos_world.specs.Class.{precedence_or_none}
 use Rattle.clos_world.specs.World.{State, class_of, class_of_instance}
 use Rattle.clos_world.specs.declared.condition.Condition.{Condition}
 use Rattle.clos_world.specs.declared.condition.ConditionKind.TheVariants.{ProgramError}
-use Rattle.clos_world.specs.declared.system.SystemFunction.TheVariants.{SlotUnbound, SlotMissing}
+use Rattle.clos_generic_core.specs.declared.system.SystemFunction.TheVariants.{SlotUnbound, SlotMissing}
 use Rattle.clos_machine.specs.ClassFunctions.{symbol_in, wrong_type}
 use Rattle.clos_machine.specs.GenericCalls.{invoked}
 use Rattle.clos_machine.specs.Outcome.{Gave, Stopped, Run, Eval, then_do, step_then, gave, stopped, is_true}

@@ -8,17 +8,19 @@ use Rattle.clos_world.specs.FunctionName.{called_value}
 use Rattle.clos_world.specs.World.{State, class_of_instance}
 use Rattle.clos_world.specs.declared.condition.Condition.{Condition}
 use Rattle.clos_world.specs.declared.condition.ConditionKind.{ConditionKind}
-use Rattle.clos_world.specs.declared.condition.ConditionKind.TheVariants.{NoApplicableMethod, ProgramError, UnboundSlot, MissingSlot}
-use Rattle.clos_world.specs.declared.generic.Generic.{Generic}
-use Rattle.clos_world.specs.declared.system.SystemFunction.{SystemFunction}
-use Rattle.clos_world.specs.declared.system.SystemFunction.TheVariants.{InitializeInstance, ReinitializeInstance, SharedInitialize, SlotUnbound, SlotMissing}
-use Rattle.clos_world.specs.declared.system.SystemFunction.TheVariants as of_system
+use Rattle.clos_world.specs.declared.condition.ConditionKind.TheVariants.{NoApplicableMethod, NoNextMethod, ProgramError, UnboundSlot, MissingSlot, Unsupported}
+use Rattle.clos_generic.specs.Table.{Function}
+use Rattle.clos_generic_core.specs.declared.system.SystemFunction.{SystemFunction}
+use Rattle.clos_generic_core.specs.declared.system.SystemFunction.TheVariants.{InitializeInstance, ReinitializeInstance, SharedInitialize, UpdateInstanceForRedefinedClass, UpdateInstanceForDifferentClass, SlotUnbound, SlotMissing}
+use Rattle.clos_generic_core.specs.declared.system.SystemFunction.TheVariants as of_system
 use Rattle.clos_machine.specs.Bodies.{scoped}
 use Rattle.clos_machine.specs.ClassFunctions.{wrong_type}
 use Rattle.clos_machine.specs.Filling.{are_slot_names, fill}
-use Rattle.clos_machine.specs.GenericCalls.{invoked, known}
-use Rattle.clos_machine.specs.Initialization.{invalid_for, invalid_initarg}
+use Rattle.clos_machine.specs.Contexts.{known}
+use Rattle.clos_machine.specs.GenericCalls.{invoked}
+use Rattle.clos_machine.specs.Initialization.{invalid_for, invalid_initarg, methods_reached}
 use Rattle.clos_machine.specs.Outcome.{Stopped, Run, Eval, then_do, gave, stopped}
+use Rattle.clos_machine.specs.Parameters.{are_even}
 use Rattle.clos_machine.specs.Slots.{instance_in}
 
 -- ---- the class of an instance, and what the class has
@@ -51,7 +53,7 @@ if_valid c (Some k) go w s = Stopped (invalid_for k (class_name w.classes c)) w 
 
 abbrev pub reinitialize_as : Eval → List Val → ℕ → Option (ℕ × Effective) → Run
 reinitialize_as ev initargs i None w s = stopped ProgramError [] w s
-reinitialize_as ev initargs i (Some p) w s = if_valid p.0 (invalid_initarg p.1.slots initargs) (shared_initialized ev i (list nil) initargs) w s
+reinitialize_as ev initargs i (Some p) w s = if_valid p.0 (invalid_initarg w.generics.methods (methods_reached w ReinitializeInstance i (list nil)) p.1.slots initargs) (shared_initialized ev i (list nil) initargs) w s
 
 abbrev pub reinitialize : Eval → List Val → Result ℕ Condition → Run
 reinitialize ev initargs (Err c) w s = Stopped c w s
@@ -69,6 +71,10 @@ initialize_slots ev names initargs (Err c) w s = Stopped c w s
 initialize_slots ev names initargs (Ok i) w s =
     if are_slot_names names then filled_as ev i names initargs (class_in w i) w s else Stopped (wrong_type names) w s
 
+-- A method's call of its next methods may hand on initargs that are not in pairs.
+abbrev pub shared_initialize : Eval → Val → Val → List Val → Run
+shared_initialize ev v names initargs w s = if are_even initargs then initialize_slots ev names initargs (instance_in v) w s else stopped ProgramError [] w s
+
 -- ---- slot-unbound and slot-missing signal that, of the name of a slot and an instance, which follow a class
 
 abbrev pub slot_condition : ConditionKind → List Val → Condition
@@ -77,12 +83,12 @@ slot_condition kind vs = record { kind = ProgramError; items = [] }
 
 -- ---- no-applicable-method signals that, of a generic function, which is told by its name, and the arguments of its call
 
-abbrev pub name_or : Val → Option Generic → Val
+abbrev pub name_or : Val → Option Function → Val
 name_or v None = v
-name_or v (Some g) = called_value g.name
+name_or v (Some f) = called_value f.name
 
 abbrev pub told : State → Val → Val
-told w (generic n) = name_or (generic n) (slice_get w.generics n)
+told w (generic n) = name_or (generic n) (slice_get w.generics.functions n)
 told w v = v
 
 -- ---- any of them
@@ -90,8 +96,11 @@ told w v = v
 abbrev pub system_method_run : Eval → SystemFunction → List Val → Run
 system_method_run ev InitializeInstance (v ∷ initargs) w s = initialize ev initargs (instance_in v) w s
 system_method_run ev ReinitializeInstance (v ∷ initargs) w s = reinitialize ev initargs (instance_in v) w s
-system_method_run ev SharedInitialize (v ∷ (names ∷ initargs)) w s = initialize_slots ev names initargs (instance_in v) w s
+system_method_run ev SharedInitialize (v ∷ (names ∷ initargs)) w s = shared_initialize ev v names initargs w s
 system_method_run ev SlotUnbound vs w s = Stopped (slot_condition UnboundSlot vs) w s
 system_method_run ev SlotMissing vs w s = Stopped (slot_condition MissingSlot vs) w s
 system_method_run ev of_system.NoApplicableMethod (f ∷ vs) w s = stopped NoApplicableMethod (told w f ∷ vs) w s
+system_method_run ev of_system.NoNextMethod (f ∷ (m ∷ vs)) w s = stopped NoNextMethod (m ∷ []) w s
+system_method_run ev UpdateInstanceForRedefinedClass (v ∷ vs) w s = stopped Unsupported [] w s
+system_method_run ev UpdateInstanceForDifferentClass (v ∷ vs) w s = stopped Unsupported [] w s
 system_method_run ev f vs w s = stopped ProgramError [] w s

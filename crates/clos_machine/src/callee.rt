@@ -55,6 +55,7 @@ pub enum Callee {
     /// A function of values.
     Primitive(Primitive),
     MakeInstance,
+    FindMethod,
     /// A function of classes.
     ClassFunction(ClassFunction),
     /// A function of slots.
@@ -81,6 +82,9 @@ pub fn callee_named(name: &Name) -> Callee
     }
     if is_the(name, "MAKE-INSTANCE") {
         return Callee::MakeInstance;
+    }
+    if is_the(name, "FIND-METHOD") {
+        return Callee::FindMethod;
     }
     match class_function_named(name) {
         Some(function) => Callee::ClassFunction(function),

@@ -4,7 +4,6 @@
 pub mod arguments;
 pub mod callee;
 pub mod counter;
-pub mod effective;
 pub mod fault;
 pub mod finalized;
 pub mod locals;

@@ -7,7 +7,8 @@ use crate::finalized::Finalized;
 use crate::locals::{Locals, Plan};
 use crate::parameters::ParameterPlan;
 use clos_forms::{Form, Forms};
-use clos_world::{SystemFunction, Values};
+use clos_generic_core::SystemFunction;
+use clos_world::Values;
 use lisp_data::{ClassId, InstanceId, Name, Value};
 use lisp_prims::Primitive;
 use std::alloc::{AllocError, Global};
@@ -61,6 +62,8 @@ pub enum Action {
     Write(Name),
     /// They are the arguments of a place, which is read.
     Read(Target),
+    /// The next method is called with them.
+    CallNext,
 }
 
 /// A loop of `dotimes`: how many variables are outside it, its own, whether it has a result form, and that form, where

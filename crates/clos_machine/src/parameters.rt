@@ -6,7 +6,8 @@ ghost use Rattle.lisp_prims.specs.Predicates.{is_symbol};
 ghost use Rattle.lisp_prims.specs.Primitive.{answer, truth};
 ghost use Rattle.lisp_prims.specs.declared.lists.ListFunction.TheVariants.{List};
 ghost use Rattle.lisp_prims.specs.declared.primitive.Primitive.TheVariants.{Listed};
-ghost use Rattle.clos_machine.specs.Parameters.{are_pairs, is_symbol_named, argument_named, is_allow_other_keys, is_allowing, is_accepted, are_accepted, keys_fit, after_required, after_optional, count_fits, fits, argument, required_sources, init_source, given_source, first_and_others, listed, variable_sources, optional_sources, rest_sources, entry_sources, key_sources, sources, requires_only};
+ghost use Rattle.clos_machine.specs.Calls.{keys_are_even};
+ghost use Rattle.clos_machine.specs.Parameters.{are_even, are_pairs, is_symbol_named, argument_named, is_allow_other_keys, is_allowing, is_accepted, are_accepted, keys_fit, after_required, after_optional, count_fits, fits, argument, required_sources, init_source, given_source, first_and_others, listed, variable_sources, optional_sources, rest_sources, entry_sources, key_sources, sources, requires_only};
 ghost use Rattle.clos_machine.specs.ParametersView.{source_of, parameter_of};
 
 use crate::fault::of_function;
@@ -103,6 +104,20 @@ pub fn are_pairs(values: &[Value]) -> bool
         if !is_symbol(name) {
             return false;
         }
+        left = others;
+    }
+    true
+}
+
+/// Whether these are pairs, whatever the first of each is.
+pub fn are_even(values: &[Value]) -> bool
+    ensures { result ≡ are_even (map value_of values.now) }
+{
+    let mut left = values;
+    while let Some((_, rest)) = left.split_first() {
+        let Some((_, others)) = rest.split_first() else {
+            return false;
+        };
         left = others;
     }
     true
@@ -256,6 +271,13 @@ pub fn fits(lambda_list: &LambdaList, values: &[Value]) -> bool
 {
     count_fits(lambda_list, values)
         && keys_fit(&lambda_list.keys, after_optional(lambda_list, values))
+}
+
+/// Whether the keyword parameters of a method, if it has some, have arguments in pairs.
+pub fn keys_are_even(lambda_list: &LambdaList, values: &[Value]) -> bool
+    ensures { result ≡ keys_are_even lambda_list.now (map value_of values.now) }
+{
+    lambda_list.keys.is_none() || are_even(after_optional(lambda_list, values))
 }
 
 /// Adds a variable whose value is there.

@@ -5,3 +5,5 @@ pub mod Passing
 pub mod Making
 pub mod Growing
 pub mod Methods
+pub mod Finding
+pub mod Reaching

@@ -1,5 +1,5 @@
 -- The making of an instance.
-use Rattle.std.proofs.Common.{◌≡◌, ℕ, zero, suc, ◌+◌, ◌<◌, List, [], ◌∷◌, ◌++◌, Bool, true, false, Some, None, Result, Ok, Err, drop, get_or, length, arith, add-one, refl, ap, sym, subst, ◌∙◌}
+use Rattle.std.proofs.Common.{◌≡◌, ℕ, zero, suc, ◌+◌, ◌<◌, List, [], ◌∷◌, ◌++◌, Bool, true, false, Option, Some, None, Result, Ok, Err, drop, get_or, length, arith, add-one, refl, ap, sym, subst, ◌∙◌}
 use Rattle.std.specs.Prelude.{if◌then◌else◌}
 use Rattle.std.proofs.Math.Seq.{drop-cons}
 use Rattle.lisp_data.specs.Value.{Val}
@@ -17,7 +17,7 @@ use Rattle.clos_world.specs.declared.condition.ConditionKind.TheVariants.{Progra
 use Rattle.clos_world.specs.declared.condition.Stop.{Stop}
 use Rattle.clos_world.specs.declared.condition.Stop.TheVariants.{Refused, Storage}
 use Rattle.clos_machine.specs.Bodies.{restoring}
-use Rattle.clos_machine.specs.GenericCalls.{known}
+use Rattle.clos_machine.specs.Contexts.{known}
 use Rattle.clos_machine.specs.Initialization.{allocate, default_given, defaulted, instance_made, making, initialized, invalid_for, invalid_initarg, is_given, made, making_of}
 use Rattle.clos_machine.specs.Machine.{Designates, Leads, Turns, at, inside, resume}
 use Rattle.clos_machine.specs.Meaning.{closed, meaning}
@@ -31,6 +31,10 @@ use Rattle.clos_machine.specs.declared.machine.Machine.{Machine}
 use Rattle.clos_machine.proofs.Running.{turns_of_leads}
 use Rattle.clos_machine.proofs.Turns.{leads_same, stopped_through}
 use Rattle.clos_objects.specs.Objects.{Enters, TellsCondition, default_first, ungiven}
+use Rattle.clos_objects.specs.Reached.{invalid_for_new, reached_by_new}
+use Rattle.clos_class.specs.declared.effective_slots.EffectiveSlot.{EffectiveSlot}
+use Rattle.clos_generic_core.specs.declared.method.Method.{Method}
+use Rattle.clos_objects.proofs.Reaching.{new_reached}
 use Rattle.clos_objects.proofs.Placing.{stops_at_once, turns_same}
 
 -- ---- default initargs
@@ -119,37 +123,46 @@ module _ (m : Machine) (c : ℕ) (e : Effective) (vs : List Val) where
   room_for i w h = sym (some_room (has_room w.store) _ i.0 h).0
 
   -- the rest, with the instance made
-  abbrev pub next_of : InstanceId → Run
-  next_of i u k = initialized (meaning m.room) c vs i.0 (invalid_initarg e.slots vs) u k
+  abbrev pub next_of : State → InstanceId → Run
+  next_of w i u k = initialized (meaning m.room) c vs i.0 (invalid_for_new w c i.0 e.slots vs) u k
 
   after_step : (i : InstanceId) (w w' : State) (t : ℕ) → Some i.0 ≡ next_instance w.store → w' ≡ record w { store = with_instance (allocated c e.layout) w.store }
-      → inside m (next_of i) w' t ≡ inside m allocating w (1 + t)
+      → inside m (next_of w i) w' t ≡ inside m allocating w (1 + t)
   after_step i w w' t h k =
-      ap (λ u. inside m (next_of i) u t) k
+      ap (λ u. inside m (next_of w i) u t) k
       ∙ ap (λ o. closed (resume m.levels m.context o))
-      (ap (λ j. initialized (meaning m.room) c vs j (invalid_initarg e.slots vs) (record (at m w) { store = with_instance (allocated c e.layout) w.store }) t)
+      (ap (λ j. initialized (meaning m.room) c vs j (invalid_for_new w c j e.slots vs) (record (at m w) { store = with_instance (allocated c e.layout) w.store }) t)
       (some_room (has_room w.store) _ i.0 h).1
+      ∙ ap (λ ms. initialized (meaning m.room) c vs (length w.store.instances + 1) (invalid_initarg w.generics.methods ms e.slots vs) (record (at m w) { store = with_instance (allocated c e.layout) w.store }) t)
+      (new_reached w c e.layout)
       ∙ sym (has_room_then i w (1 + t) h ∙ ap (step_then (made (meaning m.room) m.context c e vs) (at m w)) (one_more t)))
 
   pub allocate_goes : (n : Machine) (i : InstanceId) (d : Doing) (w w' : State) (s s' : ℕ) → Some i.0 ≡ next_instance w.store → s ≡ 1 + s'
-      → w' ≡ record w { store = with_instance (allocated c e.layout) w.store } → Leads (inside m (next_of i)) w' (Ok d) n → Turns (inside m allocating) w s (Ok d) n w' s'
+      → w' ≡ record w { store = with_instance (allocated c e.layout) w.store } → Leads (inside m (next_of w i)) w' (Ok d) n → Turns (inside m allocating) w s (Ok d) n w' s'
   allocate_goes n i d w w' s s' h z k l = (1, z, λ t. l t ∙ after_step i w w' t h k)
 
   pub allocate_stops : (n : Machine) (i : InstanceId) (d : Condition) (w w' : State) (s s' : ℕ) → Some i.0 ≡ next_instance w.store → s ≡ 1 + s'
-      → w' ≡ record w { store = with_instance (allocated c e.layout) w.store } → Leads (inside m (next_of i)) w' (Err (Refused d)) n
+      → w' ≡ record w { store = with_instance (allocated c e.layout) w.store } → Leads (inside m (next_of w i)) w' (Err (Refused d)) n
       → Turns (inside m allocating) w s (Err (Refused d)) n w' s'
   allocate_stops n i d w w' s s' h z k l = ap (inside m allocating w) z ∙ sym (after_step i w w' s' h k) ∙ l s'
 
+-- the leftmost that is not valid, of what is at hand
+pub invalid_given : (w : State) (c i : ℕ) (methods : List Method) (ms : List ℕ) (slots all : List EffectiveSlot) (us vs : List Val) → methods ≡ w.generics.methods → ms ≡ reached_by_new w c i
+    → slots ≡ all → us ≡ vs → invalid_initarg methods ms slots us ≡ invalid_for_new w c i all vs
+invalid_given w c i methods ms slots all us vs e h k l =
+    ap (λ x. invalid_initarg x ms slots us) e ∙ ap (λ x. invalid_initarg w.generics.methods x slots us) h
+    ∙ ap (λ x. invalid_initarg w.generics.methods (reached_by_new w c i) x us) k ∙ ap (invalid_initarg w.generics.methods (reached_by_new w c i) all) l
+
 -- an initarg that is not valid
-pub refused_initarg : (m n : Machine) (ev : Eval) (c : ℕ) (e : Effective) (vs us : List Val) (i : ℕ) (k : Val) (cs : Table) (stop : Stop) (run : Run) (w : State)
-    → w.classes ≡ cs → Some k ≡ invalid_initarg e.slots us → us ≡ vs → TellsCondition (invalid_for k (class_name cs c)) stop
-    → ((t : ℕ) → initialized ev c vs i (invalid_initarg e.slots vs) (at m w) t ≡ run (at m w) t) → Leads (inside m run) w (Err stop) n
-refused_initarg m n ev c e vs us i k cs Storage run w a b g d h = tt
-refused_initarg m n ev c e vs us i k cs (Refused x) run w a b g d h = λ t.
+pub refused_initarg : (m n : Machine) (ev : Eval) (c : ℕ) (vs : List Val) (i : ℕ) (x : Option Val) (k : Val) (cs : Table) (stop : Stop) (run : Run) (w : State)
+    → w.classes ≡ cs → Some k ≡ x → TellsCondition (invalid_for k (class_name cs c)) stop
+    → ((t : ℕ) → initialized ev c vs i x (at m w) t ≡ run (at m w) t) → Leads (inside m run) w (Err stop) n
+refused_initarg m n ev c vs i x k cs Storage run w a b d h = tt
+refused_initarg m n ev c vs i x k cs (Refused y) run w a b d h = λ t.
     ap (λ o. closed (resume m.levels m.context o))
-    (sym (h t) ∙ ap (λ o. initialized ev c vs i o (at m w) t) (sym (b ∙ ap (invalid_initarg e.slots) g))
-    ∙ ap (λ y. Stopped (invalid_for k (class_name y c)) (at m w) t) a ∙ ap (λ y. Stopped y (at m w) t) (sym d))
-    ∙ stopped_through m.levels m.context x (at m w) t
+    (sym (h t) ∙ ap (λ o. initialized ev c vs i o (at m w) t) (sym b)
+    ∙ ap (λ z. Stopped (invalid_for k (class_name z c)) (at m w) t) a ∙ ap (λ z. Stopped z (at m w) t) (sym d))
+    ∙ stopped_through m.levels m.context y (at m w) t
 
 -- ---- within a body without variables
 

@@ -1,24 +1,27 @@
 -- What the system's methods do.
-use Rattle.std.proofs.Common.{◌≡◌, ℕ, List, [], ◌∷◌, true, false, Some, None, Result, Ok, Err, refl, ap, sym, ◌∙◌}
+use Rattle.std.proofs.Common.{◌≡◌, ℕ, List, [], ◌∷◌, true, false, Option, Some, None, Result, Ok, Err, refl, ap, sym, ◌∙◌}
 use Rattle.std.specs.Prelude.{if◌then◌else◌}
 use Rattle.lisp_data.specs.Value.{Val, list, nil}
 use Rattle.clos_class.specs.Slots.{Effective}
+use Rattle.clos_class.specs.declared.effective_slots.EffectiveSlot.{EffectiveSlot}
+use Rattle.clos_generic_core.specs.declared.method.Method.{Method}
+use Rattle.clos_machine.specs.Parameters.{are_even}
 use Rattle.clos_world.specs.Class.{class_name}
 use Rattle.clos_world.specs.World.{State}
 use Rattle.clos_world.specs.declared.condition.Condition.{Condition}
 use Rattle.clos_world.specs.declared.condition.ConditionKind.TheVariants.{ProgramError}
 use Rattle.clos_world.specs.declared.condition.Stop.{Stop}
 use Rattle.clos_world.specs.declared.condition.Stop.TheVariants.{Refused, Storage}
-use Rattle.clos_world.specs.declared.system.SystemFunction.{SystemFunction}
-use Rattle.clos_world.specs.declared.system.SystemFunction.TheVariants.{InitializeInstance, ReinitializeInstance, SharedInitialize, SlotUnbound, SlotMissing, NoApplicableMethod}
+use Rattle.clos_generic_core.specs.declared.system.SystemFunction.{SystemFunction}
+use Rattle.clos_generic_core.specs.declared.system.SystemFunction.TheVariants.{InitializeInstance, ReinitializeInstance, SharedInitialize, UpdateInstanceForRedefinedClass, UpdateInstanceForDifferentClass, SlotUnbound, SlotMissing, NoApplicableMethod, NoNextMethod}
 use Rattle.clos_machine.specs.ClassFunctions.{wrong_type}
 use Rattle.clos_machine.specs.Filling.{are_slot_names, initargs_in, names_in}
-use Rattle.clos_machine.specs.Initialization.{invalid_for, invalid_initarg}
+use Rattle.clos_machine.specs.Initialization.{invalid_for, invalid_initarg, methods_reached}
 use Rattle.clos_machine.specs.Machine.{Leads, at, inside, resume}
 use Rattle.clos_machine.specs.Meaning.{closed}
 use Rattle.clos_machine.specs.Outcome.{Eval, Run, Stopped, stopped}
 use Rattle.clos_machine.specs.Slots.{instance_in}
-use Rattle.clos_machine.specs.SystemMethods.{class_in, filled_as, if_valid, initialize_slots, reinitialize_as, shared_initialized, system_method_run}
+use Rattle.clos_machine.specs.SystemMethods.{class_in, filled_as, if_valid, initialize_slots, reinitialize_as, shared_initialize, shared_initialized, system_method_run}
 use Rattle.clos_machine.specs.declared.machine.Doing.{Doing}
 use Rattle.clos_machine.specs.declared.machine.Machine.{Machine}
 use Rattle.clos_machine.proofs.Turns.{leads_same, stopped_through}
@@ -47,6 +50,9 @@ module _ (m n : Machine) (w : State) where
   none_at ev SlotUnbound t = refl
   none_at ev SlotMissing t = refl
   none_at ev NoApplicableMethod t = refl
+  none_at ev NoNextMethod t = refl
+  none_at ev UpdateInstanceForRedefinedClass t = refl
+  none_at ev UpdateInstanceForDifferentClass t = refl
 
   pub no_arguments : (ev : Eval) (f : SystemFunction) (vs : List Val) (c : Condition) → vs ≡ [] → c ≡ record { kind = ProgramError; items = [] }
       → Leads (inside m (system_method_run ev f vs)) w (Err (Refused c)) n
@@ -62,14 +68,25 @@ module _ (m n : Machine) (w : State) where
     pub no_class_again : (c : Condition) → None ≡ class_in w i → c ≡ record { kind = ProgramError; items = [] } → Leads (inside m again) w (Err (Refused c)) n
     no_class_again c e k = leads_refused again c (record { kind = ProgramError; items = [] }) (λ t. ap (λ o. reinitialize_as ev vs i o (at m w) t) (sym e)) k
 
-    pub invalid_again : (p : ℕ × Effective) (k : Val) (stop : Stop) → Some p ≡ class_in w i → Some k ≡ invalid_initarg p.1.slots vs → TellsCondition (invalid_for k (class_name w.classes p.0)) stop
+    -- the leftmost initarg that is not valid
+    abbrev pub wrong : Effective → Option Val
+    wrong e = invalid_initarg w.generics.methods (methods_reached w ReinitializeInstance i (list nil)) e.slots vs
+
+    pub wrong_given : (e : Effective) (methods : List Method) (ms : List ℕ) (names : Val) (slots : List EffectiveSlot) → methods ≡ w.generics.methods → ms ≡ methods_reached w ReinitializeInstance i names
+        → names ≡ list nil → slots ≡ e.slots → invalid_initarg methods ms slots vs ≡ wrong e
+    wrong_given e methods ms names slots h k l j =
+        ap (λ x. invalid_initarg x ms slots vs) h
+        ∙ ap (λ x. invalid_initarg w.generics.methods x slots vs) (k ∙ ap (methods_reached w ReinitializeInstance i) l)
+        ∙ ap (λ x. invalid_initarg w.generics.methods (methods_reached w ReinitializeInstance i (list nil)) x vs) j
+
+    pub invalid_again : (p : ℕ × Effective) (k : Val) (stop : Stop) → Some p ≡ class_in w i → Some k ≡ wrong p.1 → TellsCondition (invalid_for k (class_name w.classes p.0)) stop
         → Leads (inside m again) w (Err stop) n
     invalid_again p k Storage e h d = tt
     invalid_again p k (Refused c) e h d =
         leads_refused again c (invalid_for k (class_name w.classes p.0))
         (λ t. ap (λ o. reinitialize_as ev vs i o (at m w) t) (sym e) ∙ ap (λ o. if_valid p.0 o (shared_initialized ev i (list nil) vs) (at m w) t) (sym h)) d
 
-    pub valid_again : (p : ℕ × Effective) (names : Val) (r : Result Doing Stop) → Some p ≡ class_in w i → None ≡ invalid_initarg p.1.slots vs → names ≡ list nil
+    pub valid_again : (p : ℕ × Effective) (names : Val) (r : Result Doing Stop) → Some p ≡ class_in w i → None ≡ wrong p.1 → names ≡ list nil
         → Leads (inside m (shared_initialized ev i names vs)) w r n → Leads (inside m again) w r n
     valid_again p names r e h q l =
         leads_same (inside m (shared_initialized ev i names vs)) (inside m again) w r n
@@ -95,25 +112,35 @@ module _ (m n : Machine) (w : State) where
       whole : us ≡ v ∷ names ∷ initargs
       whole = e ∙ ap (λ r. v ∷ r) h
 
-      runs : (t : ℕ) → initialize_slots ev names initargs (instance_in v) (at m w) t ≡ slots_run (at m w) t
-      runs t = ap (λ x. system_method_run ev SharedInitialize x (at m w) t) (sym whole)
+      whole_runs : (t : ℕ) → shared_initialize ev v names initargs (at m w) t ≡ slots_run (at m w) t
+      whole_runs t = ap (λ x. system_method_run ev SharedInitialize x (at m w) t) (sym whole)
 
-      pub slots_of_none : (stop : Stop) → DesignatesInstance (instance_in v) (Err stop) → Leads (inside m slots_run) w (Err stop) n
-      slots_of_none stop d =
-          leads_same (inside m (initialize_slots ev names initargs (instance_in v))) (inside m slots_run) w (Err stop) n (λ t. ap (λ o. closed (resume m.levels m.context o)) (runs t))
-          (no_instance (initialize_slots ev names initargs) (instance_in v) stop (λ c t. refl) d)
+      pub odd_initargs : (c : Condition) → are_even initargs ≡ false → c ≡ record { kind = ProgramError; items = [] } → Leads (inside m slots_run) w (Err (Refused c)) n
+      odd_initargs c b k =
+          leads_refused slots_run c (record { kind = ProgramError; items = [] })
+          (λ t. sym (whole_runs t) ∙ ap (λ x. if x then initialize_slots ev names initargs (instance_in v) (at m w) t else stopped ProgramError [] (at m w) t) b) k
 
-      pub no_slot_names : (i : ℕ) (c : Condition) → instance_in v ≡ Ok i → are_slot_names names ≡ false → c ≡ wrong_type names → Leads (inside m slots_run) w (Err (Refused c)) n
-      no_slot_names i c d b k =
-          leads_refused slots_run c (wrong_type names)
-          (λ t. sym (runs t) ∙ ap (λ x. initialize_slots ev names initargs x (at m w) t) d
-          ∙ ap (λ x. if x then filled_as ev i names initargs (class_in w i) (at m w) t else Stopped (wrong_type names) (at m w) t) b) k
+      module _ (even : are_even initargs ≡ true) where
+        runs : (t : ℕ) → initialize_slots ev names initargs (instance_in v) (at m w) t ≡ slots_run (at m w) t
+        runs t =
+            ap (λ x. if x then initialize_slots ev names initargs (instance_in v) (at m w) t else stopped ProgramError [] (at m w) t) (sym even) ∙ whole_runs t
 
-      pub slot_names : (i : ℕ) (r : Result Doing Stop) → instance_in v ≡ Ok i → are_slot_names names ≡ true
-          → Leads (inside m (λ u. filled_as ev i (names_in us) (initargs_in us) (class_in u i) u)) w r n → Leads (inside m slots_run) w r n
-      slot_names i r d b l =
-          leads_same (inside m (λ u. filled_as ev i (names_in us) (initargs_in us) (class_in u i) u)) (inside m slots_run) w r n
-          (λ t. ap (λ o. closed (resume m.levels m.context o))
-          (ap (λ x. filled_as ev i (names_in x) (initargs_in x) (class_in w i) (at m w) t) whole
-          ∙ ap (λ x. if x then filled_as ev i names initargs (class_in w i) (at m w) t else Stopped (wrong_type names) (at m w) t) (sym b)
-          ∙ ap (λ x. initialize_slots ev names initargs x (at m w) t) (sym d) ∙ runs t)) l
+        pub slots_of_none : (stop : Stop) → DesignatesInstance (instance_in v) (Err stop) → Leads (inside m slots_run) w (Err stop) n
+        slots_of_none stop d =
+            leads_same (inside m (initialize_slots ev names initargs (instance_in v))) (inside m slots_run) w (Err stop) n (λ t. ap (λ o. closed (resume m.levels m.context o)) (runs t))
+            (no_instance (initialize_slots ev names initargs) (instance_in v) stop (λ c t. refl) d)
+
+        pub no_slot_names : (i : ℕ) (c : Condition) → instance_in v ≡ Ok i → are_slot_names names ≡ false → c ≡ wrong_type names → Leads (inside m slots_run) w (Err (Refused c)) n
+        no_slot_names i c d b k =
+            leads_refused slots_run c (wrong_type names)
+            (λ t. sym (runs t) ∙ ap (λ x. initialize_slots ev names initargs x (at m w) t) d
+            ∙ ap (λ x. if x then filled_as ev i names initargs (class_in w i) (at m w) t else Stopped (wrong_type names) (at m w) t) b) k
+
+        pub slot_names : (i : ℕ) (r : Result Doing Stop) → instance_in v ≡ Ok i → are_slot_names names ≡ true
+            → Leads (inside m (λ u. filled_as ev i (names_in us) (initargs_in us) (class_in u i) u)) w r n → Leads (inside m slots_run) w r n
+        slot_names i r d b l =
+            leads_same (inside m (λ u. filled_as ev i (names_in us) (initargs_in us) (class_in u i) u)) (inside m slots_run) w r n
+            (λ t. ap (λ o. closed (resume m.levels m.context o))
+            (ap (λ x. filled_as ev i (names_in x) (initargs_in x) (class_in w i) (at m w) t) whole
+            ∙ ap (λ x. if x then filled_as ev i names initargs (class_in w i) (at m w) t else Stopped (wrong_type names) (at m w) t) (sym b)
+            ∙ ap (λ x. initialize_slots ev names initargs x (at m w) t) (sym d) ∙ runs t)) l

@@ -13,14 +13,14 @@ use Rattle.clos_world.specs.declared.condition.Stop.TheVariants.{Refused, Storag
 use Rattle.clos_machine.specs.Filling.{Filler, Subject, fill, filled, filler, nothing, value, initform}
 use Rattle.clos_class.specs.Slots.{Effective}
 use Rattle.clos_forms.specs.Form.{Frm, nil}
-use Rattle.clos_machine.specs.GenericCalls.{known}
+use Rattle.clos_machine.specs.Contexts.{known}
 use Rattle.clos_machine.specs.Initialization.{default_given, is_given}
 use Rattle.clos_forms.specs.Quotation.{name_value}
 use Rattle.clos_machine.specs.Slots.{class_value, operation_name}
 use Rattle.clos_machine.specs.Outcome.{Gave, Run, Eval, then_do, stopped}
 use Rattle.clos_machine.specs.declared.machine.Frame.TheVariants.{Body}
 use Rattle.clos_machine.specs.declared.machine.Machine.{Machine}
-use Rattle.clos_world.specs.declared.condition.ConditionKind.TheVariants.{ProgramError}
+use Rattle.clos_world.specs.declared.condition.ConditionKind.TheVariants.{NoNextMethod, ProgramError}
 use Rattle.clos_machine.specs.declared.arguments.Context.{Context}
 use Rattle.clos_objects.specs.declared.filling.Found.{Found}
 use Rattle.clos_objects.specs.declared.filling.Found.TheVariants as found
@@ -118,3 +118,8 @@ Enters m n = n ≡ record { levels = (record { frame = Body nil m.context m.loca
 abbrev pub TellsCondition : Condition → Stop → Type 0
 TellsCondition d (Refused c) = c ≡ d
 TellsCondition d Storage = Unit {0}
+
+-- what no-next-method signals of a method, which its arguments begin with after the generic function
+abbrev pub next_condition : List Val → Condition
+next_condition [] = record { kind = ProgramError; items = [] }
+next_condition (m ∷ vs) = record { kind = NoNextMethod; items = m ∷ [] }

@@ -207,7 +207,8 @@ fn class_designated(alloc: Global, world: &World, value: &Value) -> Result<Class
     }
 }
 
-fn named_by(alloc: Global, world: &World, value: &Value) -> Result<ClassId, Stop>
+/// The class that a symbol names.
+pub fn named_by(alloc: Global, world: &World, value: &Value) -> Result<ClassId, Stop>
     ensures { Designates (named_by (seen world.now).classes (value_of value.now) (symbol_in (value_of value.now))) result }
 {
     match symbol_in(value)? {
@@ -235,7 +236,8 @@ pub fn symbol_in(value: &Value) -> Result<Option<Name>, AllocError>
 
 // ---- conditions
 
-fn wrong_number(alloc: Global) -> Result<Value, Stop>
+/// The condition that a function was called with a wrong number of arguments.
+pub fn wrong_number(alloc: Global) -> Result<Value, Stop>
     ensures { Tells wrong_number result }
 {
     Err(Stop::Refused(plain(alloc, ConditionKind::ProgramError)))
@@ -249,7 +251,7 @@ pub fn wrong_type(alloc: Global, value: &Value) -> Result<Condition, AllocError>
 }
 
 /// The condition that there is no class of this name.
-fn undefined_class(alloc: Global, name: &Name) -> Result<Condition, AllocError>
+pub fn undefined_class(alloc: Global, name: &Name) -> Result<Condition, AllocError>
     ensures { IfOk result (λ c. c ≡ undefined_class name.now) }
 {
     about_name(alloc, ConditionKind::UndefinedClass, name)

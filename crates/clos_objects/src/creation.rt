@@ -4,25 +4,26 @@ ghost use Rattle.lisp_data.specs.ValueView.{value_of};
 ghost use Rattle.clos_store.specs.Store.{allocated, has_room, with_instance};
 ghost use Rattle.clos_world.specs.Class.{class_name, effective};
 ghost use Rattle.clos_world.specs.World.{State, seen};
-ghost use Rattle.clos_machine.specs.Initialization.{allocate, default_given, defaulted, initialized, instance_made, invalid_for, invalid_initarg, making_of};
+ghost use Rattle.clos_machine.specs.Initialization.{allocate, default_given, defaulted, initialized, instance_made, invalid_for, making_of};
 ghost use Rattle.clos_machine.specs.Machine.{Grows, Leads, Turns, at, inside};
 ghost use Rattle.clos_machine.specs.Meaning.{meaning};
 ghost use Rattle.clos_machine.specs.Outcome.{Run};
 ghost use Rattle.clos_objects.specs.Objects.{Enters, TellsCondition, default_first, ungiven};
+ghost use Rattle.clos_objects.specs.Reached.{invalid_for_new};
 
 use crate::classes::designate;
 use crate::initargs::{invalid_initarg, is_given};
+use crate::reached::reached_by_new;
 use clos_control::control::{begin, invoke_under};
 use clos_forms::{Forms, value_named};
+use clos_generic_core::SystemFunction;
 use clos_machine::arguments::{Arguments, Context};
 use clos_machine::finalized::Finalized;
 use clos_machine::locals::Locals;
 use clos_machine::machine::{Action, Doing, Frame, Level, Machine};
 use clos_machine::parameters::are_pairs;
 use clos_syntax::DefaultInitarg;
-use clos_world::{
-    Condition, ConditionKind, Stop, SystemFunction, Values, World, about, about_both, plain,
-};
+use clos_world::{Condition, ConditionKind, Stop, Values, World, about, about_both, plain};
 use lisp_data::{ClassId, InstanceId, Value};
 use std::alloc::{AllocError, Global};
 use std::mem;
@@ -91,7 +92,7 @@ pub fn enter(alloc: Global, machine: &mut Machine) -> Result<(), AllocError>
     ensures { IfOk result (λ u. Enters machine.old machine.new) }
 {
     let arguments = Arguments::new(alloc, Values::new(alloc))?;
-    let saved = mem::replace(&mut machine.context, Context { arguments });
+    let saved = mem::replace(&mut machine.context, Context::of_function(arguments));
     let outer = mem::replace(&mut machine.locals, Locals::new(alloc));
     let frame = Frame::Body(Forms::new(), saved, outer);
     let room = machine.room;
@@ -284,11 +285,13 @@ fn initialize(
     id: InstanceId,
 ) -> Result<Doing, Stop>
     ensures leads { (run : Run) (w : State) → w.classes ≡ (seen world.now).classes
-        → ((t : ℕ) → initialized (meaning machine.old.room) class.0 initargs id.0 (invalid_initarg effective.now.slots initargs) (at machine.old w) t ≡ run (at machine.old w) t)
+        → ((t : ℕ) → initialized (meaning machine.old.room) class.0 initargs id.0 (invalid_for_new (seen world.now) class.0 id.0 effective.now.slots initargs) (at machine.old w) t ≡ run (at machine.old w) t)
         → Leads (inside machine.old run) w result machine.new }
     ensures small { Grows 5 machine.old.levels result machine.new }
 {
-    if let Some(name) = invalid_initarg(effective.slots(), initargs.as_slice()) {
+    let reached = reached_by_new(alloc, world, class, id)?;
+    let methods = world.generics.methods();
+    if let Some(name) = invalid_initarg(methods, &reached, effective.slots(), initargs.as_slice()) {
         return Err(refuse(alloc, world, class, name));
     }
     initargs.push_first(Value::Instance(id))?;

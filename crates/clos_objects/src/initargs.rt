@@ -3,10 +3,13 @@ ghost use Rattle.std.specs.Prelude.{◌≡◌, ◌∷◌, option_map, map};
 ghost use Rattle.std.specs.List.{list_any};
 ghost use Rattle.lisp_data.specs.ValueView.{value_of};
 ghost use Rattle.clos_machine.specs.Filling.{initarg_for};
-ghost use Rattle.clos_machine.specs.Initialization.{fills, first_invalid, invalid_initarg, is_given, is_valid};
+ghost use Rattle.clos_machine.specs.ClassFunctions.{symbol_in};
+ghost use Rattle.clos_machine.specs.Initialization.{fills, first_invalid, invalid_initarg, is_given, is_keyword_of, is_valid};
 ghost use Rattle.clos_machine.specs.Parameters.{is_symbol_named};
 
+use crate::reached::Reached;
 use clos_class::EffectiveSlot;
+use clos_generic_core::Method;
 use clos_machine::parameters::{argument_named, is_allow_other_keys, is_allowing, is_symbol_named};
 use clos_syntax::DefaultInitarg;
 use lisp_data::{Name, Value};
@@ -49,21 +52,40 @@ fn fills(slots: &[EffectiveSlot], name: &Value) -> bool
     slots.iter().any(|slot| is_filled_by(slot, name))
 }
 
-fn is_valid(slots: &[EffectiveSlot], name: &Value) -> bool
-    ensures { result ≡ is_valid slots.now (value_of name.now) }
+/// Whether one of these methods names the keyword that a value is.
+fn is_keyword_of(methods: &[Method], reached: &Reached, value: &Value) -> bool
+    ensures { result ≡ is_keyword_of methods.now reached.now (symbol_in (value_of value.now)) }
 {
-    is_allow_other_keys(name) || fills(slots, name)
+    match value {
+        Value::Sym(name) => reached.names(methods, name),
+        Value::List(items) => match items.split_first() {
+            None => reached.names(methods, &Name::fixed(&"NIL")),
+            Some(_) => false,
+        },
+        _ => false,
+    }
 }
 
-fn first_invalid<'a>(slots: &[EffectiveSlot], initargs: &'a [Value]) -> Option<&'a Value>
-    ensures { option_map (λ v. value_of v.now) result ≡ first_invalid slots.now (map value_of initargs.now) }
+fn is_valid(methods: &[Method], reached: &Reached, slots: &[EffectiveSlot], name: &Value) -> bool
+    ensures { result ≡ is_valid methods.now reached.now slots.now (value_of name.now) }
+{
+    is_allow_other_keys(name) || fills(slots, name) || is_keyword_of(methods, reached, name)
+}
+
+fn first_invalid<'a>(
+    methods: &[Method],
+    reached: &Reached,
+    slots: &[EffectiveSlot],
+    initargs: &'a [Value],
+) -> Option<&'a Value>
+    ensures { option_map (λ v. value_of v.now) result ≡ first_invalid methods.now reached.now slots.now (map value_of initargs.now) }
 {
     let mut left = initargs;
     while let Some((name, rest)) = left.split_first() {
         let Some((_, others)) = rest.split_first() else {
             return None;
         };
-        if !is_valid(slots, name) {
+        if !is_valid(methods, reached, slots, name) {
             return Some(name);
         }
         left = others;
@@ -71,14 +93,19 @@ fn first_invalid<'a>(slots: &[EffectiveSlot], initargs: &'a [Value]) -> Option<&
     None
 }
 
-/// The leftmost initarg that is not valid.
-pub fn invalid_initarg<'a>(slots: &[EffectiveSlot], initargs: &'a [Value]) -> Option<&'a Value>
-    ensures { option_map (λ v. value_of v.now) result ≡ invalid_initarg slots.now (map value_of initargs.now) }
+/// The leftmost initarg that is not valid for these slots, where the initargs reach these of all methods.
+pub fn invalid_initarg<'a>(
+    methods: &[Method],
+    reached: &Reached,
+    slots: &[EffectiveSlot],
+    initargs: &'a [Value],
+) -> Option<&'a Value>
+    ensures { option_map (λ v. value_of v.now) result ≡ invalid_initarg methods.now reached.now slots.now (map value_of initargs.now) }
 {
-    if is_allowing(initargs) {
+    if is_allowing(initargs) || reached.allows(methods) {
         return None;
     }
-    first_invalid(slots, initargs)
+    first_invalid(methods, reached, slots, initargs)
 }
 
 /// Whether the name of a default initarg is among the initargs.

@@ -18,9 +18,10 @@ ghost use Rattle.clos_objects.specs.Objects.{DesignatesInstance, DesignatesSlot,
 use crate::class_functions::{symbol_in, truth, wrong_type};
 use clos_control::control::invoke_under;
 use clos_forms::{Forms, value_named};
+use clos_generic_core::SystemFunction;
 use clos_machine::callee::SlotFunction;
 use clos_machine::machine::{Doing, Frame, Machine};
-use clos_world::{ConditionKind, Stop, SystemFunction, Values, World, plain};
+use clos_world::{ConditionKind, Stop, Values, World, plain};
 use lisp_data::{InstanceId, Name, Value};
 use std::alloc::{AllocError, Global};
 

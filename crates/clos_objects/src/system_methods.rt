@@ -8,23 +8,26 @@ ghost use Rattle.clos_machine.specs.Meaning.{meaning};
 ghost use Rattle.clos_machine.specs.Slots.{instance_in};
 ghost use Rattle.clos_machine.specs.SystemMethods.{class_in, initialize, initialize_slots, filled_as, reinitialize, reinitialize_as, shared_initialized, slot_condition, system_method_run, told};
 ghost use Rattle.clos_machine.specs.Filling.{initargs_in, names_in};
-ghost use Rattle.clos_objects.specs.Objects.{TellsCondition};
+ghost use Rattle.clos_objects.specs.Objects.{TellsCondition, next_condition};
 ghost use Rattle.clos_world.specs.declared.condition.ConditionKind.TheVariants.{NoApplicableMethod};
-ghost use Rattle.clos_world.specs.declared.system.SystemFunction.TheVariants.{SharedInitialize};
+ghost use Rattle.clos_generic_core.specs.declared.system.SystemFunction.TheVariants.{SharedInitialize};
 
 use crate::class_functions::wrong_type;
 use crate::creation::{enter, refuse};
 use crate::initargs::invalid_initarg;
+use crate::reached::methods_reached;
 use crate::slot_names::are_slot_names;
 use crate::slots::instance_in;
 use clos_control::control::invoke_under;
 use clos_forms::Forms;
+use clos_generic_core::SystemFunction;
 use clos_machine::arguments::Arguments;
 use clos_machine::finalized::Finalized;
 use clos_machine::machine::{Action, Doing, Filling, Frame, Machine};
+use clos_machine::parameters::are_even;
 use clos_machine::truth::{nil, t};
 use clos_world::{
-    Condition, ConditionKind, Stop, SystemFunction, Values, World, about_both, called_value, plain,
+    Condition, ConditionKind, Stop, Values, World, about, about_both, called_value, plain,
 };
 use lisp_data::{ClassId, InstanceId, Value};
 use std::alloc::{AllocError, Global};
@@ -74,6 +77,11 @@ fn run_with(
             Err(signal_slot(alloc, ConditionKind::MissingSlot, arguments.as_slice()))
         }
         SystemFunction::NoApplicableMethod => Err(signal_unmatched(alloc, world, first, rest)),
+        SystemFunction::NoNextMethod => Err(signal_no_next(alloc, rest)),
+        SystemFunction::UpdateInstanceForRedefinedClass
+        | SystemFunction::UpdateInstanceForDifferentClass => {
+            Err(Stop::Refused(plain(alloc, ConditionKind::Unsupported)))
+        }
     }
 }
 
@@ -181,10 +189,15 @@ fn reinitialize_instance(
 {
     match class_in(world, id)? {
         None => Err(Stop::Refused(plain(alloc, ConditionKind::ProgramError))),
-        Some((class, effective)) => match invalid_initarg(effective.slots(), initargs) {
-            Some(name) => Err(refuse(alloc, world, class, name)),
-            None => initialize_shared(alloc, machine, world, id, nil(), initargs),
-        },
+        Some((class, effective)) => {
+            let function = SystemFunction::ReinitializeInstance;
+            let reached = methods_reached(alloc, world, function, id, nil())?;
+            let methods = world.generics.methods();
+            match invalid_initarg(methods, &reached, effective.slots(), initargs) {
+                Some(name) => Err(refuse(alloc, world, class, name)),
+                None => initialize_shared(alloc, machine, world, id, nil(), initargs),
+            }
+        }
     }
 }
 
@@ -203,15 +216,20 @@ fn initialize_slots(
 {
     match split(rest) {
         None => Err(Stop::Refused(plain(alloc, ConditionKind::ProgramError))),
-        Some((names, _)) => match instance_in(alloc, object) {
-            Err(stop) => Err(stop),
-            Ok(id) => {
-                if !are_slot_names(names) {
-                    return Err(Stop::Refused(wrong_type(alloc, names)?));
-                }
-                fill_instance(alloc, machine, world, id, arguments)
+        Some((names, initargs)) => {
+            if !are_even(initargs) {
+                return Err(Stop::Refused(plain(alloc, ConditionKind::ProgramError)));
             }
-        },
+            match instance_in(alloc, object) {
+                Err(stop) => Err(stop),
+                Ok(id) => {
+                    if !are_slot_names(names) {
+                        return Err(Stop::Refused(wrong_type(alloc, names)?));
+                    }
+                    fill_instance(alloc, machine, world, id, arguments)
+                }
+            }
+        }
     }
 }
 
@@ -265,6 +283,25 @@ fn about_slot(
     }
 }
 
+/// The condition that a method, the first of these, has no next method.
+fn signal_no_next(alloc: Global, arguments: &[Value]) -> Stop
+    ensures { TellsCondition (next_condition (map value_of arguments.now)) result }
+{
+    match about_no_next(alloc, arguments) {
+        Ok(condition) => Stop::Refused(condition),
+        Err(_) => Stop::Storage,
+    }
+}
+
+fn about_no_next(alloc: Global, arguments: &[Value]) -> Result<Condition, AllocError>
+    ensures { IfOk result (λ c. c ≡ next_condition (map value_of arguments.now)) }
+{
+    match arguments.split_first() {
+        Some((method, _)) => about(alloc, ConditionKind::NoNextMethod, method.copy()?),
+        None => Ok(plain(alloc, ConditionKind::ProgramError)),
+    }
+}
+
 /// The condition that a generic function has no applicable method.
 fn signal_unmatched(alloc: Global, world: &World, function: &Value, arguments: &[Value]) -> Stop
     ensures { TellsCondition (record { kind = NoApplicableMethod; items = told (seen world.now) (value_of function.now) ∷ map value_of arguments.now }) result }
@@ -297,8 +334,8 @@ fn told(alloc: Global, world: &World, value: &Value) -> Result<Value, AllocError
     ensures { IfOk result (λ r. value_of r ≡ told (seen world.now) (value_of value.now)) }
 {
     match value {
-        Value::Generic(id) => match world.generics.get(*id) {
-            Some(generic) => called_value(alloc, &generic.name),
+        Value::Generic(id) => match world.generics.function(*id) {
+            Some(function) => called_value(alloc, function.name()),
             None => value.copy(),
         },
         _ => value.copy(),

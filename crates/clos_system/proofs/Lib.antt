@@ -1,11 +1,8 @@
-pub mod Definitions
-pub mod Effects
-pub mod Steps
-pub mod StepQuiet
-pub mod Runs
 pub mod Evaluations
+pub mod Evaluated
+pub mod Quiet
+pub mod Defining
+pub mod StepQuiet
+pub mod Definitions
 pub mod Serving
-pub mod Refusing
-pub mod FirstValues
-pub mod Making
-pub mod Undefined
+pub mod Runs

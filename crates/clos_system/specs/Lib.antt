@@ -1,11 +1,9 @@
-pub mod Served
-pub mod Effect
-pub mod Method
-pub mod Initforms
-pub mod Class
-pub mod Function
 pub mod Variable
+pub mod Forms
+pub mod Function
+pub mod Definition
+pub mod Served
 pub mod Step
 pub mod Session
-pub mod Definitions
 pub mod Transcript
+pub mod Definitions

@@ -14,6 +14,10 @@ use Rattle.clos_system.specs.declared.session.Reply.TheVariants.{Value, Conditio
 abbrev pub state_of : Session → State
 state_of s = seen s.world
 
+-- how many effective methods were worked out in it
+abbrev pub built_of : Session → ℕ
+built_of s = s.world.meter
+
 -- It is the value or the condition of the run within so many steps, and the state is the one after.
 -- Where memory was refused, the state is the one after as many steps as are told.
 abbrev pub Replies : Run → ℕ → State → Reply → State → Type 0

@@ -1,13 +1,13 @@
 //! What a `defun` does (HyperSpec 5.3). It takes one step for the whole of its effect.
 ghost use Rattle.std.specs.Prelude.{◌≡◌, ◌+◌, IfOk, length, is_some};
 ghost use Rattle.lisp_data.specs.ValueView.{value_of};
-ghost use Rattle.clos_forms.specs.OperatorView.{called_of};
 ghost use Rattle.clos_forms.specs.Quotation.{name_value};
 ghost use Rattle.clos_world.specs.World.{seen};
 ghost use Rattle.clos_machine.specs.Machine.{Answers};
 ghost use Rattle.clos_system.specs.Function.{define_function, new_function_defined, new_setter_defined, has_room};
 
 use clos_forms::{FunctionName, value_named};
+use clos_syntax::FunctionDefinition;
 use clos_world::{ConditionKind, Function, Stop, World, plain, setter_value};
 use lisp_data::{Name, Value};
 use std::alloc::Global;
@@ -16,12 +16,17 @@ use std::alloc::Global;
 pub fn defun(
     alloc: Global,
     world: &mut World,
-    name: FunctionName,
-    function: Function,
+    definition: FunctionDefinition,
     steps: &mut u64,
 ) -> Result<Value, Stop>
-    ensures { Answers (define_function (called_of name) function) (seen world.old) steps.old result (seen world.new) steps.new }
+    ensures { Answers (define_function definition.name (record { lambda_list = definition.lambda_list; body = definition.body })) (seen world.old) steps.old result (seen world.new) steps.new }
 {
+    let FunctionDefinition {
+        name,
+        lambda_list,
+        body,
+    } = definition;
+    let function = Function { lambda_list, body };
     match name {
         FunctionName::Symbol(name) => define_named(alloc, world, name, function, steps),
         FunctionName::Setf(name) => define_setter(alloc, world, name, function, steps),
@@ -47,7 +52,7 @@ fn define_named(
 ) -> Result<Value, Stop>
     ensures { Answers (new_function_defined name function) (seen world.old) steps.old result (seen world.new) steps.new }
 {
-    if world.generics.named(&name).is_some() {
+    if world.generics.named_by_symbol(&name).is_some() {
         return Err(Stop::Refused(plain(alloc, ConditionKind::ProgramError)));
     }
     if world.functions.get(&name).is_none() && !has_room(world) {
@@ -76,7 +81,7 @@ fn define_setter(
 ) -> Result<Value, Stop>
     ensures { Answers (new_setter_defined name function) (seen world.old) steps.old result (seen world.new) steps.new }
 {
-    if world.generics.setter(&name).is_some() {
+    if world.generics.named_by_setf(&name).is_some() {
         return Err(Stop::Refused(plain(alloc, ConditionKind::ProgramError)));
     }
     if world.setters.get(&name).is_none() && !has_room(world) {

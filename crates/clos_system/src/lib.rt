@@ -1,12 +1,9 @@
 //! Sessions of the language: top-level forms, and runs of whole texts.
 #![tactic(auto)]
 
-mod cells;
-mod class;
-mod effect;
+mod definition;
+mod forms;
 mod function;
-mod initforms;
-mod method;
 mod served;
 mod session;
 mod transcript;

@@ -8,12 +8,11 @@ ghost use Rattle.clos_machine.specs.Machine.{Answers};
 ghost use Rattle.clos_system.specs.Step.{checked, performed, step};
 ghost use Rattle.clos_world.specs.Initial.{initial};
 ghost use Rattle.clos_system.specs.Definitions.{DefinesNothing};
-ghost use Rattle.clos_system.specs.Session.{state_of, Replies};
+ghost use Rattle.clos_system.specs.Session.{built_of, state_of, Replies};
 
-use crate::class::defclass;
+use crate::definition::{defclass, defgeneric, defmethod, remove_method};
 use crate::function::defun;
-use crate::method::defmethod;
-use crate::served::{Served, is_combination, serve};
+use crate::served::{is_combination, is_served_top};
 use crate::variable::define_variable;
 use clos_eval::evaluate;
 use clos_forms::SyntaxFault;
@@ -48,7 +47,8 @@ impl Drop for Session {
 impl Session {
     /// A session that begins, under these limits.
     pub fn new(alloc: Global, limits: Limits) -> Result<Session, AllocError>
-        ensures { IfOk result (λ s. state_of s ≡ initial limits) }
+        ensures state { IfOk result (λ s. state_of s ≡ initial limits) }
+        ensures built { IfOk result (λ s. built_of s ≡ 0) }
     {
         let world = World::new(alloc, limits)?;
         Ok(Session { world, alloc })
@@ -59,6 +59,13 @@ impl Session {
         ensures { result.now ≡ (state_of self.now).written }
     {
         self.world.written.as_slice()
+    }
+
+    /// How many effective methods were worked out so far: each call of a generic function works one out (HyperSpec 7.6.6).
+    pub fn built(&self) -> u64
+        ensures { result ≡ built_of self.now }
+    {
+        self.world.meter.count()
     }
 
     /// Performs a top-level form (HyperSpec 3.1.2.1), and answers as its rules have it. A refused form defines nothing.
@@ -114,30 +121,35 @@ pub(crate) fn perform(
 fn perform_top(alloc: Global, world: &mut World, top: Top, steps: &mut u64) -> Result<Value, Stop>
     ensures { Answers (checked (Some top)) (seen world.old) steps.old result (seen world.new) steps.new }
 {
-    match serve(alloc, top) {
-        Ok(Some(served)) => perform_served(alloc, world, served, steps),
-        Ok(None) => Err(Stop::Refused(plain(alloc, ConditionKind::Unsupported))),
-        Err(_) => Err(Stop::Storage),
+    if !is_served_top(&top) {
+        return Err(Stop::Refused(plain(alloc, ConditionKind::Unsupported)));
     }
+    perform_served(alloc, world, top, steps)
 }
 
 fn perform_served(
     alloc: Global,
     world: &mut World,
-    served: Served,
+    top: Top,
     steps: &mut u64,
 ) -> Result<Value, Stop>
-    ensures { Answers (performed served) (seen world.old) steps.old result (seen world.new) steps.new }
+    ensures { Answers (performed top) (seen world.old) steps.old result (seen world.new) steps.new }
 {
-    match served {
-        Served::DefineClass(definition) => defclass(alloc, world, &definition, steps),
-        Served::DefineMethod(name, parameters, classes, body) => {
-            defmethod(alloc, world, name, parameters, &classes, body, steps)
+    match top {
+        Top::DefClass(definition) => defclass(alloc, world, &definition, steps),
+        Top::DefGeneric(definition) => defgeneric(alloc, world, definition, steps),
+        Top::DefMethod(name, definition) => defmethod(alloc, world, name, definition, steps),
+        Top::Defun(function) => defun(alloc, world, function, steps),
+        Top::DefVar(variable) => define_variable(alloc, world, variable, steps),
+        Top::RemoveMethod(function, method) => {
+            remove_method(alloc, world, function, method, steps)
         }
-        Served::DefineFunction(name, function) => defun(alloc, world, name, function, steps),
-        Served::DefineVariable(variable) => define_variable(alloc, world, variable, steps),
-        Served::Nothing => Ok(Value::List(Items::new())),
-        Served::Expression(form) => {
+        Top::AddDependent(_, _) => { Err(Stop::Refused(plain(alloc, ConditionKind::Unsupported))) }
+        Top::RemoveDependent(_, _) => {
+            Err(Stop::Refused(plain(alloc, ConditionKind::Unsupported)))
+        }
+        Top::InPackage => Ok(Value::List(Items::new())),
+        Top::Expr(form) => {
             let room = world.limits.depth.min(4_000);
             evaluate(alloc, world, form, room, steps)
         }

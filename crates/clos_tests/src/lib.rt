@@ -10,7 +10,11 @@ mod data;
 #[cfg(test)]
 mod forms;
 #[cfg(test)]
+mod generic_functions;
+#[cfg(test)]
 mod instances;
+#[cfg(test)]
+mod method_combination;
 #[cfg(test)]
 mod session;
 #[cfg(test)]

@@ -52,28 +52,22 @@ const NOT_SERVED: &str = "(defvar x (princ (change-class 1 'a)))
 (f (princ 1) (change-class 1 'a))
 (progn (princ 1) (cond (nil (incf (slot-value (change-class 1 'a) 'b)))))
 (progn (princ 1) (setf (slot-value (make-instance 'a) 'b) (change-class 1 'a)))
-(progn (princ 1) #'initialize-instance)
 (defun f () (princ 1)) (defun f (&optional (x (change-class 1 'a))) 2) (f) => ; 28 (UNSUPPORTED)~1
 (defun f (&key (x (princ 1)) (y (change-class 1 'a))) x)
-(defmethod f (x) (call-next-method))
-(slot-unbound 1 2 (princ 1))
-(defgeneric f (x))
 (defclass a () (r (s :initform (change-class 1 'a) :allocation :class)))
-(defclass a () ((s :reader initialize-instance)))
-(defclass a () (r (s :reader s :writer slot-unbound)))
-(defmethod slot-missing (a b c d) 1)
 (defclass a () (r (s :initform (change-class 1 'a))))
 (defclass a () ((s :initarg :s)) (:default-initargs :r 1 :s (change-class 1 'a)))
-(defclass a () ((s :reader slot-missing))) (princ (find-class 'a nil)) => ; 28 (UNSUPPORTED)~NIL
 (define-method-combination c)
-(defmethod f :before (x) x)
-(defmethod f :around ((x integer)) x)
-(defmethod f ((x (eql 1))) x)
-(defmethod f (x &rest y) x)
-(defmethod f (x &optional y) x)
-(defmethod f (x &key) x)
+(defgeneric f (x) (:method-combination progn))
+(defgeneric f (x) (:method-combination nowhere))
+(defgeneric f (x) (:method (x) (princ 1) (change-class x 'a)))
+(defgeneric f (x) (:method ((x (eql (princ 1)))) x) (:method (x &key (y (change-class x 'a))) x))
+(defmethod f ((x (eql (princ 1))) (y (eql (change-class 1 'a)))) x)
+(defmethod f (x &optional (y (change-class x 'a))) x)
+(remove-method (princ 1) (change-class 1 'a))
+(update-instance-for-redefined-class (princ 1) 2 3 4)
+(update-instance-for-different-class (princ 1) 2)
 (defmethod f (x) (class-of (change-class x 'a)))
-(defmethod initialize-instance (x) x)
 (defclass a () ()) (defclass a () ()) (princ (make-instance 'a)) => ; 28 (UNSUPPORTED)~#<A 1>
 (defclass a () ()) (defclass a () (s)) (princ (slot-exists-p (make-instance 'a) 's)) => ; 28 (UNSUPPORTED)~NIL";
 
@@ -774,6 +768,22 @@ fn submitted_within_steps(rt: HostRuntime) -> Result<(), Fail> {
     for (steps, number, written) in [(0, 29, 0), (2, 29, 0), (3, 0, 1), (u64::MAX, 0, 2)] {
         assert_eq!(rt; condition_within(&mut session, &form, steps), number);
         assert_eq!(rt; session.written().len(), written);
+    }
+    Ok(())
+}
+
+#[test]
+fn effective_methods_that_were_worked_out(rt: HostRuntime) -> Result<(), Fail> {
+    let mut session = Session::new(rt.alloc(), Limits::default())?;
+    assert_eq!(rt; session.built(), 0);
+    for (text, built) in [
+        ("(defmethod g ((x integer)) x)", 0),
+        ("(list (g 1) (g 2))", 2),
+        ("(g)", 2),
+        ("(g 'a)", 3),
+    ] {
+        let _ = session.submit(&datum(rt.alloc(), text)?);
+        assert_eq!(rt; session.built(), built);
     }
     Ok(())
 }

@@ -2,7 +2,7 @@
 use Rattle.std.specs.Prelude.{ℕ, List, false, codes}
 use Rattle.lisp_data.specs.Name.{Nam}
 use Rattle.clos_world.specs.declared.condition.ConditionKind.{ConditionKind}
-use Rattle.clos_world.specs.declared.condition.ConditionKind.TheVariants.{ProgramError, UnboundVariable, UndefinedFunction, TypeError, IntegerRange, DivisionByZero, UndefinedClass, InvalidSuperclass, InconsistentPrecedence, SuperclassCycle, IncompleteClass, LambdaListCongruence, NoApplicableMethod, UnboundSlot, MissingSlot, InvalidInitarg, Unsupported, StepLimit, DepthLimit, TableLimit}
+use Rattle.clos_world.specs.declared.condition.ConditionKind.TheVariants.{ProgramError, UnboundVariable, UndefinedFunction, TypeError, IntegerRange, DivisionByZero, UndefinedClass, InvalidSuperclass, InconsistentPrecedence, SuperclassCycle, IncompleteClass, LambdaListCongruence, NoApplicableMethod, RequiredGroupEmpty, InvalidMethod, NoNextMethod, NextArguments, UnboundSlot, MissingSlot, InvalidInitarg, NoSuchMethod, Unsupported, StepLimit, DepthLimit, TableLimit}
 
 abbrev pub number_of : ConditionKind → ℕ
 number_of ProgramError = 1
@@ -18,9 +18,14 @@ number_of SuperclassCycle = 10
 number_of IncompleteClass = 11
 number_of LambdaListCongruence = 12
 number_of NoApplicableMethod = 14
+number_of RequiredGroupEmpty = 15
+number_of InvalidMethod = 16
+number_of NoNextMethod = 20
+number_of NextArguments = 21
 number_of UnboundSlot = 22
 number_of MissingSlot = 23
 number_of InvalidInitarg = 24
+number_of NoSuchMethod = 27
 number_of Unsupported = 28
 number_of StepLimit = 29
 number_of DepthLimit = 30
@@ -40,9 +45,14 @@ condition_name SuperclassCycle = codes "SUPERCLASS-CYCLE"
 condition_name IncompleteClass = codes "INCOMPLETE-CLASS"
 condition_name LambdaListCongruence = codes "LAMBDA-LIST-CONGRUENCE"
 condition_name NoApplicableMethod = codes "NO-APPLICABLE-METHOD"
+condition_name RequiredGroupEmpty = codes "REQUIRED-GROUP-EMPTY"
+condition_name InvalidMethod = codes "INVALID-METHOD"
+condition_name NoNextMethod = codes "NO-NEXT-METHOD"
+condition_name NextArguments = codes "NEXT-ARGUMENTS"
 condition_name UnboundSlot = codes "UNBOUND-SLOT"
 condition_name MissingSlot = codes "MISSING-SLOT"
 condition_name InvalidInitarg = codes "INVALID-INITARG"
+condition_name NoSuchMethod = codes "NO-SUCH-METHOD"
 condition_name Unsupported = codes "UNSUPPORTED"
 condition_name StepLimit = codes "STEP-LIMIT"
 condition_name DepthLimit = codes "DEPTH-LIMIT"

@@ -1,16 +1,12 @@
 pub mod Limits
 pub mod Values
 pub mod Class
-pub mod Generic
-pub mod GenericsView
-pub mod ParametersView
 pub mod Condition
 pub mod Globals
 pub mod GlobalsView
 pub mod Functions
 pub mod World
-pub mod System
+pub mod Dispatch
 pub mod Initial
 pub mod FunctionName
-pub mod Adding
 pub mod Definitions

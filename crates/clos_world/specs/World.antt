@@ -1,11 +1,12 @@
 -- The state of a session (HyperSpec 3.1.1, 4.3, 7.6): lists that only grow at their ends.
-use Rattle.std.specs.Prelude.{ℕ, List, [], ◌∷◌, Option, Some, None, codes, map, reverse, take, option_map, unwrap_or, slice_get, if◌then◌else◌}
+use Rattle.std.specs.Prelude.{ℕ, List, [], ◌∷◌, Option, Some, None, codes, reverse, take, option_map, unwrap_or, slice_get, if◌then◌else◌}
 use Rattle.lisp_data.specs.Name.{Nam, same_name}
 use Rattle.lisp_data.specs.Value.{Val, integer, symbol, string, list, class, generic, method, instance, nil, cons}
-use Rattle.lisp_data.specs.Print.{Names, MethodParts, on_class}
+use Rattle.lisp_data.specs.Print.{Names, MethodParts}
 use Rattle.clos_forms.specs.OperatorView.{called_of}
-use Rattle.clos_world.specs.declared.generic.Generic.{Generic}
-use Rattle.clos_world.specs.declared.generic.Method.{Method}
+use Rattle.clos_generic.specs.Changes.{released}
+use Rattle.clos_generic.specs.Table as generics
+use Rattle.clos_generic_core.specs.declared.method.Method.{Method}
 use Rattle.clos_world.specs.declared.limits.Limits.{Limits}
 use Rattle.clos_world.specs.declared.functions.Function.{Function}
 use Rattle.clos_world.specs.declared.world.World.{World}
@@ -14,7 +15,7 @@ use Rattle.clos_class_core.specs.Initial.{number, class_of_class}
 use Rattle.clos_class.specs.Table.{Table}
 use Rattle.clos_store.specs.Store.{Contents}
 use Rattle.clos_store.specs.Store as store
-use Rattle.clos_world.specs.Class.{precedence_or_none, class_name}
+use Rattle.clos_world.specs.Class.{class_name}
 
 -- what a lexical name denotes: a variable that holds a value (3.1.2.1.1), or the slot of this name of an object (7.7 with-slots)
 pub data Denoted : Type 0 where
@@ -27,8 +28,7 @@ Local = Nam × Denoted
 
 pub record State : Type 0 where
   pub classes : Table
-  pub generics : List Generic
-  pub methods : List Method  -- all ever made
+  pub generics : generics.Table  -- with all methods ever made
   pub functions : List (Nam × Function)  -- by symbols, in order of definition
   pub setters : List (Nam × Function)  -- the functions (setf name), by that name
   pub globals : Variables  -- in order of definition
@@ -37,12 +37,11 @@ pub record State : Type 0 where
   pub limits : Limits
   pub locals : List Local  -- the lexical names of the body that runs, the innermost first; between forms none
 
--- a session's tables as lists
+-- a session's tables as lists; what memory is reserved for is none of the state
 abbrev pub seen : World → State
 seen w = record {
   classes = w.classes;
-  generics = w.generics;
-  methods = w.methods.items;
+  generics = released w.generics;
   functions = w.functions;
   setters = w.setters;
   globals = w.globals;
@@ -85,18 +84,14 @@ class_of w (generic n) = number (codes "STANDARD-GENERIC-FUNCTION")
 class_of w (method n) = number (codes "STANDARD-METHOD")
 class_of w (instance i) = unwrap_or (class_of_instance w i) (number (codes "STANDARD-OBJECT"))
 
--- the class precedence lists of the classes of these values
-abbrev pub lists_of : State → List Val → List (List ℕ)
-lists_of w vs = map (λ v. precedence_or_none w.classes (class_of w v)) vs
-
 abbrev pub parts_of : Method → MethodParts
-parts_of m = record { generic = m.generic.0; qualifiers = []; specializers = map on_class m.specializers }
+parts_of m = record { generic = m.generic.0; qualifiers = m.qualifiers; specializers = m.specializers }
 
 -- what the numbers in values stand for
 abbrev pub names_of : State → Names
 names_of w = record {
   class = λ n. class_name w.classes n;
-  generic = λ n. option_map (λ g. called_of g.name) (slice_get w.generics n);
-  method = λ n. option_map parts_of (slice_get w.methods n);
+  generic = λ n. option_map (λ g. called_of g.name) (slice_get w.generics.functions n);
+  method = λ n. option_map parts_of (slice_get w.generics.methods n);
   class_of = λ i. class_of_instance w i;
 }

@@ -3,18 +3,16 @@ ghost use Rattle.std.specs.Prelude.{◌≡◌, IfOk, option_map};
 ghost use Rattle.lisp_data.specs.ValueView.{value_of};
 ghost use Rattle.lisp_data.specs.PrintView.{called};
 ghost use Rattle.clos_forms.specs.OperatorView.{called_of};
-ghost use Rattle.clos_precedence.specs.PrecedenceView.{numbers};
-ghost use Rattle.clos_world.specs.Class.{precedence_or_none};
 ghost use Rattle.clos_world.specs.Initial.{initial};
 ghost use Rattle.clos_world.specs.World.{seen, class_of, class_of_instance, names_of};
 
 use crate::functions::Functions;
-use crate::generic::{Generics, Method};
 use crate::globals::Globals;
 use crate::limits::Limits;
-use crate::system;
 use clos_class::Classes;
 use clos_class_core::numbers;
+use clos_comb::{Combinations, Meter};
+use clos_generic::Generics;
 use clos_store::Store;
 use lisp_data::{
     ClassId, FunctionName, GenericId, InstanceId, MethodId, Name, Naming, Specializer, Value,
@@ -25,9 +23,11 @@ use std::alloc::{AllocError, Global};
 #[derive(Drop)]
 pub struct World {
     pub classes: Classes,
+    /// With all methods ever made.
     pub generics: Generics,
-    /// All ever made.
-    pub methods: Vec<Method>,
+    pub combinations: Combinations,
+    /// Counts the effective methods that were worked out.
+    pub meter: Meter,
     /// By symbols.
     pub functions: Functions,
     /// The functions `(setf name)`, by that name.
@@ -43,14 +43,17 @@ pub struct World {
 impl World {
     /// The tables of a session that begins, under these limits.
     pub fn new(alloc: Global, limits: Limits) -> Result<World, AllocError>
-        ensures { IfOk result (λ r. seen r ≡ initial limits) }
+        ensures seen { IfOk result (λ r. seen r ≡ initial limits) }
+        ensures meter { IfOk result (λ r. r.meter ≡ 0) }
     {
         let classes = Classes::new(alloc, limits.classes)?;
-        let (generics, methods) = system::begin(alloc)?;
+        let generics = Generics::new(alloc, limits.generics, limits.methods)?;
+        let (combinations, meter) = Combinations::new(alloc, limits.combinations)?;
         Ok(World {
             classes,
             generics,
-            methods,
+            combinations,
+            meter,
             functions: Functions::new(alloc),
             setters: Functions::new(alloc),
             globals: Globals::new(alloc),
@@ -82,13 +85,6 @@ impl World {
         }
     }
 
-    /// The class precedence list of the class of a value.
-    pub fn precedence_of(&self, value: &Value) -> &[ClassId]
-        ensures { numbers result.now ≡ precedence_or_none (seen self.now).classes (class_of (seen self.now) (value_of value.now)) }
-    {
-        self.classes.precedence_or_none(self.class_of_value(value))
-    }
-
     fn instance_class(&self, id: InstanceId) -> Option<ClassId>
         ensures { option_map (λ c. c.0) result ≡ class_of_instance (seen self.now) id.0 }
     {
@@ -116,26 +112,29 @@ impl Naming for World {
     }
 
     fn generic_name(&self, id: GenericId) -> Option<FunctionName<'_>> {
-        match self.generics.get(id) {
-            Some(generic) => Some(told_name(&generic.name)),
+        match self.generics.function(id) {
+            Some(function) => Some(told_name(function.name())),
             None => None,
         }
     }
 
     fn method_generic(&self, id: MethodId) -> Option<GenericId> {
-        match self.methods.get(id.0 as usize) {
+        match self.generics.method(id) {
             Some(method) => Some(method.generic),
             None => None,
         }
     }
 
-    fn qualifier(&self, _id: MethodId, _place: usize) -> Option<&Value> {
-        None
+    fn qualifier(&self, id: MethodId, place: usize) -> Option<&Value> {
+        match self.generics.method(id) {
+            Some(method) => method.qualifiers.get(place),
+            None => None,
+        }
     }
 
     fn specializer(&self, id: MethodId, place: usize) -> Option<Specializer<'_>> {
-        match self.methods.get(id.0 as usize) {
-            Some(method) => method.specializers.specializer(place),
+        match self.generics.method(id) {
+            Some(method) => method.specializers.told(place),
             None => None,
         }
     }

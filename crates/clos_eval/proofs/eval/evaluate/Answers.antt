@@ -1,7 +1,7 @@
 use Rattle.std.proofs.Common.{[], subst, arith, Ok, Err}
 use Rattle.lisp_data.specs.ValueView.{value_of}
 use Rattle.clos_world.specs.World.{seen}
-use Rattle.clos_machine.specs.GenericCalls.{known}
+use Rattle.clos_machine.specs.Contexts.{known}
 use Rattle.clos_machine.specs.Meaning.{evaluation}
 use Rattle.clos_machine.specs.Outcome.{Run}
 use Rattle.clos_machine.specs.Machine.{at, Reached, denote, given_to, below}
@@ -10,6 +10,7 @@ use Rattle.clos_machine.specs.declared.machine.Doing.TheVariants as doing
 use Rattle.clos_machine.specs.declared.machine.Machine.{Machine}
 use Rattle.clos_machine.proofs.Quiet.{evaluation_quiet, start_quiet, collecting_quiet, act_quiet, invoke_quiet, loop_quiet, frame_quiet}
 use Rattle.clos_machine.proofs.Running.{turns_of_leads, reached_on, reached_same, ended, popped}
+use Rattle.clos_eval.proofs.Calling.{turns_of_call}
 use Rattle.clos_eval.proofs.eval.evaluate.Goals as goal
 
 pub returns-in_default-clause-answer : goal.returns-in_default-clause-answer
@@ -115,18 +116,20 @@ loop-doing-preserved-in-Ok-invoke c =
     let run : Run = evaluation c.args.room c.args.form in
     let rest : Run = denote c.loop-doing.machine (Invoke c.in-Invoke.function c.in-Invoke.values) in
     reached_on run (seen c.args.world.now) c.args.steps.now rest (seen c.loop-doing.world) c.loop-doing.steps
-    c.in-Ok-invoke.next c.invoke.new.machine (seen c.loop-doing.world) c.loop-doing.steps
+    c.in-Ok-invoke.next c.invoke.new.machine (seen c.invoke.new.world) c.loop-doing.steps
     (subst (λ d. Reached run (seen c.args.world.now) c.args.steps.now (denote c.loop-doing.machine d) (seen c.loop-doing.world) c.loop-doing.steps)
     c.in-Invoke.is c.loop-doing.invariant)
-    (turns_of_leads rest (seen c.loop-doing.world) c.loop-doing.steps (Ok c.in-Ok-invoke.next) c.invoke.new.machine c.in-Ok-invoke.ensures.leads)
+    (turns_of_call rest (seen c.loop-doing.world) (seen c.invoke.new.world) c.loop-doing.steps (Ok c.in-Ok-invoke.next) c.invoke.new.machine c.in-Ok-invoke.ensures.same
+    c.in-Ok-invoke.ensures.leads)
 
 pub returns-in-Err-invoke-clause-answer : goal.returns-in-Err-invoke-clause-answer
 returns-in-Err-invoke-clause-answer c =
     let run : Run = evaluation c.args.room c.args.form in
     let rest : Run = denote c.loop-doing.machine (Invoke c.in-Invoke.function c.in-Invoke.values) in
     ended run (seen c.args.world.now) c.args.steps.now rest (seen c.loop-doing.world) c.loop-doing.steps
-    c.in-Err-invoke.stop c.invoke.new.machine (seen c.loop-doing.world) c.loop-doing.steps
+    c.in-Err-invoke.stop c.invoke.new.machine (seen c.invoke.new.world) c.loop-doing.steps
     (invoke_quiet c.loop-doing.machine c.in-Invoke.function c.in-Invoke.values (seen c.loop-doing.world))
     (subst (λ d. Reached run (seen c.args.world.now) c.args.steps.now (denote c.loop-doing.machine d) (seen c.loop-doing.world) c.loop-doing.steps)
     c.in-Invoke.is c.loop-doing.invariant)
-    (turns_of_leads rest (seen c.loop-doing.world) c.loop-doing.steps (Err c.in-Err-invoke.stop) c.invoke.new.machine c.in-Err-invoke.ensures.leads)
+    (turns_of_call rest (seen c.loop-doing.world) (seen c.invoke.new.world) c.loop-doing.steps (Err c.in-Err-invoke.stop) c.invoke.new.machine c.in-Err-invoke.ensures.same
+    c.in-Err-invoke.ensures.leads)

@@ -16,12 +16,12 @@ pub returns-in-Err-Refused-clause-turns : goal.returns-in-Err-Refused-clause-tur
 returns-in-Err-Refused-clause-turns c =
     allocate_stops c.args.machine.now c.args.class.0 c.args.effective c.args.initargs c.initialize.new.machine c.in-Some.id c.in-Err-Refused.condition (seen c.args.world.now) (seen c.add_instance.new.world)
     c.args.steps.now c.add_instance.new.steps c.in-Some.ensures c.in-Ok-add_instance.ensures.ok.0 c.in-Ok-add_instance.ensures.ok.1
-    (rw c.in-Err-Refused.field-0-is at (c.in-Err-Refused.ensures.leads (next_of c.args.machine.now c.args.class.0 c.args.effective c.args.initargs c.in-Some.id) (seen c.add_instance.new.world)
+    (rw c.in-Err-Refused.field-0-is at (c.in-Err-Refused.ensures.leads (next_of c.args.machine.now c.args.class.0 c.args.effective c.args.initargs (seen c.args.world.now) c.in-Some.id) (seen c.add_instance.new.world)
     (ap (λ u. u.classes) c.in-Ok-add_instance.ensures.ok.1) (λ t. refl)))
 
 pub returns-clause-turns : goal.returns-clause-turns
 returns-clause-turns c =
     allocate_goes c.args.machine.now c.args.class.0 c.args.effective c.args.initargs c.initialize.new.machine c.in-Some.id c.in-Ok.doing (seen c.args.world.now) (seen c.add_instance-in-Ok.new.world)
     c.args.steps.now c.add_instance-in-Ok.new.steps c.in-Some.ensures c.in-Ok-add_instance-2.ensures.ok.0 c.in-Ok-add_instance-2.ensures.ok.1
-    (c.in-Ok.ensures.leads (next_of c.args.machine.now c.args.class.0 c.args.effective c.args.initargs c.in-Some.id) (seen c.add_instance-in-Ok.new.world)
+    (c.in-Ok.ensures.leads (next_of c.args.machine.now c.args.class.0 c.args.effective c.args.initargs (seen c.args.world.now) c.in-Some.id) (seen c.add_instance-in-Ok.new.world)
     (ap (λ u. u.classes) c.in-Ok-add_instance-2.ensures.ok.1) (λ t. refl))

@@ -4,7 +4,7 @@ use Rattle.clos_machine.specs.Initialization.{first_invalid}
 use Rattle.clos_objects.proofs.initargs.first_invalid.Given as goal
 
 abbrev pub invariant-loop-name : goal.invariant-loop-name
-invariant-loop-name l = first_invalid l.fn.slots (map value_of l.left) ≡ first_invalid l.fn.slots (map value_of l.fn.initargs)
+invariant-loop-name l = first_invalid l.fn.methods l.fn.reached l.fn.slots (map value_of l.left) ≡ first_invalid l.fn.methods l.fn.reached l.fn.slots (map value_of l.fn.initargs)
 
 abbrev pub decreases-loop-name : goal.decreases-loop-name
 decreases-loop-name l = length l.left

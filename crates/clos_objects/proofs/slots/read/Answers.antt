@@ -1,6 +1,6 @@
 use Rattle.std.proofs.Common.{ap, ◌∙◌}
 use Rattle.clos_world.specs.World.{seen}
-use Rattle.clos_world.specs.declared.system.SystemFunction.TheVariants.{SlotMissing}
+use Rattle.clos_generic_core.specs.declared.system.SystemFunction.TheVariants.{SlotMissing}
 use Rattle.clos_machine.specs.GenericCalls.{invoked}
 use Rattle.clos_machine.specs.Machine.{inside}
 use Rattle.clos_machine.specs.Meaning.{meaning}

@@ -1,11 +1,10 @@
-use Rattle.std.proofs.Common.{◌≡◌, map, subst, ap, ◌∙◌}
+use Rattle.std.proofs.Common.{◌≡◌, map, subst, ◌∙◌}
 use Rattle.std.specs.Prelude.{option_map}
 use Rattle.lisp_data.specs.ValueView.{value_of}
 use Rattle.clos_world.specs.World.{seen}
-use Rattle.clos_machine.specs.Initialization.{invalid_initarg}
 use Rattle.clos_machine.specs.Meaning.{meaning}
 use Rattle.clos_machine.specs.SystemMethods.{class_in}
-use Rattle.clos_objects.proofs.Methods.{invalid_again, no_class_again, valid_again}
+use Rattle.clos_objects.proofs.Methods.{invalid_again, no_class_again, valid_again, wrong_given}
 use Rattle.clos_objects.proofs.system_methods.reinitialize_instance.Goals as goal
 
 pub returns-in-None-clause-leads : goal.returns-in-None-clause-leads
@@ -18,11 +17,15 @@ returns-in-Some-invalid_initarg-clause-leads c =
     invalid_again c.args.machine.now c.args.machine.now (seen c.args.world.now) (meaning c.args.machine.now.room) (map value_of c.args.initargs.now) c.args.id.0
     (c.in-Some.class.0, c.in-Some.effective) (value_of c.in-Some-invalid_initarg.name.now) c.refuse.result
     (subst (λ o. option_map (λ p. (p.0.0, p.1)) o ≡ class_in (seen c.args.world.now) c.args.id.0) c.in-Some.is c.in_ok-class_in.ensures)
-    (c.in-Some-invalid_initarg.ensures ∙ ap (λ l. invalid_initarg l (map value_of c.args.initargs.now)) c.slots.ensures) c.refuse.ensures
+    (c.in-Some-invalid_initarg.ensures
+    ∙ wrong_given c.args.machine.now c.args.machine.now (seen c.args.world.now) (meaning c.args.machine.now.room) (map value_of c.args.initargs.now) c.args.id.0 c.in-Some.effective _ _ _ _
+    c.methods-methods.ensures c.in_ok-reached-in-Some.ensures c.nil.ensures c.slots.ensures) c.refuse.ensures
 
 pub returns-clause-leads : goal.returns-clause-leads
 returns-clause-leads c =
     valid_again c.args.machine.now c.initialize_shared.new.machine (seen c.args.world.now) (meaning c.args.machine.now.room) (map value_of c.args.initargs.now) c.args.id.0
-    (c.in-Some.class.0, c.in-Some.effective) (value_of c.nil.result) c.initialize_shared.result
+    (c.in-Some.class.0, c.in-Some.effective) (value_of c.nil-in-None-invalid_initarg.result) c.initialize_shared.result
     (subst (λ o. option_map (λ p. (p.0.0, p.1)) o ≡ class_in (seen c.args.world.now) c.args.id.0) c.in-Some.is c.in_ok-class_in.ensures)
-    (c.in-None-invalid_initarg.ensures ∙ ap (λ l. invalid_initarg l (map value_of c.args.initargs.now)) c.slots.ensures) c.nil.ensures c.initialize_shared.ensures.leads
+    (c.in-None-invalid_initarg.ensures
+    ∙ wrong_given c.args.machine.now c.args.machine.now (seen c.args.world.now) (meaning c.args.machine.now.room) (map value_of c.args.initargs.now) c.args.id.0 c.in-Some.effective _ _ _ _
+    c.methods-methods.ensures c.in_ok-reached-in-Some.ensures c.nil.ensures c.slots.ensures) c.nil-in-None-invalid_initarg.ensures c.initialize_shared.ensures.leads

@@ -1,0 +1,17 @@
+; 50,000 calls for which six methods run: two around methods, a before, two primary and an after method.
+(defclass shape () ())
+(defclass circle (shape) ())
+(defgeneric draw (shape))
+(defmethod draw :around ((shape circle)) (+ 1 (call-next-method)))
+(defmethod draw :around ((shape shape)) (+ 2 (call-next-method)))
+(defmethod draw :before ((shape shape)) nil)
+(defmethod draw ((shape circle)) (+ 3 (call-next-method)))
+(defmethod draw ((shape shape)) 4)
+(defmethod draw :after ((shape circle)) nil)
+
+(let ((circle (make-instance 'circle))
+      (sum 0))
+  (dotimes (i 50000)
+    (setq sum (+ sum (draw circle))))
+  (princ sum)
+  (terpri))

@@ -1,0 +1,16 @@
+; 100,000 calls of a generic function with four methods, by the classes of three arguments.
+(defclass item () ())
+(defclass thing (item) ())
+(defgeneric meet (a b c))
+(defmethod meet ((a item) (b item) (c item)) 0)
+(defmethod meet ((a thing) (b item) (c item)) 1)
+(defmethod meet ((a thing) (b thing) (c item)) 2)
+(defmethod meet ((a thing) (b thing) (c thing)) 3)
+
+(let ((item (make-instance 'item))
+      (thing (make-instance 'thing))
+      (sum 0))
+  (dotimes (i 50000)
+    (setq sum (+ sum (meet thing thing item) (meet thing item thing))))
+  (princ sum)
+  (terpri))

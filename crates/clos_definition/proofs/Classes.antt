@@ -1,0 +1,113 @@
+-- A class that is made, with its cells.
+use Rattle.std.proofs.Common.{◌≡◌, ℕ, ◌-◌, List, Option, Some, None, length, arith, refl, ap, sym, ◌∙◌, subst}
+use Rattle.std.specs.Prelude.{max, not, option_map}
+use Rattle.lisp_data.specs.Value.{Val}
+use Rattle.lisp_data.specs.declared.ids.CellId.{CellId}
+use Rattle.clos_class.specs.Table.{Table, refusal, with_definition}
+use Rattle.clos_forms.specs.declared.operator.FunctionName.TheVariants.{Symbol}
+use Rattle.clos_generic.specs.Changes.{Changes}
+use Rattle.clos_world.specs.declared.condition.Condition.{Condition}
+use Rattle.clos_world.specs.declared.condition.Stop.{Stop}
+use Rattle.clos_world.specs.declared.condition.Stop.TheVariants.{Refused, Storage}
+use Rattle.clos_definition.specs.Accessor.{accessors_of, accessors_refusal}
+use Rattle.clos_definition.specs.Refusal.{StopsFor, or_else, table_full, table_refusal, when}
+use Rattle.clos_store.specs.Store.{Contents, cells_from, has_room_for, with_cells}
+use Rattle.clos_syntax.specs.declared.class.ClassDefinition.{ClassDefinition}
+use Rattle.clos_world.specs.World.{State}
+use Rattle.clos_definition.specs.Class.{class_changes, class_functions, class_number, class_refusal, condition_for, others_refusal, with_class}
+
+reserved_first : (d : ClassDefinition) (vs : List (Option Val)) (w : State)
+    → with_class d vs (record w { store = record w.store { reserved = max w.store.reserved (length vs) } }) ≡ with_class d vs w
+reserved_first d vs w =
+    let e : max w.store.reserved (length vs) - length vs ≡ w.store.reserved - length vs = omega arith in
+    ap (λ m. record (with_class d vs w) { store = record (with_class d vs w).store { reserved = m } }) e
+
+pub made : (d : ClassDefinition) (vs : List (Option Val)) (w : State) (ids : List CellId) (t : Table) (st : Contents) → t ≡ with_definition w.classes d ids
+    → ids ≡ cells_from (length w.store.cells) (length vs) → st ≡ with_cells vs w.store → record w { classes = t; store = st } ≡ with_class d vs w
+made d vs w ids t st e h g =
+    ap (λ x. record w { classes = x; store = st }) (e ∙ ap (λ x. with_definition w.classes d x) h)
+    ∙ ap (λ x. record w { classes = with_definition w.classes d (cells_from (length w.store.cells) (length vs)); store = x }) g
+
+pub in_room : (d : ClassDefinition) (vs : List (Option Val)) (w : State) (st : Contents) (n : ℕ) → st ≡ record w.store { reserved = max w.store.reserved n } → n ≡ length vs
+    → with_class d vs (record w { store = st }) ≡ with_class d vs w
+in_room d vs w st n h e =
+    ap (λ x. with_class d vs (record w { store = x })) (h ∙ ap (λ m. record w.store { reserved = max w.store.reserved m }) e)
+    ∙ reserved_first d vs w
+
+-- ---- the first check that fails decides
+
+pub first_stops : (o p : Option Condition) (stop : Stop) → StopsFor o stop → StopsFor (or_else o p) stop
+first_stops (Some e) p (Refused c) h = h
+first_stops None p (Refused c) h = absurd (cc h)
+first_stops o p Storage h = tt
+
+second_stops : (o p : Option Condition) (stop : Stop) → o ≡ None → StopsFor p stop → StopsFor (or_else o p) stop
+second_stops o p stop e h = subst (λ x. StopsFor (or_else x p) stop) (sym e) h
+
+neither : (o p : Option Condition) → o ≡ None → p ≡ None → or_else o p ≡ None
+neither o p e h = ap (λ x. or_else x p) e ∙ h
+
+module _ (d : ClassDefinition) (n : ℕ) (w : State) where
+  pub class_stops : (stop : Stop) → StopsFor (option_map (condition_for d.name) (refusal w.classes.table d)) stop → StopsFor (class_refusal d n w) stop
+  class_stops stop h = first_stops (option_map (condition_for d.name) (refusal w.classes.table d)) (others_refusal d n w) stop h
+
+  module _ (a : option_map (condition_for d.name) (refusal w.classes.table d) ≡ None) where
+    pub others_stop : (u : State) (m : ℕ) (stop : Stop) → u ≡ w → m ≡ n → StopsFor (others_refusal d m u) stop → StopsFor (class_refusal d n w) stop
+    others_stop u m stop e q h =
+        second_stops (option_map (condition_for d.name) (refusal w.classes.table d)) (others_refusal d n w) stop a
+        (subst (λ i. StopsFor (others_refusal d i w) stop) q (subst (λ x. StopsFor (others_refusal d m x) stop) e h))
+
+    pub none_stops : (u : State) (m : ℕ) → u ≡ w → m ≡ n → others_refusal d m u ≡ None → class_refusal d n w ≡ None
+    none_stops u m e q h =
+        neither (option_map (condition_for d.name) (refusal w.classes.table d)) (others_refusal d n w) a
+        (subst (λ i. others_refusal d i w ≡ None) q (subst (λ x. others_refusal d m x ≡ None) e h))
+
+-- the accessors of the class of this number, with these changes
+module _ (d : ClassDefinition) (n k : ℕ) (w : State) (e : k ≡ class_number d w) where
+  pub accessors_stop : (stop : Stop) → StopsFor (accessors_refusal k (class_functions d w) (accessors_of d.slots) w) stop → StopsFor (others_refusal d n w) stop
+  accessors_stop stop h =
+      first_stops (accessors_refusal (class_number d w) (class_functions d w) (accessors_of d.slots) w)
+      (or_else (table_refusal (Symbol d.name) (class_changes d w) w) (when (not (has_room_for n w.store)) table_full)) stop
+      (subst (λ i. StopsFor (accessors_refusal i (class_functions d w) (accessors_of d.slots) w) stop) e h)
+
+  module _ (cs : Changes) (b : accessors_refusal k (class_functions d w) (accessors_of d.slots) w ≡ None) (h : cs ≡ class_changes d w) where
+    passed : others_refusal d n w ≡ or_else (table_refusal (Symbol d.name) cs w) (when (not (has_room_for n w.store)) table_full)
+    passed =
+        ap (λ o. or_else o (or_else (table_refusal (Symbol d.name) (class_changes d w) w) (when (not (has_room_for n w.store)) table_full)))
+        (ap (λ i. accessors_refusal i (class_functions d w) (accessors_of d.slots) w) (sym e) ∙ b)
+        ∙ ap (λ x. or_else (table_refusal (Symbol d.name) x w) (when (not (has_room_for n w.store)) table_full)) (sym h)
+
+    pub table_stops : (stop : Stop) → StopsFor (table_refusal (Symbol d.name) cs w) stop → StopsFor (others_refusal d n w) stop
+    table_stops stop g =
+        subst (λ o. StopsFor o stop) (sym passed) (first_stops (table_refusal (Symbol d.name) cs w) (when (not (has_room_for n w.store)) table_full) stop g)
+
+    pub room_stops : (stop : Stop) → table_refusal (Symbol d.name) cs w ≡ None → StopsFor (when (not (has_room_for n w.store)) table_full) stop → StopsFor (others_refusal d n w) stop
+    room_stops stop t g =
+        subst (λ o. StopsFor o stop) (sym passed) (second_stops (table_refusal (Symbol d.name) cs w) (when (not (has_room_for n w.store)) table_full) stop t g)
+
+    pub nothing_stops : table_refusal (Symbol d.name) cs w ≡ None → when (not (has_room_for n w.store)) table_full ≡ None → others_refusal d n w ≡ None
+    nothing_stops t r = passed ∙ neither (table_refusal (Symbol d.name) cs w) (when (not (has_room_for n w.store)) table_full) t r
+
+-- ---- what has passed once
+
+of_first : (o p : Option Condition) → or_else o p ≡ None → o ≡ None
+of_first None p h = refl
+of_first (Some e) p h = absurd (cc h)
+
+of_second : (o p : Option Condition) → or_else o p ≡ None → p ≡ None
+of_second None p h = h
+of_second (Some e) p h = absurd (cc h)
+
+never_stops : (o p : Option Condition) (stop : Stop) → o ≡ None → StopsFor o stop → StopsFor p stop
+never_stops o p (Refused c) e h = absurd (cc (e, h))
+never_stops o p Storage e h = tt
+
+-- the table of generic functions refuses nothing any more
+pub reserve_stops : (d : ClassDefinition) (n : ℕ) (w : State) (cs : Changes) (p : Option Condition) (stop : Stop) → others_refusal d n w ≡ None → cs ≡ class_changes d w
+    → StopsFor (table_refusal (Symbol d.name) cs w) stop → StopsFor p stop
+reserve_stops d n w cs p stop a e h =
+    never_stops (table_refusal (Symbol d.name) (class_changes d w) w) p stop
+    (of_first (table_refusal (Symbol d.name) (class_changes d w) w) (when (not (has_room_for n w.store)) table_full)
+    (of_second (accessors_refusal (class_number d w) (class_functions d w) (accessors_of d.slots) w)
+    (or_else (table_refusal (Symbol d.name) (class_changes d w) w) (when (not (has_room_for n w.store)) table_full)) a))
+    (subst (λ x. StopsFor (table_refusal (Symbol d.name) x w) stop) e h)

@@ -1,0 +1,12 @@
+use Rattle.std.proofs.Common.{◌≡◌, length, map}
+use Rattle.clos_definition.specs.Effect.{with_methods}
+use Rattle.clos_definition.proofs.effect.add_all.Given as goal
+
+abbrev pub invariant-loop-method : goal.invariant-loop-method
+invariant-loop-method l = record {
+  seen : with_methods l.methods.items l.generics ≡ with_methods l.initial.methods.items l.initial.generics;
+  ready : l.generics.additions ≡ map (λ m. m.generic.0) l.methods.items;
+}
+
+abbrev pub decreases-loop-method : goal.decreases-loop-method
+decreases-loop-method l = length l.methods.items

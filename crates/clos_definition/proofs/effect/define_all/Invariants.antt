@@ -1,0 +1,13 @@
+use Rattle.std.proofs.Common.{◌≡◌, length, map}
+use Rattle.clos_definition.specs.Effect.{with_definitions}
+use Rattle.clos_definition.proofs.effect.define_all.Given as goal
+
+abbrev pub invariant-loop-definition : goal.invariant-loop-definition
+invariant-loop-definition l = record {
+  seen : with_definitions l.changes.definitions l.generics ≡ with_definitions l.initial.changes.definitions l.initial.generics;
+  ready : l.generics.definitions ≡ map (λ d. d.name) l.changes.definitions;
+  additions : l.generics.additions ≡ l.initial.generics.additions;
+}
+
+abbrev pub decreases-loop-definition : goal.decreases-loop-definition
+decreases-loop-definition l = length l.changes.definitions

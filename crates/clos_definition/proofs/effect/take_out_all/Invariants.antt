@@ -1,0 +1,9 @@
+use Rattle.std.proofs.Common.{◌≡◌, length}
+use Rattle.clos_definition.specs.Effect.{without_all}
+use Rattle.clos_definition.proofs.effect.take_out_all.Given as goal
+
+abbrev pub invariant-loop-removal : goal.invariant-loop-removal
+invariant-loop-removal l = without_all l.left l.generics ≡ without_all l.initial.left l.initial.generics
+
+abbrev pub decreases-loop-removal : goal.decreases-loop-removal
+decreases-loop-removal l = length l.left

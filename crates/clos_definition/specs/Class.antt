@@ -1,0 +1,82 @@
+-- Classes that are defined (HyperSpec 7.7 defclass).
+use Rattle.std.specs.Prelude.{◌≡◌, ℕ, not, List, [], ◌∷◌, Option, Some, None, length, map, option_map}
+use Rattle.lisp_data.specs.Name.{Nam}
+use Rattle.lisp_data.specs.Value.{Val}
+use Rattle.clos_class.specs.Table.{cells_to_make, list_with, number, refusal, with_definition}
+use Rattle.clos_class.specs.declared.reserve.NewCell.{NewCell}
+use Rattle.clos_class_core.specs.Table.{Refusal, program_error, table_limit, invalid_superclass, superclass_cycle, incomplete_class, inconsistent_precedence}
+use Rattle.clos_forms.specs.Form.{Frm}
+use Rattle.clos_forms.specs.Quotation.{name_value}
+use Rattle.clos_forms.specs.declared.operator.FunctionName.TheVariants.{Symbol}
+use Rattle.clos_store.specs.Store.{cells_from, has_room_for, with_cells}
+use Rattle.clos_syntax.specs.declared.class.ClassDefinition.{ClassDefinition}
+use Rattle.clos_generic.specs.Changes.{Changes}
+use Rattle.clos_generic.specs.declared.changes.Definition.{Definition}
+use Rattle.clos_generic_core.specs.declared.method.Method.{Method}
+use Rattle.clos_world.specs.World.{State}
+use Rattle.clos_world.specs.declared.condition.Condition.{Condition}
+use Rattle.clos_world.specs.declared.condition.ConditionKind.TheVariants.{ProgramError, InvalidSuperclass, InconsistentPrecedence, SuperclassCycle, IncompleteClass, TableLimit}
+use Rattle.clos_definition.specs.Accessor.{accessor_methods, accessors_of, accessors_refusal, functions_for}
+use Rattle.clos_definition.specs.Effect.{changed, changes_of}
+use Rattle.clos_definition.specs.Refusal.{or_else, table_full, table_refusal, when}
+
+-- the condition of a definition of the class of this name that the table of classes refuses
+abbrev pub condition_for : Nam → Refusal → Condition
+condition_for name program_error = record { kind = ProgramError; items = [] }
+condition_for name table_limit = record { kind = TableLimit; items = [] }
+condition_for name (invalid_superclass super) = record { kind = InvalidSuperclass; items = name_value name ∷ name_value super ∷ [] }
+condition_for name superclass_cycle = record { kind = SuperclassCycle; items = name_value name ∷ [] }
+condition_for name incomplete_class = record { kind = IncompleteClass; items = name_value name ∷ [] }
+condition_for name (inconsistent_precedence other) = record { kind = InconsistentPrecedence; items = name_value other ∷ [] }
+
+abbrev pub class_number : ClassDefinition → State → ℕ
+class_number d w = number w.classes.table d
+
+-- ---- its cells
+
+-- the shared slots that need cells, in layout order, with their initforms
+abbrev pub cells_needed : ClassDefinition → State → List NewCell
+cells_needed d w = cells_to_make w.classes.slots (class_number d w) (list_with w.classes.table d) d
+
+-- the forms of their first values
+abbrev pub initforms : List NewCell → List (Option Frm)
+initforms cells = map (λ c. c.initform) cells
+
+-- ---- its accessors
+
+abbrev pub class_functions : ClassDefinition → State → List Definition
+class_functions d w = functions_for w.generics (accessors_of d.slots)
+
+abbrev pub class_methods : ClassDefinition → State → List Method
+class_methods d w = accessor_methods (class_number d w) w.generics (class_functions d w) (accessors_of d.slots)
+
+abbrev pub class_changes : ClassDefinition → State → Changes
+class_changes d w = changes_of [] (class_functions d w) (class_methods d w)
+
+-- ---- defclass
+
+-- why it can't be where the table of classes allows it: an accessor can't be, the table of generic functions has no room or would lose a method
+-- of the system's, or there is no room for so many new cells
+abbrev pub others_refusal : ClassDefinition → ℕ → State → Option Condition
+others_refusal d cells w =
+    or_else (accessors_refusal (class_number d w) (class_functions d w) (accessors_of d.slots) w)
+    (or_else (table_refusal (Symbol d.name) (class_changes d w) w) (when (not (has_room_for cells w.store)) table_full))
+
+-- why it can't be defined with so many new cells: the table of classes refuses it, or that
+abbrev pub class_refusal : ClassDefinition → ℕ → State → Option Condition
+class_refusal d cells w = or_else (option_map (condition_for d.name) (refusal w.classes.table d)) (others_refusal d cells w)
+
+-- with the class, whose new cells have these values
+abbrev pub with_class : ClassDefinition → List (Option Val) → State → State
+with_class d values w = record w {
+  classes = with_definition w.classes d (cells_from (length w.store.cells) (length values));
+  store = with_cells values w.store;
+}
+
+-- with its accessors
+abbrev pub with_accessors : ClassDefinition → State → State
+with_accessors d w = record w { generics = changed [] (class_functions d w) (class_methods d w) w.generics }
+
+-- the state after it is defined
+abbrev pub with_defined_class : ClassDefinition → List (Option Val) → State → State
+with_defined_class d values w = with_class d values (with_accessors d w)

@@ -1,0 +1,117 @@
+-- Generic functions that are defined (HyperSpec 7.7 defgeneric).
+use Rattle.std.specs.Prelude.{ℕ, Bool, true, false, not, List, [], ◌∷◌, ◌++◌, Option, Some, None, drop, length, map, position, slice_get, unwrap_or}
+use Rattle.std.specs.List.{filter}
+use Rattle.lisp_data.specs.Datum.{Dats, nil, cons}
+use Rattle.lisp_data.specs.Name.{Nam, same_name}
+use Rattle.lisp_data.specs.Value.{Val}
+use Rattle.clos_class.specs.Table as classes
+use Rattle.clos_forms.specs.Form.{Frm}
+use Rattle.clos_syntax.specs.declared.generic.CombinationUse.{CombinationUse}
+use Rattle.clos_syntax.specs.declared.generic.GenericDefinition.{GenericDefinition}
+use Rattle.clos_syntax.specs.declared.method.MethodDefinition.{MethodDefinition}
+use Rattle.clos_generic.specs.Changes.{Changes}
+use Rattle.clos_generic.specs.Initial.{left_to_right, standard}
+use Rattle.clos_generic.specs.Table.{Table, methods_of, named, number}
+use Rattle.clos_generic.specs.declared.changes.Definition.{Definition}
+use Rattle.clos_generic.specs.declared.changes.Removal.{Removal}
+use Rattle.clos_generic.specs.declared.options.Options.{Options}
+use Rattle.clos_generic_core.specs.Shape.{shape_of}
+use Rattle.clos_generic_core.specs.declared.method.Method.{Method}
+use Rattle.clos_world.specs.World.{State}
+use Rattle.clos_world.specs.declared.condition.Condition.{Condition}
+use Rattle.clos_definition.specs.Effect.{changed, changes_of}
+use Rattle.clos_definition.specs.Method.{eql_form, method_with, open_addition, specializers_refusal}
+use Rattle.clos_definition.specs.Refusal.{or_else, program_error, table_refusal, taken_refusal, when}
+
+-- ---- its options: one that is not written is as if the function were new
+
+-- the place of a required parameter
+abbrev pub place_in : List Nam → Nam → ℕ
+place_in required name = unwrap_or (position (same_name name) required) (length required)
+
+-- the argument precedence order (7.6.6.1.2)
+abbrev pub precedence_of : List Nam → Option (List Nam) → List ℕ
+precedence_of required None = left_to_right (length required)
+precedence_of required (Some names) = map (place_in required) names
+
+abbrev pub options_of : GenericDefinition → Options
+options_of d = record {
+  shape = shape_of d.lambda_list;
+  precedence = precedence_of d.lambda_list.required d.precedence;
+  combination = unwrap_or d.combination standard;
+}
+
+abbrev pub definition_of : GenericDefinition → Definition
+definition_of d = record { name = d.name; options = options_of d }
+
+abbrev pub is_no_data : Dats → Bool
+is_no_data nil = true
+is_no_data (cons d l) = false
+
+-- Standard method combination takes no arguments.
+abbrev pub combination_refusal : Option CombinationUse → Option Condition
+combination_refusal None = None
+combination_refusal (Some c) = when (not (is_no_data c.arguments)) program_error
+
+-- ---- methods of an earlier defgeneric, which go if they are still there
+
+abbrev pub is_initial : Option Method → Bool
+is_initial None = false
+is_initial (Some m) = m.initial
+
+abbrev pub removal : ℕ → ℕ → Removal
+removal g m = record { generic = record { 0 = g }; method = record { 0 = m } }
+
+-- those of these methods of a function
+abbrev pub initial_among : ℕ → List Method → List ℕ → List Removal
+initial_among g methods ms = map (removal g) (filter (λ m. is_initial (slice_get methods m)) ms)
+
+abbrev pub earlier_methods : Table → Option ℕ → List Removal
+earlier_methods t None = []
+earlier_methods t (Some g) = initial_among g t.methods (methods_of t g)
+
+-- with these removals after its own
+abbrev pub removing : Changes → List Removal → Changes
+removing changes more = record changes { removals = changes.removals ++ more }
+
+-- ---- its own methods
+
+abbrev pub methods_refusal : List MethodDefinition → State → Option Condition
+methods_refusal [] w = None
+methods_refusal (m ∷ ms) w = or_else (specializers_refusal m.specializers w) (methods_refusal ms w)
+
+-- the forms of all their specializers
+abbrev pub eql_forms : List MethodDefinition → List (Option Frm)
+eql_forms [] = []
+eql_forms (m ∷ ms) = map eql_form m.specializers ++ eql_forms ms
+
+-- The values are those of all their specializers.
+abbrev pub methods_with : classes.Table → ℕ → List MethodDefinition → List (Option Val) → List Method
+methods_with t g [] vs = []
+methods_with t g (m ∷ ms) vs = method_with t g true m vs ∷ methods_with t g ms (drop (length m.specializers) vs)
+
+-- ---- defgeneric
+
+abbrev pub initial_methods : GenericDefinition → List (Option Val) → State → List Method
+initial_methods d vs w = methods_with w.classes (number w.generics d.name) d.methods vs
+
+abbrev pub generic_changes : GenericDefinition → Option (List (Option Val)) → State → Changes
+generic_changes d None w = record {
+  removals = earlier_methods w.generics (named w.generics d.name);
+  definitions = definition_of d ∷ [];
+  additions = map (open_addition (number w.generics d.name)) d.methods;
+}
+generic_changes d (Some vs) w = changes_of (earlier_methods w.generics (named w.generics d.name)) (definition_of d ∷ []) (initial_methods d vs w)
+
+-- what is wrong by itself: the name is a function's, the combination does not take its arguments, or a class is not defined
+abbrev pub names_refusal : GenericDefinition → State → Option Condition
+names_refusal d w = or_else (taken_refusal d.name w) (or_else (combination_refusal d.combination) (methods_refusal d.methods w))
+
+-- why it can't be defined: that, or what the table of generic functions refuses
+abbrev pub generic_refusal : GenericDefinition → Option (List (Option Val)) → State → Option Condition
+generic_refusal d vs w = or_else (names_refusal d w) (table_refusal d.name (generic_changes d vs w) w)
+
+-- the state after it is defined, or defined again
+abbrev pub with_defined_generic : GenericDefinition → List (Option Val) → State → State
+with_defined_generic d vs w =
+    record w { generics = changed (earlier_methods w.generics (named w.generics d.name)) (definition_of d ∷ []) (initial_methods d vs w) w.generics }

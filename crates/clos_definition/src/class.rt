@@ -1,0 +1,263 @@
+//! Classes that are defined: what a `defclass` does.
+ghost use Rattle.std.specs.Prelude.{◌≡◌, ◌≤◌, IfOk, IfErr, Option, OnOk, OnErr, Some, length, not, option_map};
+ghost use Rattle.clos_class.specs.Table.{refusal};
+ghost use Rattle.clos_class_core.specs.Table.{Refusal};
+ghost use Rattle.clos_class_core.specs.TableView.{Refuses};
+ghost use Rattle.clos_forms.specs.declared.operator.FunctionName.TheVariants.{Symbol};
+ghost use Rattle.clos_store.specs.Store.{cells_from, has_room_for};
+ghost use Rattle.clos_world.specs.World.{seen};
+ghost use Rattle.clos_world.specs.declared.condition.Stop.TheVariants.{Storage};
+ghost use Rattle.clos_definition.specs.Accessor.{accessors_of, accessors_refusal};
+ghost use Rattle.clos_definition.specs.Class.{cells_needed, class_changes, class_functions, class_methods, class_number, class_refusal, condition_for, others_refusal, with_accessors, with_class};
+ghost use Rattle.clos_definition.specs.Effect.{IsReserved, changes_of, with_effect};
+ghost use Rattle.clos_definition.specs.Refusal.{Allows, StopsFor, table_full, table_refusal, when};
+
+use crate::accessor::{accessors_of, functions_for, refuse_accessors, with_accessors};
+use crate::effect::{Effect, check, make, reserve};
+use clos_class::{ClassFault, Reserved};
+use clos_forms::FunctionName;
+use clos_store::Slot;
+use clos_syntax::ClassDefinition;
+use clos_world::{Condition, ConditionKind, Stop, World, about_name, about_names, plain};
+use lisp_data::{CellId, ClassId, Name};
+use std::alloc::{AllocError, Global};
+
+/// Whether a class may be defined, and with what number and which new cells.
+#[tactic(auto, using(crate::proofs::Classes::class_stops))]
+pub fn check_class(
+    alloc: Global,
+    world: &mut World,
+    definition: &ClassDefinition,
+) -> Result<Reserved, Stop>
+    ensures allows { Allows (class_refusal definition.now (length (cells_needed definition.now (seen world.old))) (seen world.old)) result }
+    ensures class { IfOk result (λ r. r.class.0 ≡ class_number definition.now (seen world.old)) }
+    ensures cells { IfOk result (λ r. r.cells ≡ cells_needed definition.now (seen world.old)) }
+    ensures same { seen world.new ≡ seen world.old }
+{
+    let reserved = reserve_class(alloc, world, definition)?;
+    accessors_for(
+        alloc,
+        world,
+        reserved.class,
+        definition,
+        reserved.cells.len() as u64,
+    )?;
+    Ok(reserved)
+}
+
+/// Prepares a class with so many new cells, and tells its number. What is prepared is its accessors.
+#[tactic(auto, using(crate::proofs::Classes::class_stops))]
+pub fn prepare_class(
+    alloc: Global,
+    world: &mut World,
+    definition: &ClassDefinition,
+    cells: u64,
+) -> Result<(ClassId, Effect), Stop>
+    ensures allows { Allows (class_refusal definition.now cells (seen world.old)) result }
+    ensures class { IfOk result (λ p. p.0.0 ≡ class_number definition.now (seen world.old)) }
+    ensures reserved { IfOk result (λ p. IsReserved p.1 world.new.generics) }
+    ensures effect { IfOk result (λ p. with_effect p.1 (seen world.old) ≡ with_accessors definition.now (seen world.old)) }
+    ensures same { seen world.new ≡ seen world.old }
+{
+    let class = reserve_class(alloc, world, definition)?.class;
+    let effect = accessors_for(alloc, world, class, definition, cells)?;
+    reserve_effect(alloc, world, &definition.name, &effect)?;
+    Ok((class, effect))
+}
+
+/// Makes a class, whose new cells have these values, and its accessors, which are prepared. It is refused only for want of memory,
+/// and then nothing is changed.
+pub fn make_class(
+    alloc: Global,
+    world: &mut World,
+    definition: &ClassDefinition,
+    values: Vec<Slot>,
+    effect: Effect,
+) -> Result<(), AllocError>
+    requires { IsReserved effect world.old.generics }
+    ensures ok { OnOk result (seen world.new ≡ with_class definition.now values.items (with_effect effect (seen world.old))) }
+    ensures err { OnErr result (seen world.new ≡ seen world.old) }
+{
+    match define_with_cells(alloc, world, definition, values) {
+        Ok(()) => {
+            make(world, effect);
+            Ok(())
+        }
+        Err(refusal) => {
+            world.generics.release();
+            Err(refusal)
+        }
+    }
+}
+
+/// What the table of classes tells of a definition.
+fn reserve_class(
+    alloc: Global,
+    world: &mut World,
+    definition: &ClassDefinition,
+) -> Result<Reserved, Stop>
+    ensures allows { Allows (option_map (condition_for definition.now.name) (refusal (seen world.old).classes.table definition.now)) result }
+    ensures class { IfOk result (λ r. r.class.0 ≡ class_number definition.now (seen world.old)) }
+    ensures cells { IfOk result (λ r. r.cells ≡ cells_needed definition.now (seen world.old)) }
+    ensures same { seen world.new ≡ seen world.old }
+{
+    match world.classes.reserve(alloc, definition) {
+        Ok(reserved) => Ok(reserved),
+        Err(fault) => Err(stop_for(alloc, &definition.name, fault)),
+    }
+}
+
+/// The accessors of the class of this number, which the table of classes allows, where they and so many new cells can be.
+#[tactic(auto, using(crate::proofs::Classes::accessors_stop, crate::proofs::Classes::table_stops, crate::proofs::Classes::room_stops, crate::proofs::Classes::nothing_stops))]
+fn accessors_for(
+    alloc: Global,
+    world: &World,
+    class: ClassId,
+    definition: &ClassDefinition,
+    cells: u64,
+) -> Result<Effect, Stop>
+    requires class { class.0 ≡ class_number definition.now (seen world.now) }
+    ensures allows { Allows (others_refusal definition.now cells (seen world.now)) result }
+    ensures changes { IfOk result (λ e. e.changes ≡ class_changes definition.now (seen world.now)) }
+    ensures methods { IfOk result (λ e. e.methods.items ≡ class_methods definition.now (seen world.now)) }
+{
+    let effect = effect_for(alloc, world, class, definition)?;
+    check_effect(alloc, world, &definition.name, &effect)?;
+    check_room(alloc, world, cells)?;
+    Ok(effect)
+}
+
+/// The accessors of the class of this number, where they can be.
+fn effect_for(
+    alloc: Global,
+    world: &World,
+    class: ClassId,
+    definition: &ClassDefinition,
+) -> Result<Effect, Stop>
+    requires { class.0 ≡ class_number definition.now (seen world.now) }
+    ensures allows { Allows (accessors_refusal class.0 (class_functions definition.now (seen world.now)) (accessors_of definition.now.slots) (seen world.now)) result }
+    ensures changes { IfOk result (λ e. e.changes ≡ class_changes definition.now (seen world.now)) }
+    ensures methods { IfOk result (λ e. e.methods.items ≡ class_methods definition.now (seen world.now)) }
+{
+    let accessors = accessors_of(alloc, definition.slots.as_slice())?;
+    let functions = functions_for(alloc, &world.generics, &accessors)?;
+    refuse_accessors(alloc, world, class, functions.definitions(), &accessors)?;
+    Ok(with_accessors(alloc, &world.generics, class, functions, &accessors)?)
+}
+
+/// Whether the table of generic functions allows the accessors of the class of this name.
+fn check_effect(alloc: Global, world: &World, name: &Name, effect: &Effect) -> Result<(), Stop>
+    ensures { Allows (table_refusal (Symbol name.now) effect.now.changes (seen world.now)) result }
+{
+    let name = FunctionName::Symbol(name.copy()?);
+    check(alloc, world, &name, &effect.changes)
+}
+
+/// Takes the memory for them.
+fn reserve_effect(
+    alloc: Global,
+    world: &mut World,
+    name: &Name,
+    effect: &Effect,
+) -> Result<(), Stop>
+    requires { effect.now.changes ≡ changes_of effect.now.changes.removals effect.now.changes.definitions effect.now.methods.items }
+    ensures allows { Allows (table_refusal (Symbol name.now) effect.now.changes (seen world.old)) result }
+    ensures reserved { OnOk result (IsReserved effect.now world.new.generics) }
+    ensures same { seen world.new ≡ seen world.old }
+{
+    let name = FunctionName::Symbol(name.copy()?);
+    reserve(alloc, world, &name, effect)
+}
+
+/// Whether so many more cells may be made.
+fn check_room(alloc: Global, world: &World, cells: u64) -> Result<(), Stop>
+    ensures { Allows (when (not (has_room_for cells (seen world.now).store)) table_full) result }
+{
+    if !world.store.has_room_for(cells) {
+        return Err(Stop::Refused(plain(alloc, ConditionKind::TableLimit)));
+    }
+    Ok(())
+}
+
+/// Makes a class, whose new cells have these values.
+fn define_with_cells(
+    alloc: Global,
+    world: &mut World,
+    definition: &ClassDefinition,
+    values: Vec<Slot>,
+) -> Result<(), AllocError>
+    ensures ok { OnOk result (seen world.new ≡ with_class definition.now values.items (seen world.old)) }
+    ensures err { OnErr result (seen world.new ≡ seen world.old) }
+    ensures generics { world.new.generics ≡ world.old.generics }
+{
+    let reserved = world.store.reserved();
+    match world.store.reserve(values.len() as u64) {
+        Err(_) => Err(AllocError),
+        Ok(()) => match define_in_reserved(alloc, world, definition, values) {
+            Ok(()) => Ok(()),
+            Err(refusal) => {
+                world.store.release(reserved);
+                Err(refusal)
+            }
+        },
+    }
+}
+
+/// The same where the cells are reserved.
+fn define_in_reserved(
+    alloc: Global,
+    world: &mut World,
+    definition: &ClassDefinition,
+    values: Vec<Slot>,
+) -> Result<(), AllocError>
+    requires { length values.items ≤ (seen world.old).store.reserved }
+    ensures ok { OnOk result (seen world.new ≡ with_class definition.now values.items (seen world.old)) }
+    ensures err { OnErr result (seen world.new ≡ seen world.old) }
+    ensures generics { world.new.generics ≡ world.old.generics }
+{
+    let cells = numbers_for(alloc, world, &values)?;
+    let Ok(_) = world.classes.define(alloc, definition, &cells) else {
+        return Err(AllocError);
+    };
+    world.store.new_cells(values);
+    Ok(())
+}
+
+/// The numbers that these cells will have, which are reserved.
+fn numbers_for(alloc: Global, world: &World, values: &[Slot]) -> Result<Vec<CellId>, AllocError>
+    requires { length values.now ≤ (seen world.now).store.reserved }
+    ensures { IfOk result (λ r. r.items ≡ cells_from (length (seen world.now).store.cells) (length values.now)) }
+{
+    world.store.next_cells(alloc, values.len() as u64)
+}
+
+/// What is told of a fault of the table of classes, of a definition of the class of this name.
+fn stop_for(alloc: Global, name: &Name, fault: ClassFault) -> Stop
+    ensures { (o : Option Refusal) → Refuses fault o → StopsFor (option_map (condition_for name.now) o) result }
+{
+    match condition_for(alloc, name, fault) {
+        Ok(condition) => Stop::Refused(condition),
+        Err(stop) => stop,
+    }
+}
+
+fn condition_for(alloc: Global, name: &Name, fault: ClassFault) -> Result<Condition, Stop>
+    ensures found { IfOk result (λ c. (o : Option Refusal) → Refuses fault o → option_map (condition_for name.now) o ≡ Some c) }
+    ensures memory { IfErr result (λ e. e ≡ Storage) }
+{
+    match fault {
+        ClassFault::ProgramError => Ok(plain(alloc, ConditionKind::ProgramError)),
+        ClassFault::TableLimit => Ok(plain(alloc, ConditionKind::TableLimit)),
+        ClassFault::InvalidSuperclass(superclass) => {
+            let kind = ConditionKind::InvalidSuperclass;
+            Ok(about_names(alloc, kind, name, &superclass)?)
+        }
+        ClassFault::SuperclassCycle => Ok(about_name(alloc, ConditionKind::SuperclassCycle, name)?),
+        ClassFault::IncompleteClass => Ok(about_name(alloc, ConditionKind::IncompleteClass, name)?),
+        ClassFault::InconsistentPrecedence(class) => {
+            let kind = ConditionKind::InconsistentPrecedence;
+            Ok(about_name(alloc, kind, &class)?)
+        }
+        ClassFault::Memory => Err(Stop::Storage),
+    }
+}

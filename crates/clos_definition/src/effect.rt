@@ -1,0 +1,143 @@
+//! What a definition form does to the table of generic functions.
+ghost use Rattle.std.specs.Prelude.{◌≡◌, ◌++◌, ◌∷◌, [], IfOk, OnOk, OnErr, map};
+ghost use Rattle.clos_generic.specs.Changes.{released};
+ghost use Rattle.clos_world.specs.World.{seen};
+ghost use Rattle.clos_definition.specs.Effect.{IsReserved, adding, addition_of, changed, changes_of, with_definitions, with_effect, with_methods, without_all};
+ghost use Rattle.clos_definition.specs.Refusal.{Allows, table_refusal};
+
+use crate::refusal::stop_for;
+use clos_forms::FunctionName;
+use clos_generic::{Addition, Changes, Generics, Likeness, Removal};
+use clos_generic_core::Method;
+use clos_world::{Stop, World};
+use std::alloc::{AllocError, Global};
+use std::collections::VecDeque;
+
+/// Changes of the table of generic functions, and the methods that their additions are.
+#[derive(Drop)]
+pub struct Effect {
+    pub changes: Changes,
+    pub methods: VecDeque<Method>,
+}
+
+impl Effect {
+    /// These changes, to which methods are to be added.
+    pub fn new(alloc: Global, changes: Changes) -> Effect
+        ensures changes { result.changes ≡ changes }
+        ensures methods { result.methods.items ≡ [] }
+    {
+        Effect {
+            changes,
+            methods: VecDeque::new(alloc),
+        }
+    }
+
+    /// One more method.
+    pub fn add(&mut self, alloc: Global, method: Method) -> Result<(), AllocError>
+        ensures changes { OnOk result (self.new.changes ≡ adding self.old.changes (addition_of method ∷ [])) }
+        ensures methods { OnOk result (self.new.methods.items ≡ self.old.methods.items ++ method ∷ []) }
+    {
+        let addition = addition_of(alloc, &method)?;
+        self.changes.add(addition)?;
+        self.methods.push_back(method)?;
+        Ok(())
+    }
+}
+
+/// The addition of a method.
+pub fn addition_of(alloc: Global, method: &Method) -> Result<Addition, AllocError>
+    ensures { IfOk result (λ r. r ≡ addition_of method.now) }
+{
+    let likeness = Likeness {
+        qualifiers: method.qualifiers.copy(alloc)?,
+        specializers: method.specializers.copy(alloc)?,
+    };
+    Ok(Addition {
+        generic: method.generic,
+        shape: method.shape.copy()?,
+        likeness: Some(likeness),
+    })
+}
+
+/// Whether the table of generic functions allows these changes, for a form that defines the function of this name.
+pub fn check(
+    alloc: Global,
+    world: &World,
+    name: &FunctionName,
+    changes: &Changes,
+) -> Result<(), Stop>
+    ensures { Allows (table_refusal name.now changes.now (seen world.now)) result }
+{
+    match world.generics.refuse_changes(changes) {
+        Ok(()) => Ok(()),
+        Err(fault) => Err(stop_for(alloc, name, fault)),
+    }
+}
+
+/// Takes the memory for an effect, where the table of generic functions allows it.
+pub fn reserve(
+    alloc: Global,
+    world: &mut World,
+    name: &FunctionName,
+    effect: &Effect,
+) -> Result<(), Stop>
+    requires { effect.now.changes ≡ changes_of effect.now.changes.removals effect.now.changes.definitions effect.now.methods.items }
+    ensures allows { Allows (table_refusal name.now effect.now.changes (seen world.old)) result }
+    ensures reserved { OnOk result (IsReserved effect.now world.new.generics) }
+    ensures same { seen world.new ≡ seen world.old }
+{
+    match world.generics.reserve(alloc, &effect.changes) {
+        Ok(()) => Ok(()),
+        Err(fault) => Err(stop_for(alloc, name, fault)),
+    }
+}
+
+/// Makes an effect for which memory is reserved.
+pub fn make(world: &mut World, effect: Effect)
+    requires { IsReserved effect world.old.generics }
+    ensures { seen world.new ≡ with_effect effect (seen world.old) }
+{
+    make_in(&mut world.generics, effect);
+}
+
+fn make_in(generics: &mut Generics, effect: Effect)
+    requires { IsReserved effect generics.old }
+    ensures { released generics.new ≡ changed effect.changes.removals effect.changes.definitions effect.methods.items (released generics.old) }
+{
+    let Effect { changes, methods } = effect;
+    take_out_all(generics, changes.removals());
+    define_all(generics, changes);
+    add_all(generics, methods);
+}
+
+/// Takes these methods out of their functions.
+fn take_out_all(generics: &mut Generics, removals: &[Removal])
+    ensures { generics.new ≡ without_all removals.now generics.old }
+{
+    let mut left = removals;
+    while let Some((removal, others)) = left.split_first() {
+        generics.take_out(removal.generic, removal.method);
+        left = others;
+    }
+}
+
+/// Defines these functions, for which memory is reserved.
+#[tactic(auto, using(crate::proofs::Made::same_function_self))]
+fn define_all(generics: &mut Generics, mut changes: Changes)
+    requires { generics.old.definitions ≡ map (λ d. d.name) changes.definitions }
+    ensures { generics.new ≡ with_definitions changes.definitions generics.old }
+{
+    while let Some(definition) = changes.take_definition() {
+        let _ = generics.define_reserved(definition.name, definition.options);
+    }
+}
+
+/// Adds these methods, for which memory is reserved.
+fn add_all(generics: &mut Generics, mut methods: VecDeque<Method>)
+    requires { generics.old.additions ≡ map (λ m. m.generic.0) methods.items }
+    ensures { generics.new ≡ with_methods methods.items generics.old }
+{
+    while let Some(method) = methods.pop_front() {
+        let _ = generics.add_reserved(method.generic, method);
+    }
+}

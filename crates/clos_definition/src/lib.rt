@@ -1,0 +1,19 @@
+//! What definition forms do to the tables of a session (HyperSpec 7.7). Each form is prepared, with all that can refuse it and
+//! all memory that it takes, and then made, which can't be refused. In between the session takes its step.
+#![tactic(auto)]
+
+mod accessor;
+mod class;
+mod effect;
+mod generic;
+mod method;
+mod refusal;
+mod removal;
+
+pub use accessor::SlotAccessor;
+pub use class::{check_class, make_class, prepare_class};
+pub use effect::{Effect, make};
+pub use generic::{check_generic, generic_forms, prepare_generic};
+pub use method::{check_method, method_forms, number_of, prepare_method};
+pub use refusal::is_taken;
+pub use removal::{find_removable, remove};

@@ -1,0 +1,62 @@
+//! Methods that are taken out of their function: what a `remove-method` does.
+ghost use Rattle.std.specs.Prelude.{◌≡◌, IfOk, option_map};
+ghost use Rattle.lisp_data.specs.ValueView.{value_of};
+ghost use Rattle.clos_world.specs.World.{seen};
+ghost use Rattle.clos_definition.specs.Removal.{Finds, generic_in, method_in, removable, with_removed, wrong_type};
+
+use clos_generic_core::SystemFunction;
+use clos_world::{Condition, ConditionKind, Stop, World, about, plain};
+use lisp_data::{GenericId, MethodId, Value};
+use std::alloc::{AllocError, Global};
+
+/// The function and the method that these values are. Of the method of a function of the system, and of values of other types, it is
+/// told that the method can't be taken out.
+pub fn find_removable(
+    alloc: Global,
+    function: &Value,
+    method: &Value,
+) -> Result<(GenericId, MethodId), Stop>
+    ensures { Finds (removable (value_of function.now) (value_of method.now)) result }
+{
+    let Some(generic) = generic_in(function) else {
+        return Err(Stop::Refused(wrong_type(alloc, function)?));
+    };
+    let Some(id) = method_in(method) else {
+        return Err(Stop::Refused(wrong_type(alloc, method)?));
+    };
+    if id.0 < SystemFunction::COUNT {
+        return Err(Stop::Refused(plain(alloc, ConditionKind::Unsupported)));
+    }
+    Ok((generic, id))
+}
+
+fn wrong_type(alloc: Global, value: &Value) -> Result<Condition, AllocError>
+    ensures { IfOk result (λ c. c ≡ wrong_type (value_of value.now)) }
+{
+    about(alloc, ConditionKind::TypeError, value.copy()?)
+}
+
+fn generic_in(value: &Value) -> Option<GenericId>
+    ensures { option_map (λ g. g.0) result ≡ generic_in (value_of value.now) }
+{
+    match value {
+        Value::Generic(id) => Some(*id),
+        _ => None,
+    }
+}
+
+fn method_in(value: &Value) -> Option<MethodId>
+    ensures { option_map (λ m. m.0) result ≡ method_in (value_of value.now) }
+{
+    match value {
+        Value::Method(id) => Some(*id),
+        _ => None,
+    }
+}
+
+/// Takes a method out of a function, if it is there.
+pub fn remove(world: &mut World, function: GenericId, method: MethodId)
+    ensures { seen world.new ≡ with_removed function.0 method.0 (seen world.old) }
+{
+    world.generics.take_out(function, method);
+}

@@ -1,0 +1,3 @@
+pub mod GenericCalls
+pub mod Methods
+pub mod NextMethods

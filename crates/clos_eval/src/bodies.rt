@@ -1,0 +1,205 @@
+//! Bodies of functions and methods: parameters are bound, and the forms are evaluated (HyperSpec 3.4.1, 3.5.1).
+ghost use Rattle.std.specs.Prelude.{◌≡◌, ℕ, map};
+ghost use Rattle.lisp_data.specs.Value.{list, nil};
+ghost use Rattle.lisp_data.specs.ValueView.{value_of};
+ghost use Rattle.clos_world.specs.World.{State, seen, bound_as};
+ghost use Rattle.clos_machine.specs.Bodies.{restoring, scoped, parameters_run, body_run};
+ghost use Rattle.clos_machine.specs.Control.{sequence};
+ghost use Rattle.clos_machine.specs.Machine.{Leads, Grows, at, inside, given_to, under};
+ghost use Rattle.clos_machine.specs.Meaning.{meaning};
+ghost use Rattle.clos_machine.specs.Outcome.{Run, then_do};
+ghost use Rattle.clos_machine.specs.Parameters.{required_sources, sources};
+ghost use Rattle.clos_machine.specs.declared.machine.Frame.TheVariants.{Bind, Body};
+
+use clos_control::control::{done, split};
+use clos_forms::{Form, Forms};
+use clos_lambda::LambdaList;
+use clos_machine::arguments::Context;
+use clos_machine::locals::{Locals, bind, settle};
+use clos_machine::machine::{Doing, Frame, Level, Machine};
+use clos_machine::parameters::{ParameterPlan, plan_for, requires_only};
+use clos_machine::truth::nil;
+use clos_world::{ConditionKind, Stop, World, plain};
+use lisp_data::{Name, Value};
+use std::alloc::{AllocError, Global};
+use std::mem;
+
+/// A body runs in this context, and begins with the parameters of a lambda list, which are bound to the arguments.
+pub fn run_body(
+    alloc: Global,
+    machine: &mut Machine,
+    world: &World,
+    context: Context,
+    lambda_list: &LambdaList,
+    body: &Forms,
+) -> Result<Doing, Stop>
+    ensures leads { Leads (inside machine.old (body_run (meaning machine.old.room) context (sources lambda_list.now context.arguments) body.now)) (seen world.now) result machine.new }
+    ensures small { Grows 6 machine.old.levels result machine.new }
+{
+    if requires_only(lambda_list) {
+        let names = lambda_list.required.as_slice();
+        return run_bound(alloc, machine, world, context, names, body);
+    }
+    let plan = plan_for(alloc, lambda_list, context.arguments.as_slice())?;
+    run_planned(alloc, machine, world, context, plan, body)
+}
+
+/// A body runs in this context, with these parameters and no other variables.
+fn run_planned(
+    alloc: Global,
+    machine: &mut Machine,
+    world: &World,
+    context: Context,
+    plan: ParameterPlan,
+    body: &Forms,
+) -> Result<Doing, Stop>
+    ensures leads { Leads (inside machine.old (body_run (meaning machine.old.room) context plan body.now)) (seen world.now) result machine.new }
+    ensures small { Grows 6 machine.old.levels result machine.new }
+{
+    let saved = mem::replace(&mut machine.context, context);
+    let outer = mem::replace(&mut machine.locals, Locals::new(alloc));
+    bind_parameters(alloc, machine, world, plan, body, saved, outer)
+}
+
+/// The parameters are bound up to the next that has an init form, or all of them, and the body begins.
+fn bind_parameters(
+    alloc: Global,
+    machine: &mut Machine,
+    world: &World,
+    mut plan: ParameterPlan,
+    body: &Forms,
+    saved: Context,
+    outer: Locals,
+) -> Result<Doing, Stop>
+    ensures leads { Leads (under machine.old saved outer (parameters_run (meaning machine.old.room) machine.old.context plan body.now)) (seen world.now) result machine.new }
+    ensures small { Grows 6 machine.old.levels result machine.new }
+{
+    match settle(alloc, world, &mut machine.locals, &mut plan) {
+        Err(stop) => Err(stop),
+        Ok(None) => next_of_body(machine, world, body, saved, outer, nil()),
+        Ok(Some((name, form))) => {
+            let room = machine.room;
+            let body = body.copy()?;
+            let frame = Frame::Bind(name, plan, body, saved, outer);
+            machine.levels.push(Level { frame, room })?;
+            Ok(Doing::Start(form))
+        }
+    }
+}
+
+/// The value of a parameter is there.
+pub fn next_parameter(
+    alloc: Global,
+    machine: &mut Machine,
+    world: &World,
+    name: Name,
+    plan: ParameterPlan,
+    body: &Forms,
+    saved: Context,
+    outer: Locals,
+    value: Value,
+) -> Result<Doing, Stop>
+    ensures leads { Leads (given_to machine.old (Bind name plan body.now saved outer) (value_of value)) (seen world.now) result machine.new }
+    ensures small { Grows 6 machine.old.levels result machine.new }
+{
+    if world.globals.has(&name) {
+        return Err(Stop::Refused(plain(alloc, ConditionKind::Unsupported)));
+    }
+    machine.locals.push(name, value)?;
+    bind_parameters(alloc, machine, world, plan, body, saved, outer)
+}
+
+/// A body runs in this context, with required parameters of these names bound to the arguments and no other variables.
+fn run_bound(
+    alloc: Global,
+    machine: &mut Machine,
+    world: &World,
+    context: Context,
+    names: &[Name],
+    body: &Forms,
+) -> Result<Doing, Stop>
+    ensures leads { Leads (inside machine.old (body_run (meaning machine.old.room) context (required_sources names.now context.arguments) body.now)) (seen world.now) result machine.new }
+    ensures small { Grows 6 machine.old.levels result machine.new }
+{
+    match bind(alloc, world, names, context.arguments.as_slice()) {
+        Err(stop) => Err(stop),
+        Ok(locals) => run_scoped(machine, context, locals, body),
+    }
+}
+
+/// These forms are evaluated in a context of their own and with these variables.
+fn run_scoped(
+    machine: &mut Machine,
+    context: Context,
+    locals: Locals,
+    forms: &Forms,
+) -> Result<Doing, Stop>
+    ensures leads { (run : Run) (w : State)
+        → ((t : ℕ) → scoped (sequence (meaning machine.old.room) context forms.now (list nil)) locals (at machine.old w) t ≡ run (at machine.old w) t)
+        → Leads (inside machine.old run) w result machine.new }
+    ensures small { Grows 6 machine.old.levels result machine.new }
+{
+    match split(forms)? {
+        None => Ok(done(machine, nil())),
+        Some((first, rest)) => enter_body(machine, context, locals, first, rest),
+    }
+}
+
+/// The machine's context and variables are now these; the others come back.
+fn enter(machine: &mut Machine, context: Context, locals: Locals) -> (Context, Locals)
+    ensures left { (result.0 ≡ machine.old.context) × (result.1 ≡ machine.old.locals) }
+    ensures entered { machine.new ≡ record machine.old { context = context; locals = locals } }
+{
+    let saved = mem::replace(&mut machine.context, context);
+    let outer = mem::replace(&mut machine.locals, locals);
+    (saved, outer)
+}
+
+/// Evaluates the forms of a body, of which this is the first, in a context of their own and with these variables.
+fn enter_body(
+    machine: &mut Machine,
+    context: Context,
+    locals: Locals,
+    first: Form,
+    rest: Forms,
+) -> Result<Doing, Stop>
+    ensures leads { (run : Run) (w : State)
+        → ((t : ℕ) → then_do (then_do (meaning machine.old.room context first (bound_as locals w) t) (λ v. sequence (meaning machine.old.room) context rest v)) (restoring machine.old.locals) ≡ run (at machine.old w) t)
+        → Leads (inside machine.old run) w result machine.new }
+    ensures small { Grows 6 machine.old.levels result machine.new }
+{
+    let (saved, outer) = enter(machine, context, locals);
+    let room = machine.room;
+    let frame = Frame::Body(rest, saved, outer);
+    machine.levels.push(Level { frame, room })?;
+    Ok(Doing::Start(first))
+}
+
+/// The rest of a body follows the value of one of its forms.
+pub fn next_of_body(
+    machine: &mut Machine,
+    world: &World,
+    rest: &Forms,
+    saved: Context,
+    outer: Locals,
+    value: Value,
+) -> Result<Doing, Stop>
+    ensures leads { Leads (given_to machine.old (Body rest.now saved outer) (value_of value)) (seen world.now) result machine.new }
+    ensures small { Grows 6 machine.old.levels result machine.new }
+{
+    let _ = world;
+    match split(rest)? {
+        None => {
+            machine.context = saved;
+            machine.locals = outer;
+            Ok(Doing::Give(value))
+        }
+        Some((first, rest)) => {
+            drop(value);
+            let room = machine.room;
+            let frame = Frame::Body(rest, saved, outer);
+            machine.levels.push(Level { frame, room })?;
+            Ok(Doing::Start(first))
+        }
+    }
+}

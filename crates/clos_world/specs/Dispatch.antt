@@ -1,0 +1,23 @@
+-- The methods that a call of a generic function finds (HyperSpec 7.6.6.1).
+use Rattle.std.specs.Prelude.{ℕ, zero, List, map, take, Option, Some, None, slice_get}
+use Rattle.lisp_data.specs.Value.{Val}
+use Rattle.clos_generic_core.specs.Arguments.{Argument, arguments_of}
+use Rattle.clos_generic.specs.Calls as calls
+use Rattle.clos_generic.specs.Table.{Function}
+use Rattle.clos_world.specs.World.{State, class_of}
+
+-- these values as arguments, each with the class precedence list of its class
+abbrev pub arguments : State → List Val → List Argument
+arguments w vs = arguments_of w.classes (map (class_of w) vs) vs
+
+abbrev pub required_in : Option Function → ℕ
+required_in None = zero
+required_in (Some f) = f.shape.required
+
+-- how many required parameters a generic function has
+abbrev pub required_by : State → ℕ → ℕ
+required_by w g = required_in (slice_get w.generics.functions g)
+
+-- The methods of a generic function that are applicable to these arguments, the most specific first: those of its required parameters decide.
+abbrev pub ordered : State → ℕ → List Val → List ℕ
+ordered w g vs = calls.ordered w.generics g (arguments w (take (required_by w g) vs))
