@@ -36,22 +36,6 @@ module _ (s s' : ℕ) (old : List Level) (m : Machine) where
   grows_14 (Err e) g h = tt
 
 -- what adds little adds no more than something larger
-pub grows_6_9 : (old : List Level) (r : Result Doing Stop) (m : Machine) → Grows 6 old r m → Grows 9 old r m
-grows_6_9 old (Ok d) m h = omega (arith, h)
-grows_6_9 old (Err e) m h = tt
-
-pub grows_2_6 : (old : List Level) (r : Result Doing Stop) (m : Machine) → Grows 2 old r m → Grows 6 old r m
-grows_2_6 old (Ok d) m h = omega (arith, h)
-grows_2_6 old (Err e) m h = tt
-
 pub grows_13_16 : (old : List Level) (r : Result Doing Stop) (m : Machine) → Grows 13 old r m → Grows 16 old r m
 grows_13_16 old (Ok d) m h = omega (arith, h)
 grows_13_16 old (Err e) m h = tt
-
-pub grows_2_9 : (old : List Level) (r : Result Doing Stop) (m : Machine) → Grows 2 old r m → Grows 9 old r m
-grows_2_9 old (Ok d) m h = omega (arith, h)
-grows_2_9 old (Err e) m h = tt
-
-pub grows_9_13 : (old : List Level) (r : Result Doing Stop) (m : Machine) → Grows 9 old r m → Grows 13 old r m
-grows_9_13 old (Ok d) m h = omega (arith, h)
-grows_9_13 old (Err e) m h = tt

@@ -11,14 +11,14 @@ ghost use Rattle.clos_machine.specs.Meaning.{acted, body, changed_place, evaluat
 ghost use Rattle.clos_machine.specs.SlotNames.{name_set, place_denoted};
 ghost use Rattle.clos_machine.specs.declared.machine.Doing.TheVariants.{Start};
 
-use crate::bodies::{next_of_body, next_parameter};
-use crate::functions::{
+use crate::output::{end_line, print};
+use clos_calls::bodies::{next_of_body, next_parameter};
+use clos_calls::functions::{
     call, call_setter, compute, function_named, new_value, next_value, start_call,
 };
-use crate::generic_calls::invoke;
-use crate::methods::call_method;
-use crate::next_methods::{call_next_given, call_next_method, has_next};
-use crate::output::{end_line, print};
+use clos_calls::generic_calls::invoke;
+use clos_calls::methods::call_method;
+use clos_calls::next_methods::{call_next_given, call_next_method, has_next};
 use clos_control::arguments::collect_values;
 use clos_control::assignment::{
     change, change_from, change_only, set_next, set_next_place, store_only, with_amount,

@@ -1,13 +1,7 @@
-//! Calls, output, and the machine that evaluates forms.
+//! Output, and the machine that evaluates forms.
 #![tactic(auto)]
 
-mod bodies;
 pub mod eval;
-mod functions;
-mod generic_calls;
-mod keywords;
-mod methods;
-mod next_methods;
 mod output;
 
 pub use eval::evaluate;

@@ -1,0 +1,100 @@
+-- What a method's body does, whatever it knows of its call.
+use Rattle.std.proofs.Common.{◌≡◌, ℕ, List, [], ◌∷◌, Option, Some, None, Result, Ok, Err, refl, ap, sym, true, ◌∙◌}
+use Rattle.std.specs.Prelude.{if◌then◌else◌}
+use Rattle.lisp_data.specs.Name.{Nam}
+use Rattle.lisp_data.specs.Value.{Val}
+use Rattle.clos_forms.specs.Form.{Frms}
+use Rattle.clos_generic_core.specs.declared.method.MethodBody.{MethodBody}
+use Rattle.clos_generic_core.specs.declared.method.MethodBody.TheVariants.{Forms, Reader, System, Writer}
+use Rattle.clos_generic_core.specs.declared.system.SystemFunction.{SystemFunction}
+use Rattle.clos_lambda.specs.declared.lambda_list.LambdaList.{LambdaList}
+use Rattle.clos_store.specs.Store.{slot_found}
+use Rattle.clos_world.specs.World.{State}
+use Rattle.clos_world.specs.declared.condition.Condition.{Condition}
+use Rattle.clos_machine.specs.Accessors.{read_by, read_of, written_by, written_of}
+use Rattle.clos_world.specs.declared.condition.ConditionKind.TheVariants.{ProgramError}
+use Rattle.clos_world.specs.declared.condition.Stop.{Stop}
+use Rattle.clos_machine.specs.Bodies.{body_run}
+use Rattle.clos_machine.specs.Calls.{keys_are_even, method_body_run}
+use Rattle.clos_machine.specs.Machine.{Leads, at, inside, resume}
+use Rattle.clos_machine.specs.Meaning.{closed, meaning}
+use Rattle.clos_machine.specs.Outcome.{Eval, Run, stopped}
+use Rattle.clos_machine.specs.Parameters.{sources}
+use Rattle.clos_machine.specs.Slots.{instance_in, slot_changed, slot_read}
+use Rattle.clos_machine.specs.SystemMethods.{system_method_run}
+use Rattle.clos_machine.specs.declared.arguments.Context.{Context}
+use Rattle.clos_machine.specs.declared.machine.Action.TheVariants.{Write}
+use Rattle.clos_machine.specs.declared.machine.Doing.{Doing}
+use Rattle.clos_machine.specs.declared.machine.Doing.TheVariants.{Act}
+use Rattle.clos_machine.specs.declared.machine.Machine.{Machine}
+use Rattle.clos_machine.proofs.Turns.{leads_same}
+use Rattle.clos_calls.specs.Methods.{forms_run}
+
+module _ (ev : Eval) (env ctx : Context) (slot : Nam) (w : State) (s : ℕ) where
+  found_any : (i : ℕ) (o : Option (Option Val)) → slot_read ev env i slot o w s ≡ slot_read ev ctx i slot o w s
+  found_any i None = refl
+  found_any i (Some None) = refl
+  found_any i (Some (Some v)) = refl
+
+  of_any : (x : Result ℕ Condition) → read_of ev env slot x w s ≡ read_of ev ctx slot x w s
+  of_any (Err c) = refl
+  of_any (Ok i) = found_any i (slot_found w.store i slot)
+
+  pub read_any : (vs : List Val) → read_by ev env slot vs w s ≡ read_by ev ctx slot vs w s
+  read_any [] = refl
+  read_any (v ∷ []) = of_any (instance_in v)
+  read_any (v ∷ (x ∷ vs)) = refl
+
+  changed_any : (i : ℕ) (new : Val) (o : Option (Option Val)) → slot_changed ev env i slot (Some new) new o w s ≡ slot_changed ev ctx i slot (Some new) new o w s
+  changed_any i new None = refl
+  changed_any i new (Some old) = refl
+
+  to_any : (new : Val) (x : Result ℕ Condition) → written_of ev env slot new x w s ≡ written_of ev ctx slot new x w s
+  to_any new (Err c) = refl
+  to_any new (Ok i) = changed_any i new (slot_found w.store i slot)
+
+  pub written_any : (vs : List Val) → written_by ev env slot vs w s ≡ written_by ev ctx slot vs w s
+  written_any [] = refl
+  written_any (new ∷ []) = refl
+  written_any (new ∷ (v ∷ [])) = to_any new (instance_in v)
+  written_any (new ∷ (v ∷ (x ∷ vs))) = refl
+
+-- ---- bodies of methods
+
+module _ (m n : Machine) (env : Context) (b : MethodBody) (w : State) where
+  goes_as : (run : Run) (r : Result Doing Stop) → ((t : ℕ) → run (at m w) t ≡ method_body_run (meaning m.room) env b (at m w) t) → Leads (inside m run) w r n
+      → Leads (inside m (method_body_run (meaning m.room) env b)) w r n
+  goes_as run r h l =
+      leads_same (inside m run) (inside m (method_body_run (meaning m.room) env b)) w r n (λ t. ap (λ o. closed (resume m.levels m.context o)) (h t)) l
+
+  set_to : (x : MethodBody) (t : ℕ) → b ≡ x → method_body_run (meaning m.room) env x (at m w) t ≡ method_body_run (meaning m.room) env b (at m w) t
+  set_to x t e = ap (λ y. method_body_run (meaning m.room) env y (at m w) t) (sym e)
+
+  pub body_of_forms : (l : LambdaList) (fs : Frms) (ctx : Context) (k : LambdaList) (r : Result Doing Stop) → b ≡ Forms l fs → ctx ≡ env → k ≡ l
+      → Leads (inside m (forms_run (meaning m.room) ctx k fs)) w r n → Leads (inside m (method_body_run (meaning m.room) env b)) w r n
+  body_of_forms l fs ctx k r e h i =
+      goes_as (forms_run (meaning m.room) ctx k fs) r
+      (λ t. ap (λ x. forms_run (meaning m.room) x k fs (at m w) t) h ∙ ap (λ x. forms_run (meaning m.room) env x fs (at m w) t) i ∙ set_to (Forms l fs) t e)
+
+  pub body_reads : (slot : Nam) (vs : List Val) (r : Result Doing Stop) → b ≡ Reader slot → vs ≡ env.arguments
+      → Leads (inside m (read_by (meaning m.room) m.context slot vs)) w r n → Leads (inside m (method_body_run (meaning m.room) env b)) w r n
+  body_reads slot vs r e h =
+      goes_as (read_by (meaning m.room) m.context slot vs) r
+      (λ t. read_any (meaning m.room) m.context env slot (at m w) t vs ∙ ap (λ x. read_by (meaning m.room) env slot x (at m w) t) h ∙ set_to (Reader slot) t e)
+
+  pub body_of_system : (f : SystemFunction) (r : Result Doing Stop) → b ≡ System f
+      → Leads (inside m (system_method_run (meaning m.room) f env.arguments)) w r n → Leads (inside m (method_body_run (meaning m.room) env b)) w r n
+  body_of_system f r e = goes_as (system_method_run (meaning m.room) f env.arguments) r (λ t. set_to (System f) t e)
+
+pub body_writes : (m : Machine) (env : Context) (b : MethodBody) (w : State) (slot name : Nam) (vs : List Val) → b ≡ Writer slot → name ≡ slot → vs ≡ env.arguments
+    → Leads (inside m (method_body_run (meaning m.room) env b)) w (Ok (Act (Write name) vs)) m
+body_writes m env b w slot name vs e h i = λ t.
+    ap (λ o. closed (resume m.levels m.context o))
+    (ap (λ x. written_by (meaning m.room) m.context x vs (at m w) t) h ∙ written_any (meaning m.room) m.context env slot (at m w) t vs
+    ∙ ap (λ x. written_by (meaning m.room) env slot x (at m w) t) i ∙ ap (λ y. method_body_run (meaning m.room) env y (at m w) t) (sym e))
+
+pub keys_even : (m n : Machine) (env : Context) (l : LambdaList) (fs : Frms) (w : State) (r : Result Doing Stop) → true ≡ keys_are_even l env.arguments
+    → Leads (inside m (body_run (meaning m.room) env (sources l env.arguments) fs)) w r n → Leads (inside m (forms_run (meaning m.room) env l fs)) w r n
+keys_even m n env l fs w r e h =
+    leads_same (inside m (body_run (meaning m.room) env (sources l env.arguments) fs)) (inside m (forms_run (meaning m.room) env l fs)) w r n
+    (λ t. ap (λ b. closed (resume m.levels m.context (if b then body_run (meaning m.room) env (sources l env.arguments) fs (at m w) t else stopped ProgramError [] (at m w) t))) e) h

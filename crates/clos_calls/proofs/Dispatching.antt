@@ -1,0 +1,150 @@
+-- Calls of generic functions, with applicable methods and without.
+use Rattle.std.proofs.Common.{◌≡◌, ℕ, List, [], ◌∷◌, true, false, Option, Some, None, Result, Err, length, slice_get, arith, refl, ap, sym, ◌∙◌}
+use Rattle.std.specs.Prelude.{if◌then◌else◌, is_some, option_map}
+use Rattle.lisp_data.specs.Name.{Nam}
+use Rattle.lisp_data.specs.Value.{Val, generic, method}
+use Rattle.clos_generic.specs.Table.{Function}
+use Rattle.clos_generic_core.specs.Shape.{takes_count}
+use Rattle.clos_generic_core.specs.System.{system_number}
+use Rattle.clos_generic_core.specs.declared.system.SystemFunction.TheVariants.{NoApplicableMethod}
+use Rattle.clos_world.specs.Dispatch.{ordered}
+use Rattle.clos_world.specs.World.{State, unbound}
+use Rattle.clos_world.specs.declared.condition.Condition.{Condition}
+use Rattle.clos_world.specs.declared.condition.ConditionKind.TheVariants.{InvalidMethod, ProgramError}
+use Rattle.clos_world.specs.declared.condition.Stop.{Stop}
+use Rattle.clos_world.specs.declared.condition.Stop.TheVariants.{Refused, Storage}
+use Rattle.clos_machine.specs.GenericCalls.{after_positional, called_generic, combined_run, keywords_fit, matched, matched_or, unmatched, unmatched_by}
+use Rattle.clos_machine.specs.Contexts.{in_call}
+use Rattle.clos_machine.specs.Machine.{Leads, at, inside, resume}
+use Rattle.clos_machine.specs.Meaning.{closed}
+use Rattle.clos_machine.specs.Outcome.{Eval, Run, Stopped, stopped}
+use Rattle.clos_machine.specs.declared.arguments.Context.{Context}
+use Rattle.clos_machine.specs.declared.machine.Doing.{Doing}
+use Rattle.clos_machine.specs.declared.machine.Machine.{Machine}
+use Rattle.clos_machine.proofs.Turns.{leads_same, stopped_through}
+use Rattle.clos_comb.specs.Effective as comb
+use Rattle.clos_comb.specs.Outcome.{Combined, group_empty, invalid_method}
+use Rattle.clos_objects.specs.Objects.{TellsCondition}
+use Rattle.clos_calls.specs.GenericCalls.{empty_group, takes_in}
+
+-- a function that takes so many arguments is there
+pub function_taken : (o : Option Function) (n : ℕ) → true ≡ takes_in o n → (f : Function) × (Some f ≡ o) × (takes_count f.shape n ≡ true)
+function_taken None n e = absurd (cc e)
+function_taken (Some f) n e = (f, refl, sym e)
+
+-- a function that is there, or is not
+pub function_there : {A : Type 0} (f : A → Function) (x : Option A) (o : Option Function) → option_map f x ≡ o → is_some x ≡ true → (y : Function) × (Some y ≡ o)
+function_there f None o e h = absurd (cc h)
+function_there f (Some a) o e h = (f a, e)
+
+pub nothing_there : {A : Type 0} (f : A → Function) (x : Option A) (o : Option Function) → option_map f x ≡ o → is_some x ≡ false → None ≡ o
+nothing_there f None o e h = e
+nothing_there f (Some a) o e h = absurd (cc h)
+
+module _ (m n : Machine) (ev : Eval) (w : State) where
+  stops : (run : Run) (c : Condition) → ((t : ℕ) → run (at m w) t ≡ stopped ProgramError [] (at m w) t) → c ≡ record { kind = ProgramError; items = [] }
+      → Leads (inside m run) w (Err (Refused c)) n
+  stops run c h e = λ t.
+      ap (λ o. closed (resume m.levels m.context o)) (h t ∙ ap (λ x. Stopped x (at m w) t) (sym e)) ∙ stopped_through m.levels m.context c (at m w) t
+
+  goes : (run run' : Run) (r : Result Doing Stop) → ((t : ℕ) → run (at m w) t ≡ run' (at m w) t) → Leads (inside m run) w r n → Leads (inside m run') w r n
+  goes run run' r h l = leads_same (inside m run) (inside m run') w r n (λ t. ap (λ o. closed (resume m.levels m.context o)) (h t)) l
+
+  -- where there are methods
+  some_match : (vs : List Val) (g : ℕ) (f : Function) (other : Run) (ms : List ℕ) (t : ℕ) → (length ms ≡ 0 → ⊥) → matched ev vs g f ms (at m w) t ≡ matched_or ev vs g f other ms (at m w) t
+  some_match vs g f other [] t h = absurd (h refl)
+  some_match vs g f other (x ∷ ms) t h = refl
+
+  none_match : (vs : List Val) (g : ℕ) (f : Function) (other : Run) (ms : List ℕ) (t : ℕ) → length ms ≡ 0 → other (at m w) t ≡ matched_or ev vs g f other ms (at m w) t
+  none_match vs g f other [] t h = refl
+  none_match vs g f other (x ∷ ms) t h = absurd (omega (arith, h))
+
+  module _ (vs : List Val) (g : ℕ) where
+    abbrev pub calling : Run
+    calling u = called_generic ev vs g (slice_get u.generics.functions g) u
+
+    not_taken : (o : Option Function) (t : ℕ) → false ≡ takes_in o (length vs) → called_generic ev vs g o (at m w) t ≡ stopped ProgramError [] (at m w) t
+    not_taken None t e = refl
+    not_taken (Some f) t e =
+        ap (λ b. if b then matched_or ev vs g f (unmatched ev g vs) (ordered w g vs) (at m w) t else stopped ProgramError [] (at m w) t) (sym e)
+
+    pub wrong_count : (c : Condition) → false ≡ takes_in (slice_get w.generics.functions g) (length vs) → c ≡ record { kind = ProgramError; items = [] }
+        → Leads (inside m calling) w (Err (Refused c)) n
+    wrong_count c e k = stops calling c (λ t. not_taken (slice_get w.generics.functions g) t e) k
+
+    right_count : (f : Function) (t : ℕ) → Some f ≡ slice_get w.generics.functions g → takes_count f.shape (length vs) ≡ true
+        → matched_or ev vs g f (unmatched ev g vs) (ordered w g vs) (at m w) t ≡ calling (at m w) t
+    right_count f t e h =
+        ap (λ b. if b then matched_or ev vs g f (unmatched ev g vs) (ordered w g vs) (at m w) t else stopped ProgramError [] (at m w) t) (sym h)
+        ∙ ap (λ o. called_generic ev vs g o (at m w) t) e
+
+    pub none_called : (us : List Val) (ms : List ℕ) (r : Result Doing Stop) → true ≡ takes_in (slice_get w.generics.functions g) (length vs) → us ≡ vs → ms ≡ ordered w g us
+        → length ms ≡ 0 → Leads (inside m (unmatched ev g us)) w r n → Leads (inside m calling) w r n
+    none_called us ms r e k h z l =
+        let x = function_taken (slice_get w.generics.functions g) (length vs) e in
+        goes (unmatched ev g us) calling r
+        (λ t. ap (λ y. unmatched ev g y (at m w) t) k
+        ∙ none_match vs g x.0 (unmatched ev g vs) (ordered w g vs) t (ap length (sym (h ∙ ap (ordered w g) k)) ∙ z) ∙ right_count x.0 t x.1 x.2) l
+
+    pub some_called : (us : List Val) (ms : List ℕ) (r : Result Doing Stop) → true ≡ takes_in (slice_get w.generics.functions g) (length vs) → us ≡ vs → ms ≡ ordered w g us
+        → (length ms ≡ 0 → ⊥) → ((f : Function) → Some f ≡ slice_get w.generics.functions g → Leads (inside m (matched ev us g f ms)) w r n) → Leads (inside m calling) w r n
+    some_called us ms r e k h z l =
+        let x = function_taken (slice_get w.generics.functions g) (length vs) e in
+        goes (matched ev us g x.0 ms) calling r
+        (λ t. ap (λ y. matched ev y g x.0 ms (at m w) t) k
+        ∙ some_match vs g x.0 (unmatched ev g vs) ms t z ∙ ap (λ y. matched_or ev vs g x.0 (unmatched ev g vs) y (at m w) t) (h ∙ ap (ordered w g) k)
+        ∙ right_count x.0 t x.1 x.2) (l x.0 x.1)
+
+    -- ---- no-applicable-method
+
+    module _ (us : List Val) (k : us ≡ generic g ∷ vs) where
+      abbrev number : ℕ
+      number = system_number NoApplicableMethod
+
+      as_told : (o : Option Function) (t : ℕ) → o ≡ slice_get w.generics.functions number → unmatched_by ev us o (at m w) t ≡ unmatched ev g vs (at m w) t
+      as_told o t e = ap (λ x. unmatched_by ev us x (at m w) t) e ∙ ap (λ x. unmatched_by ev x (slice_get w.generics.functions number) (at m w) t) k
+
+      pub untold : (c : Condition) → None ≡ slice_get w.generics.functions number → c ≡ record { kind = ProgramError; items = [] } → Leads (inside m (unmatched ev g vs)) w (Err (Refused c)) n
+      untold c e h = stops (unmatched ev g vs) c (λ t. sym (as_told None t e)) h
+
+      pub none_told : (f : Function) (ms : List ℕ) (c : Condition) → Some f ≡ slice_get w.generics.functions number → ms ≡ ordered w number us → length ms ≡ 0
+          → c ≡ record { kind = ProgramError; items = [] } → Leads (inside m (unmatched ev g vs)) w (Err (Refused c)) n
+      none_told f ms c e h z j =
+          stops (unmatched ev g vs) c (λ t. sym (none_match us number f (stopped ProgramError []) ms t z ∙ ap (λ y. matched_or ev us number f (stopped ProgramError []) y (at m w) t) h ∙ as_told (Some f) t e)) j
+
+      pub some_told : (f : Function) (ms : List ℕ) (r : Result Doing Stop) → Some f ≡ slice_get w.generics.functions number → ms ≡ ordered w number us → (length ms ≡ 0 → ⊥)
+          → Leads (inside m (matched ev us number f ms)) w r n → Leads (inside m (unmatched ev g vs)) w r n
+      some_told f ms r e h z l =
+          goes (matched ev us number f ms) (unmatched ev g vs) r
+          (λ t. some_match us number f (stopped ProgramError []) ms t z ∙ ap (λ y. matched_or ev us number f (stopped ProgramError []) y (at m w) t) h ∙ as_told (Some f) t e) l
+
+    -- ---- a call for which these methods are applicable
+
+    module _ (f : Function) (ms : List ℕ) where
+      pub keywords_wrong : (c : Condition) → false ≡ keywords_fit w.generics g ms (after_positional f.shape vs) → c ≡ record { kind = ProgramError; items = [] }
+          → Leads (inside m (matched ev vs g f ms)) w (Err (Refused c)) n
+      keywords_wrong c e h =
+          stops (matched ev vs g f ms) c
+          (λ t. ap (λ b. if b then combined_run ev (in_call (record { generic = g; methods = ms }) vs) f (comb.effective w.generics g ms) (at m w) t else stopped ProgramError [] (at m w) t) (sym e)) h
+
+      pub keywords_right : (x : Combined) (r : Result Doing Stop) → true ≡ keywords_fit w.generics g ms (after_positional f.shape vs) → x ≡ comb.effective w.generics g ms
+          → Leads (inside m (combined_run ev (in_call (record { generic = g; methods = ms }) vs) f x)) w r n → Leads (inside m (matched ev vs g f ms)) w r n
+      keywords_right x r e h l =
+          goes (combined_run ev (in_call (record { generic = g; methods = ms }) vs) f x) (matched ev vs g f ms) r
+          (λ t. ap (λ y. combined_run ev (in_call (record { generic = g; methods = ms }) vs) f y (at m w) t) h
+          ∙ ap (λ b. if b then combined_run ev (in_call (record { generic = g; methods = ms }) vs) f (comb.effective w.generics g ms) (at m w) t else stopped ProgramError [] (at m w) t) e) l
+
+  -- ---- the methods are not combined
+
+  pub invalid_told : (env : Context) (f : Function) (x : Combined) (k : ℕ) (c : Condition) → x ≡ invalid_method k → c ≡ record { kind = InvalidMethod; items = method k ∷ [] }
+      → Leads (inside m (combined_run ev env f x)) w (Err (Refused c)) n
+  invalid_told env f x k c e h = λ t.
+      ap (λ y. closed (resume m.levels m.context (combined_run ev env f y (at m w) t))) e
+      ∙ stopped_through m.levels m.context (record { kind = InvalidMethod; items = method k ∷ [] }) (at m w) t ∙ ap (λ y. Stopped y (unbound w) t) (sym h)
+
+  pub empty_told : (env : Context) (f : Function) (x : Combined) (group : Nam) (stop : Stop) → x ≡ group_empty group.text → TellsCondition (empty_group f group) stop
+      → Leads (inside m (combined_run ev env f x)) w (Err stop) n
+  empty_told env f x group Storage e h = tt
+  empty_told env f x group (Refused c) e h = λ t.
+      ap (λ y. closed (resume m.levels m.context (combined_run ev env f y (at m w) t))) e
+      ∙ stopped_through m.levels m.context (empty_group f group) (at m w) t ∙ ap (λ y. Stopped y (unbound w) t) (sym h)

@@ -1,0 +1,6 @@
+pub mod Settled
+pub mod Growing
+pub mod Dispatching
+pub mod Counted
+pub mod Accessing
+pub mod Nexting

@@ -1,0 +1,37 @@
+-- Whether a next method may be called with other arguments.
+use Rattle.std.specs.Prelude.{◌≡◌, ℕ, List, [], ◌∷◌, Option, Some, None, Result, Ok, Err, if◌then◌else◌, length, slice_get}
+use Rattle.std.specs.Str.{bytes_eq}
+use Rattle.lisp_data.specs.Value.{Val, method}
+use Rattle.clos_world.specs.Dispatch.{ordered}
+use Rattle.clos_world.specs.World.{State}
+use Rattle.clos_world.specs.declared.condition.Condition.{Condition}
+use Rattle.clos_world.specs.declared.condition.ConditionKind.TheVariants.{NextArguments, ProgramError}
+use Rattle.clos_world.specs.declared.condition.Stop.{Stop}
+use Rattle.clos_world.specs.declared.condition.Stop.TheVariants.{Refused, Storage}
+use Rattle.clos_machine.specs.Dispatch.{Dispatch}
+use Rattle.clos_machine.specs.declared.arguments.Running.{Running}
+use Rattle.clos_calls.specs.GenericCalls.{takes_in}
+
+abbrev wrong : Option Condition
+wrong = Some (record { kind = ProgramError; items = [] })
+
+-- why these are no arguments for the next method of this one in a call
+abbrev pub refusal_for : State → ℕ → Dispatch → List Val → Option Condition
+refusal_for w m d vs =
+    if takes_in (slice_get w.generics.functions d.generic) (length vs)
+    then (if bytes_eq (ordered w d.generic vs) d.methods then None else Some (record { kind = NextArguments; items = method m ∷ [] }))
+    else wrong
+
+abbrev pub refusal_in : State → Running → Option Dispatch → List Val → Option Condition
+refusal_in w r None vs = wrong
+refusal_in w r (Some d) vs = refusal_for w r.method.0 d vs
+
+abbrev pub refusal_of : State → Option Running → Option Dispatch → List Val → Option Condition
+refusal_of w None d vs = wrong
+refusal_of w (Some r) d vs = refusal_in w r d vs
+
+-- nothing is refused, or this, unless memory ran out
+abbrev pub Refuses : Option Condition → Result (Unit {0}) Stop → Type 0
+Refuses x (Ok u) = x ≡ None
+Refuses x (Err (Refused c)) = x ≡ Some c
+Refuses x (Err Storage) = Unit {0}

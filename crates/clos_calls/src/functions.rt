@@ -1,0 +1,274 @@
+//! Calls of functions by their names (HyperSpec 3.1.2.1.2.3).
+ghost use Rattle.std.specs.Prelude.{◌≡◌, ◌∷◌, ◌++◌, ◌+◌, [], ℕ};
+ghost use Rattle.lisp_data.specs.ValueView.{value_of};
+ghost use Rattle.lisp_prims.specs.Primitive.{answer};
+ghost use Rattle.clos_forms.specs.OperatorView.{called_of};
+ghost use Rattle.clos_forms.specs.Quotation.{name_value};
+ghost use Rattle.clos_forms.specs.declared.operator.FunctionName.TheVariants.{Symbol};
+ghost use Rattle.clos_generic.specs.Table.{named};
+ghost use Rattle.clos_world.specs.FunctionName.{setter_value};
+ghost use Rattle.clos_world.specs.Functions.{function_in};
+ghost use Rattle.clos_world.specs.World.{State, seen};
+ghost use Rattle.clos_machine.specs.Calls.{applied_to, called_defined, called_function, called_setter};
+ghost use Rattle.clos_machine.specs.Fault.{answered};
+ghost use Rattle.clos_machine.specs.Functions.{place_set};
+ghost use Rattle.clos_machine.specs.Machine.{Leads, Grows, at, inside, lift};
+ghost use Rattle.clos_machine.specs.Meaning.{meaning, alone, acted, collect, collected, function_value, is_plain_function, other_function};
+ghost use Rattle.clos_machine.specs.Outcome.{Run};
+ghost use Rattle.clos_machine.specs.declared.machine.Action.TheVariants.{Call};
+
+use crate::bodies::run_body;
+use crate::generic_calls::call_generic;
+use clos_control::control::{begin, collect_next, give_up};
+use clos_forms::{Form, Forms, FunctionName, is_function, value_named};
+use clos_machine::arguments::{Arguments, Context};
+use clos_machine::fault::of_function;
+use clos_machine::machine::{Action, Doing, Frame, Machine, Target};
+use clos_machine::parameters::fits;
+use clos_world::{
+    ConditionKind, Function, Stop, Values, World, about, about_name, plain, setter_value,
+};
+use lisp_data::{Name, Value};
+use lisp_prims::Primitive;
+use std::alloc::{AllocError, Global};
+
+/// A call of the function of this name begins with its arguments.
+pub fn start_call(
+    alloc: Global,
+    machine: &mut Machine,
+    name: &Name,
+    arguments: &Forms,
+) -> Result<Doing, Stop>
+    ensures leads { (run : Run) (w : State)
+        → ((t : ℕ) → collected (meaning machine.old.room) machine.old.context arguments.now (Call name.now) (at machine.old w) t ≡ run (at machine.old w) t)
+        → Leads (inside machine.old run) w result machine.new }
+    ensures small { Grows 9 machine.old.levels result machine.new }
+{
+    let action = Action::Call(name.copy()?);
+    collect_next(machine, action, arguments, Values::new(alloc))
+}
+
+/// The next value is there.
+pub fn next_value(
+    machine: &Machine,
+    action: Action,
+    rest: Forms,
+    mut values: Values,
+    value: Value,
+) -> Result<Doing, Stop>
+    ensures leads { (run : Run) (w : State)
+        → ((t : ℕ) → collect (meaning machine.now.room) machine.now.context rest (values ++ value_of value ∷ []) (acted (meaning machine.now.room) machine.now.context action) (at machine.now w) t ≡ run (at machine.now w) t)
+        → Leads (inside machine.now run) w result machine.now }
+    ensures small { Grows (9 + lift action) machine.now.levels result machine.now }
+{
+    let _ = machine;
+    let Ok(()) = values.push(value) else {
+        return Err(give_up(action, values));
+    };
+    Ok(Doing::Collect(action, rest, values))
+}
+
+/// The new value of a place follows its arguments.
+pub fn new_value(
+    machine: &mut Machine,
+    target: Target,
+    form: &Form,
+    values: Values,
+) -> Result<Doing, Stop>
+    ensures leads { (run : Run) (w : State)
+        → ((t : ℕ) → collect (meaning machine.old.room) machine.old.context (alone form.now) values (λ vs u k. place_set (meaning machine.old.room) machine.old.context target vs u k) (at machine.old w) t ≡ run (at machine.old w) t)
+        → Leads (inside machine.old run) w result machine.new }
+    ensures small { Grows 4 machine.old.levels result machine.new }
+{
+    let next = form.copy()?;
+    begin(
+        machine,
+        next,
+        Frame::Collect(Action::Set(target), Forms::new(), values),
+    )
+}
+
+/// A function of values.
+#[tactic(auto, using(clos_machine::proofs::Turns::stopped_through))]
+pub fn compute(
+    alloc: Global,
+    machine: &mut Machine,
+    world: &World,
+    primitive: Primitive,
+    values: &Values,
+) -> Result<Doing, Stop>
+    ensures leads { Leads (inside machine.old (answered (answer primitive values.now))) (seen world.now) result machine.new }
+    ensures small { Grows 6 machine.old.levels result machine.new }
+{
+    let _ = world;
+    match primitive.call(alloc, values.as_slice()) {
+        Ok(value) => Ok(Doing::Give(value)),
+        Err(fault) => Err(of_function(alloc, fault)),
+    }
+}
+
+/// A call of the function of the program's of this name.
+#[tactic(auto, using(clos_machine::proofs::Turns::stopped_through, crate::proofs::Growing::grows_2_6))]
+pub fn call(
+    alloc: Global,
+    machine: &mut Machine,
+    world: &mut World,
+    name: &Name,
+    values: Values,
+) -> Result<Doing, Stop>
+    ensures leads { Leads (inside machine.old (λ w. called_function (meaning machine.old.room) name.now values (named w.generics (Symbol name.now)) w)) (seen world.old) result machine.new }
+    ensures same { seen world.new ≡ seen world.old }
+    ensures small { Grows 6 machine.old.levels result machine.new }
+{
+    match world.generics.named_by_symbol(name) {
+        None => call_named(alloc, machine, world, name, values),
+        Some(id) => call_generic(alloc, machine, world, id, values),
+    }
+}
+
+/// A call of the function that a `defun` gave this name.
+#[tactic(auto, using(clos_machine::proofs::Turns::stopped_through))]
+fn call_named(
+    alloc: Global,
+    machine: &mut Machine,
+    world: &World,
+    name: &Name,
+    values: Values,
+) -> Result<Doing, Stop>
+    ensures leads { Leads (inside machine.old (λ w. called_defined (meaning machine.old.room) values (name_value name.now) (function_in w.functions name.now) w)) (seen world.now) result machine.new }
+    ensures small { Grows 6 machine.old.levels result machine.new }
+{
+    match world.functions.get(name) {
+        None => {
+            let condition = about_name(alloc, ConditionKind::UndefinedFunction, name)?;
+            Err(Stop::Refused(condition))
+        }
+        Some(function) => call_function(alloc, machine, world, function, values),
+    }
+}
+
+/// A call of the function `(setf name)`, whose first argument is the last of the values.
+#[tactic(auto, using(clos_machine::proofs::Turns::stopped_through, crate::proofs::Growing::grows_2_6))]
+pub fn call_setter(
+    alloc: Global,
+    machine: &mut Machine,
+    world: &mut World,
+    name: &Name,
+    mut values: Values,
+) -> Result<Doing, Stop>
+    ensures leads { Leads (inside machine.old (called_setter (meaning machine.old.room) name.now values)) (seen world.old) result machine.new }
+    ensures same { seen world.new ≡ seen world.old }
+    ensures small { Grows 6 machine.old.levels result machine.new }
+{
+    values.put_last_first()?;
+    match world.generics.named_by_setf(name) {
+        None => call_set_function(alloc, machine, world, name, values),
+        Some(id) => call_generic(alloc, machine, world, id, values),
+    }
+}
+
+/// A call of the function that a `defun` gave the name `(setf name)`.
+#[tactic(auto, using(clos_machine::proofs::Turns::stopped_through))]
+fn call_set_function(
+    alloc: Global,
+    machine: &mut Machine,
+    world: &World,
+    name: &Name,
+    values: Values,
+) -> Result<Doing, Stop>
+    ensures leads { Leads (inside machine.old (λ w. called_defined (meaning machine.old.room) values (setter_value name.now) (function_in w.setters name.now) w)) (seen world.now) result machine.new }
+    ensures small { Grows 6 machine.old.levels result machine.new }
+{
+    match world.setters.get(name) {
+        None => {
+            let kind = ConditionKind::UndefinedFunction;
+            Err(Stop::Refused(about(alloc, kind, setter_value(alloc, name)?)?))
+        }
+        Some(function) => call_function(alloc, machine, world, function, values),
+    }
+}
+
+/// A call of a function of the program's.
+#[tactic(auto, using(clos_machine::proofs::Turns::stopped_through))]
+fn call_function(
+    alloc: Global,
+    machine: &mut Machine,
+    world: &World,
+    function: &Function,
+    values: Values,
+) -> Result<Doing, Stop>
+    ensures leads { Leads (inside machine.old (applied_to (meaning machine.old.room) values function.now)) (seen world.now) result machine.new }
+    ensures small { Grows 6 machine.old.levels result machine.new }
+{
+    if !fits(&function.lambda_list, values.as_slice()) {
+        return Err(Stop::Refused(plain(alloc, ConditionKind::ProgramError)));
+    }
+    let arguments = Arguments::new(alloc, values)?;
+    let context = Context::of_function(arguments);
+    run_body(
+        alloc,
+        machine,
+        world,
+        context,
+        &function.lambda_list,
+        &function.body,
+    )
+}
+
+/// What a `function` form names: a generic function.
+#[tactic(auto, using(clos_machine::proofs::Turns::stopped_through))]
+pub fn function_named(
+    alloc: Global,
+    machine: &mut Machine,
+    world: &World,
+    name: &FunctionName,
+) -> Result<Doing, Stop>
+    ensures leads { Leads (inside machine.old (function_value (called_of name.now))) (seen world.now) result machine.new }
+    ensures small { Grows 6 machine.old.levels result machine.new }
+{
+    match name {
+        FunctionName::Symbol(name) => match world.generics.named_by_symbol(name) {
+            Some(id) => Ok(Doing::Give(Value::Generic(id))),
+            None => {
+                let known = is_plain_function(world, name);
+                no_object(alloc, machine, world, known, value_named(name)?)
+            }
+        },
+        FunctionName::Setf(name) => {
+            match world.generics.named_by_setf(name) {
+                Some(id) => Ok(Doing::Give(Value::Generic(id))),
+                None => {
+                    let known = world.setters.get(name).is_some();
+                    no_object(alloc, machine, world, known, setter_value(alloc, name)?)
+                }
+            }
+        }
+    }
+}
+
+/// Whether a symbol names a function that is no generic function.
+fn is_plain_function(world: &World, name: &Name) -> bool
+    ensures { result ≡ is_plain_function (seen world.now) name.now }
+{
+    is_function(name) || world.functions.get(name).is_some()
+}
+
+/// A function that is no object here, or none at all.
+#[tactic(auto, using(clos_machine::proofs::Turns::stopped_through))]
+fn no_object(
+    alloc: Global,
+    machine: &Machine,
+    world: &World,
+    known: bool,
+    name: Value,
+) -> Result<Doing, Stop>
+    ensures leads { Leads (inside machine.now (other_function known (value_of name))) (seen world.now) result machine.now }
+    ensures small { Grows 6 machine.now.levels result machine.now }
+{
+    let _ = machine;
+    let _ = world;
+    if known {
+        return Err(Stop::Refused(plain(alloc, ConditionKind::Unsupported)));
+    }
+    Err(Stop::Refused(about(alloc, ConditionKind::UndefinedFunction, name)?))
+}

@@ -1,0 +1,202 @@
+//! Calls of generic functions (HyperSpec 7.6.5, 7.6.6).
+ghost use Rattle.std.specs.Prelude.{◌≡◌, ℕ, IfOk, Some, slice_get};
+ghost use Rattle.clos_comb.specs.OutcomeView.{combined_of};
+ghost use Rattle.clos_generic.specs.Table.{Function};
+ghost use Rattle.clos_world.specs.World.{State, seen};
+ghost use Rattle.clos_machine.specs.Contexts.{in_call};
+ghost use Rattle.clos_machine.specs.GenericCalls.{called_generic, combined_run, invoked, matched, unmatched};
+ghost use Rattle.clos_machine.specs.Machine.{Leads, Grows, at, inside};
+ghost use Rattle.clos_machine.specs.Meaning.{meaning};
+ghost use Rattle.clos_machine.specs.Outcome.{Run};
+ghost use Rattle.clos_objects.specs.Objects.{TellsCondition};
+ghost use Rattle.clos_calls.specs.GenericCalls.{empty_group, takes_in};
+
+use crate::keywords::keywords_fit;
+use clos_comb::Outcome;
+use clos_forms::Form;
+use clos_generic_core::{MethodIds, SystemFunction};
+use clos_machine::arguments::{Arguments, Context, Dispatch};
+use clos_machine::machine::{Doing, Frame, Level, Machine};
+use clos_world::{
+    Condition, ConditionKind, Stop, Values, World, about, about_both, called_value, plain,
+};
+use lisp_data::{GenericId, Name, Value};
+use std::alloc::{AllocError, Global};
+use std::mem;
+
+/// A call of the generic function of this number.
+pub fn call_generic(
+    alloc: Global,
+    machine: &mut Machine,
+    world: &mut World,
+    id: GenericId,
+    values: Values,
+) -> Result<Doing, Stop>
+    ensures leads { Leads (inside machine.old (λ w. called_generic (meaning machine.old.room) values id.0 (slice_get w.generics.functions id.0) w)) (seen world.old) result machine.new }
+    ensures same { seen world.new ≡ seen world.old }
+    ensures small { Grows 2 machine.old.levels result machine.new }
+{
+    if !takes(world, id, values.len()) {
+        return Err(Stop::Refused(plain(alloc, ConditionKind::ProgramError)));
+    }
+    let arguments = Arguments::new(alloc, values)?;
+    let methods = world.ordered(alloc, id, arguments.as_slice())?;
+    if methods.len() == 0 {
+        return call_unmatched(alloc, machine, world, id, &arguments);
+    }
+    call_matched(alloc, machine, world, id, methods, arguments)
+}
+
+/// Whether there is such a function, and it takes so many arguments.
+pub fn takes(world: &World, id: GenericId, count: usize) -> bool
+    ensures { result ≡ takes_in (slice_get (seen world.now).generics.functions id.0) count }
+{
+    match world.generics.function(id) {
+        None => false,
+        Some(function) => function.shape().takes_count(count as u64),
+    }
+}
+
+/// The function no-applicable-method is called with a generic function and its arguments.
+fn call_unmatched(
+    alloc: Global,
+    machine: &mut Machine,
+    world: &mut World,
+    id: GenericId,
+    arguments: &Arguments,
+) -> Result<Doing, Stop>
+    ensures leads { Leads (inside machine.old (unmatched (meaning machine.old.room) id.0 arguments.now)) (seen world.old) result machine.new }
+    ensures same { seen world.new ≡ seen world.old }
+    ensures small { Grows 2 machine.old.levels result machine.new }
+{
+    let mut values = arguments.to_values(alloc)?;
+    values.push_first(Value::Generic(id))?;
+    let arguments = Arguments::new(alloc, values)?;
+    let called = SystemFunction::NoApplicableMethod.id();
+    if world.generics.function(called).is_none() {
+        return Err(Stop::Refused(plain(alloc, ConditionKind::ProgramError)));
+    }
+    let methods = world.ordered(alloc, called, arguments.as_slice())?;
+    if methods.len() == 0 {
+        return Err(Stop::Refused(plain(alloc, ConditionKind::ProgramError)));
+    }
+    call_matched(alloc, machine, world, called, methods, arguments)
+}
+
+/// A function is called for which these methods are applicable.
+fn call_matched(
+    alloc: Global,
+    machine: &mut Machine,
+    world: &mut World,
+    id: GenericId,
+    methods: MethodIds,
+    arguments: Arguments,
+) -> Result<Doing, Stop>
+    ensures leads { (f : Function) → Some f ≡ slice_get (seen world.old).generics.functions id.0
+        → Leads (inside machine.old (matched (meaning machine.old.room) arguments id.0 f methods)) (seen world.old) result machine.new }
+    ensures same { seen world.new ≡ seen world.old }
+    ensures small { Grows 2 machine.old.levels result machine.new }
+{
+    if !keywords_fit(world, id, methods.as_slice(), arguments.as_slice()) {
+        return Err(Stop::Refused(plain(alloc, ConditionKind::ProgramError)));
+    }
+    let outcome = world.combinations.effective(
+        alloc,
+        &world.generics,
+        &mut world.meter,
+        id,
+        methods.as_slice(),
+    )?;
+    run_combined(alloc, machine, world, id, outcome, methods, arguments)
+}
+
+/// The effective method runs, or there is none.
+fn run_combined(
+    alloc: Global,
+    machine: &mut Machine,
+    world: &World,
+    id: GenericId,
+    outcome: Outcome,
+    methods: MethodIds,
+    arguments: Arguments,
+) -> Result<Doing, Stop>
+    ensures leads { (f : Function) → Some f ≡ slice_get (seen world.now).generics.functions id.0
+        → Leads (inside machine.old (combined_run (meaning machine.old.room) (in_call (record { generic = id.0; methods = methods }) arguments) f (combined_of outcome))) (seen world.now) result machine.new }
+    ensures small { Grows 2 machine.old.levels result machine.new }
+{
+    match outcome {
+        Outcome::Effective(form) => {
+            let call = Dispatch::new(alloc, id, methods)?;
+            enter_effect(machine, Context::of_call(call, arguments), form)
+        }
+        Outcome::InvalidMethod(method) => {
+            let condition = about(alloc, ConditionKind::InvalidMethod, Value::Method(method))?;
+            Err(Stop::Refused(condition))
+        }
+        Outcome::RequiredGroupEmpty(group) => Err(refuse_empty(alloc, world, id, &group)),
+    }
+}
+
+/// Why a function is not called whose combination wants a method in this group.
+fn refuse_empty(alloc: Global, world: &World, id: GenericId, group: &Name) -> Stop
+    ensures { (f : Function) → Some f ≡ slice_get (seen world.now).generics.functions id.0 → TellsCondition (empty_group f group.now) result }
+{
+    match about_empty(alloc, world, id, group) {
+        Ok(condition) => Stop::Refused(condition),
+        Err(_) => Stop::Storage,
+    }
+}
+
+fn about_empty(
+    alloc: Global,
+    world: &World,
+    id: GenericId,
+    group: &Name,
+) -> Result<Condition, AllocError>
+    ensures { IfOk result (λ c. (f : Function) → Some f ≡ slice_get (seen world.now).generics.functions id.0 → c ≡ empty_group f group.now) }
+{
+    match world.generics.function(id) {
+        None => Ok(plain(alloc, ConditionKind::ProgramError)),
+        Some(function) => {
+            let group = Value::Sym(Name::new(alloc, group.as_str(), false)?);
+            let Ok(name) = called_value(alloc, function.name()) else {
+                drop(group);
+                return Err(AllocError);
+            };
+            about_both(alloc, ConditionKind::RequiredGroupEmpty, name, group)
+        }
+    }
+}
+
+/// A call of a generic function of the system.
+pub fn invoke(
+    alloc: Global,
+    machine: &mut Machine,
+    world: &mut World,
+    function: SystemFunction,
+    values: Values,
+) -> Result<Doing, Stop>
+    ensures leads { Leads (inside machine.old (invoked (meaning machine.old.room) function values)) (seen world.old) result machine.new }
+    ensures same { seen world.new ≡ seen world.old }
+    ensures small { Grows 2 machine.old.levels result machine.new }
+{
+    call_generic(alloc, machine, world, function.id(), values)
+}
+
+/// Evaluates this next in a context of its own; the machine's comes back after it.
+#[tactic(auto, using(clos_machine::proofs::Turns::stopped_through, clos_machine::proofs::Turns::then_gave))]
+pub fn enter_effect(machine: &mut Machine, context: Context, next: Form) -> Result<Doing, Stop>
+    ensures leads { (run : Run) (w : State)
+        → ((t : ℕ) → meaning machine.old.room context next (at machine.old w) t ≡ run (at machine.old w) t)
+        → Leads (inside machine.old run) w result machine.new }
+    ensures small { Grows 2 machine.old.levels result machine.new }
+{
+    let room = machine.room;
+    let saved = mem::replace(&mut machine.context, context);
+    let frame = Frame::Known(saved);
+    let Ok(()) = machine.levels.push(Level { frame, room }) else {
+        drop(next);
+        return Err(Stop::Storage);
+    };
+    Ok(Doing::Start(next))
+}

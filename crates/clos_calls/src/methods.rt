@@ -1,0 +1,173 @@
+//! Methods that run (HyperSpec 7.6.6).
+ghost use Rattle.std.specs.Prelude.{◌≡◌, IfOk, slice_get};
+ghost use Rattle.clos_forms.specs.CallMethodView.{callable};
+ghost use Rattle.clos_world.specs.World.{seen};
+ghost use Rattle.clos_machine.specs.Calls.{made_run, method_body_run, method_called, method_run};
+ghost use Rattle.clos_machine.specs.Contexts.{running, with_arguments};
+ghost use Rattle.clos_machine.specs.Machine.{Leads, Grows, inside};
+ghost use Rattle.clos_machine.specs.Meaning.{meaning};
+ghost use Rattle.clos_calls.specs.Methods.{forms_run};
+
+use crate::bodies::run_body;
+use clos_control::control::{begin, split};
+use clos_forms::{CalledMethod, Forms, NextMethods};
+use clos_generic_core::MethodBody;
+use clos_lambda::LambdaList;
+use clos_machine::arguments::{Arguments, Context, Running};
+use clos_machine::machine::{Action, Doing, Frame, Machine};
+use clos_machine::parameters::keys_are_even;
+use clos_objects::slots::call_reader;
+use clos_objects::system_methods::run_system_method;
+use clos_world::{ConditionKind, Stop, World, plain};
+use lisp_data::MethodId;
+use std::alloc::{AllocError, Global};
+
+/// A method of an effective form is called with the arguments of the form: one of the program's or the system's, or one that
+/// is made of a form.
+#[tactic(auto, using(clos_machine::proofs::Turns::stopped_through))]
+pub fn call_method(
+    alloc: Global,
+    machine: &mut Machine,
+    world: &World,
+    method: &CalledMethod,
+    next: &NextMethods,
+    forms: &Forms,
+) -> Result<Doing, Stop>
+    ensures leads { Leads (inside machine.old (method_called (meaning machine.old.room) machine.old.context (callable method.now) next.now forms.now)) (seen world.now) result machine.new }
+    ensures small { Grows 9 machine.old.levels result machine.new }
+{
+    match method {
+        CalledMethod::Method(id) => {
+            let arguments = machine.context.arguments.copy()?;
+            run_method(alloc, machine, world, arguments, *id, next, forms)
+        }
+        CalledMethod::Made => run_made(alloc, machine, world, forms),
+    }
+}
+
+/// A method that is made of the first of these forms runs.
+#[tactic(auto, using(clos_machine::proofs::Turns::stopped_through, clos_machine::proofs::Turns::then_gave))]
+fn run_made(
+    alloc: Global,
+    machine: &mut Machine,
+    world: &World,
+    forms: &Forms,
+) -> Result<Doing, Stop>
+    ensures leads { Leads (inside machine.old (made_run (meaning machine.old.room) machine.old.context forms.now)) (seen world.now) result machine.new }
+    ensures small { Grows 9 machine.old.levels result machine.new }
+{
+    let _ = world;
+    match split(forms)? {
+        None => Err(Stop::Refused(plain(alloc, ConditionKind::ProgramError))),
+        Some((first, _)) => begin(machine, first, Frame::Passing),
+    }
+}
+
+/// A method runs on these arguments, with these next methods, of which those that are made are made of these forms.
+#[tactic(auto, using(clos_machine::proofs::Turns::stopped_through))]
+pub fn run_method(
+    alloc: Global,
+    machine: &mut Machine,
+    world: &World,
+    arguments: Arguments,
+    id: MethodId,
+    next: &NextMethods,
+    forms: &Forms,
+) -> Result<Doing, Stop>
+    ensures leads { Leads (inside machine.old (method_run (meaning machine.old.room) (running id.0 next.now forms.now (with_arguments arguments machine.old.context)) (slice_get (seen world.now).generics.methods id.0))) (seen world.now) result machine.new }
+    ensures small { Grows 9 machine.old.levels result machine.new }
+{
+    match world.generics.method(id) {
+        None => Err(Stop::Refused(plain(alloc, ConditionKind::ProgramError))),
+        Some(method) => run_method_body(
+            alloc,
+            machine,
+            world,
+            arguments,
+            id,
+            next,
+            forms,
+            &method.body,
+        ),
+    }
+}
+
+/// A method does what its body does with these arguments.
+#[tactic(auto, using(crate::proofs::Growing::grows_6_9))]
+fn run_method_body(
+    alloc: Global,
+    machine: &mut Machine,
+    world: &World,
+    arguments: Arguments,
+    id: MethodId,
+    next: &NextMethods,
+    forms: &Forms,
+    body: &MethodBody,
+) -> Result<Doing, Stop>
+    ensures leads { Leads (inside machine.old (method_body_run (meaning machine.old.room) (running id.0 next.now forms.now (with_arguments arguments machine.old.context)) body.now)) (seen world.now) result machine.new }
+    ensures small { Grows 9 machine.old.levels result machine.new }
+{
+    match body {
+        MethodBody::Forms(lambda_list, body) => {
+            let context = body_context(machine, arguments, id, next, forms)?;
+            run_forms(alloc, machine, world, context, lambda_list.list(), body)
+        }
+        MethodBody::Reader(slot) => {
+            call_reader(alloc, machine, world, slot, arguments.as_slice())
+        }
+        MethodBody::Writer(slot) => {
+            let values = arguments.to_values(alloc)?;
+            Ok(Doing::Act(Action::Write(slot.copy()?), values))
+        }
+        MethodBody::System(function) => {
+            run_system_method(alloc, machine, world, *function, &arguments)
+        }
+    }
+}
+
+/// The context of the body of a method that runs for the machine's call.
+fn body_context(
+    machine: &Machine,
+    arguments: Arguments,
+    id: MethodId,
+    next: &NextMethods,
+    forms: &Forms,
+) -> Result<Context, AllocError>
+    ensures { IfOk result (λ r. r ≡ running id.0 next.now forms.now (with_arguments arguments machine.now.context)) }
+{
+    let context = machine.context.with_arguments(arguments)?;
+    let Context {
+        arguments,
+        call,
+        running: _,
+    } = context;
+    let running = Running {
+        method: id,
+        next: next.copy()?,
+        forms: forms.copy()?,
+    };
+    Ok(Context {
+        arguments,
+        call,
+        running: Some(running),
+    })
+}
+
+/// The forms of a method run in this context, unless its keyword parameters have an argument too few.
+#[tactic(auto, using(clos_machine::proofs::Turns::stopped_through))]
+fn run_forms(
+    alloc: Global,
+    machine: &mut Machine,
+    world: &World,
+    context: Context,
+    lambda_list: &LambdaList,
+    body: &Forms,
+) -> Result<Doing, Stop>
+    ensures leads { Leads (inside machine.old (forms_run (meaning machine.old.room) context lambda_list.now body.now)) (seen world.now) result machine.new }
+    ensures small { Grows 6 machine.old.levels result machine.new }
+{
+    if !keys_are_even(lambda_list, context.arguments.as_slice()) {
+        return Err(Stop::Refused(plain(alloc, ConditionKind::ProgramError)));
+    }
+    run_body(alloc, machine, world, context, lambda_list, body)
+}

@@ -1,0 +1,219 @@
+//! What a method does with its next methods (HyperSpec 7.6.6.2, 7.7 `call-next-method`, `next-method-p`).
+ghost use Rattle.std.specs.Prelude.{◌≡◌, ◌∷◌, IfOk, map};
+ghost use Rattle.std.specs.Str.{bytes_eq};
+ghost use Rattle.lisp_data.specs.Value.{generic, method};
+ghost use Rattle.lisp_data.specs.ValueView.{value_of};
+ghost use Rattle.clos_generic_core.specs.MethodIds.{method_numbers};
+ghost use Rattle.clos_world.specs.World.{State, seen};
+ghost use Rattle.clos_machine.specs.Calls.{made_run};
+ghost use Rattle.clos_machine.specs.Contexts.{with_arguments};
+ghost use Rattle.clos_machine.specs.Machine.{Leads, Grows, at, inside};
+ghost use Rattle.clos_machine.specs.Meaning.{meaning};
+ghost use Rattle.clos_machine.specs.NextMethods.{has_next, next_called, next_given, none_next};
+ghost use Rattle.clos_calls.specs.NextMethods.{Refuses, refusal_for, refusal_of};
+ghost use Rattle.clos_machine.specs.Meaning.{next_method};
+ghost use Rattle.clos_machine.specs.Outcome.{Run};
+
+use crate::generic_calls::{enter_effect, takes};
+use crate::methods::run_method;
+use clos_control::control::{collect_next, split};
+use clos_forms::{CalledMethod, Forms};
+use clos_generic_core::SystemFunction;
+use clos_machine::arguments::{Arguments, Dispatch};
+use clos_machine::machine::{Action, Doing, Machine};
+use clos_world::{ConditionKind, Stop, Values, World, about, plain};
+use lisp_data::{MethodId, Value};
+use std::alloc::{AllocError, Global};
+
+/// Whether the method that runs has a next method.
+pub fn has_next(machine: &Machine) -> bool
+    ensures { result ≡ has_next machine.now.context.running }
+{
+    match &machine.context.running {
+        None => false,
+        Some(running) => running.next.first().is_some(),
+    }
+}
+
+/// A `call-next-method` form begins. Without forms the next method gets the arguments with which the method was called.
+#[tactic(auto, using(crate::proofs::Growing::grows_9_13))]
+pub fn call_next_method(
+    alloc: Global,
+    machine: &mut Machine,
+    world: &World,
+    forms: &Forms,
+) -> Result<Doing, Stop>
+    ensures leads { Leads (inside machine.old (next_method (meaning machine.old.room) machine.old.context forms.now)) (seen world.now) result machine.new }
+    ensures small { Grows 13 machine.old.levels result machine.new }
+{
+    match forms.split_first() {
+        Some(_) => collect_next(machine, Action::CallNext, forms, Values::new(alloc)),
+        None => {
+            let arguments = machine.context.arguments.copy()?;
+            run_next(alloc, machine, world, arguments)
+        }
+    }
+}
+
+/// The next method is called with other arguments. They have to be as many as the function takes, and the applicable methods
+/// and their order the same.
+pub fn call_next_given(
+    alloc: Global,
+    machine: &mut Machine,
+    world: &World,
+    values: Values,
+) -> Result<Doing, Stop>
+    ensures leads { Leads (inside machine.old (next_given (meaning machine.old.room) machine.old.context machine.old.context.running values)) (seen world.now) result machine.new }
+    ensures small { Grows 9 machine.old.levels result machine.new }
+{
+    match permit(alloc, machine, world, values.as_slice()) {
+        Err(stop) => Err(stop),
+        Ok(()) => {
+            let arguments = Arguments::new(alloc, values)?;
+            run_next(alloc, machine, world, arguments)
+        }
+    }
+}
+
+/// Whether the next method may be called with these arguments.
+fn permit(alloc: Global, machine: &Machine, world: &World, values: &[Value]) -> Result<(), Stop>
+    ensures { Refuses (refusal_of (seen world.now) machine.now.context.running machine.now.context.call (map value_of values.now)) result }
+{
+    match &machine.context.running {
+        None => Err(Stop::Refused(plain(alloc, ConditionKind::ProgramError))),
+        Some(running) => match &machine.context.call {
+            None => Err(Stop::Refused(plain(alloc, ConditionKind::ProgramError))),
+            Some(call) => permit_in(alloc, world, running.method, call, values),
+        },
+    }
+}
+
+/// Whether the next method of this one may be called with these arguments in a call.
+fn permit_in(
+    alloc: Global,
+    world: &World,
+    id: MethodId,
+    call: &Dispatch,
+    values: &[Value],
+) -> Result<(), Stop>
+    ensures { Refuses (refusal_for (seen world.now) id.0 call.now (map value_of values.now)) result }
+{
+    if !takes(world, call.generic(), values.len()) {
+        return Err(Stop::Refused(plain(alloc, ConditionKind::ProgramError)));
+    }
+    let methods = world.ordered(alloc, call.generic(), values)?;
+    if !same_methods(methods.as_slice(), call.methods()) {
+        let condition = about(alloc, ConditionKind::NextArguments, Value::Method(id))?;
+        return Err(Stop::Refused(condition));
+    }
+    Ok(())
+}
+
+/// Whether both are the same methods in the same order.
+fn same_methods(a: &[MethodId], b: &[MethodId]) -> bool
+    ensures { result ≡ bytes_eq (method_numbers a.now) (method_numbers b.now) }
+{
+    let mut left = a;
+    let mut right = b;
+    loop {
+        match (left.split_first(), right.split_first()) {
+            (None, None) => return true,
+            (Some((x, xs)), Some((y, ys))) => {
+                if x.0 != y.0 {
+                    return false;
+                }
+                left = xs;
+                right = ys;
+            }
+            _ => return false,
+        }
+    }
+}
+
+/// The next method runs on these arguments, or there is none.
+#[tactic(auto, using(clos_machine::proofs::Turns::stopped_through, crate::proofs::Growing::grows_2_9))]
+fn run_next(
+    alloc: Global,
+    machine: &mut Machine,
+    world: &World,
+    arguments: Arguments,
+) -> Result<Doing, Stop>
+    ensures leads { Leads (inside machine.old (next_called (meaning machine.old.room) machine.old.context machine.old.context.running arguments)) (seen world.now) result machine.new }
+    ensures small { Grows 9 machine.old.levels result machine.new }
+{
+    let Some(running) = &machine.context.running else {
+        return Err(Stop::Refused(plain(alloc, ConditionKind::ProgramError)));
+    };
+    match running.next.first() {
+        None => call_none(alloc, machine, world, running.method, &arguments),
+        Some(CalledMethod::Method(id)) => {
+            let next = running.next.rest()?;
+            let forms = running.forms.copy()?;
+            run_method(alloc, machine, world, arguments, id, &next, &forms)
+        }
+        Some(CalledMethod::Made) => {
+            let forms = running.forms.copy()?;
+            run_made_with(alloc, machine, world, arguments, &forms)
+        }
+    }
+}
+
+/// A method that is made of the first of these forms runs with these arguments.
+#[tactic(auto, using(clos_machine::proofs::Turns::stopped_through))]
+fn run_made_with(
+    alloc: Global,
+    machine: &mut Machine,
+    world: &World,
+    arguments: Arguments,
+    forms: &Forms,
+) -> Result<Doing, Stop>
+    ensures leads { Leads (inside machine.old (made_run (meaning machine.old.room) (with_arguments arguments machine.old.context) forms.now)) (seen world.now) result machine.new }
+    ensures small { Grows 2 machine.old.levels result machine.new }
+{
+    let _ = world;
+    match split(forms)? {
+        None => Err(Stop::Refused(plain(alloc, ConditionKind::ProgramError))),
+        Some((first, _)) => {
+            let context = machine.context.with_arguments(arguments)?;
+            enter_effect(machine, context, first)
+        }
+    }
+}
+
+/// The function no-next-method is called with the generic function, this method and the arguments.
+#[tactic(auto, using(clos_machine::proofs::Turns::stopped_through))]
+fn call_none(
+    alloc: Global,
+    machine: &Machine,
+    world: &World,
+    id: MethodId,
+    arguments: &Arguments,
+) -> Result<Doing, Stop>
+    ensures leads { Leads (inside machine.now (none_next (meaning machine.now.room) machine.now.context.call id.0 arguments.now)) (seen world.now) result machine.now }
+    ensures small { Grows 9 machine.now.levels result machine.now }
+{
+    let _ = world;
+    match &machine.context.call {
+        None => Err(Stop::Refused(plain(alloc, ConditionKind::ProgramError))),
+        Some(call) => {
+            let values = none_arguments(alloc, call, id, arguments)?;
+            Ok(Doing::Invoke(SystemFunction::NoNextMethod, values))
+        }
+    }
+}
+
+/// The arguments of no-next-method.
+fn none_arguments(
+    alloc: Global,
+    call: &Dispatch,
+    id: MethodId,
+    arguments: &Arguments,
+) -> Result<Values, AllocError>
+    ensures { IfOk result (λ r. r ≡ generic call.now.generic ∷ method id.0 ∷ arguments.now) }
+{
+    let mut values = Values::new(alloc);
+    values.push(Value::Generic(call.generic()))?;
+    values.push(Value::Method(id))?;
+    values.push_all(arguments.as_slice())?;
+    Ok(values)
+}
