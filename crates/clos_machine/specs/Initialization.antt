@@ -44,11 +44,16 @@ is_keyword_of methods ms (Some name) = list_any (method_names methods name) ms
 abbrev pub is_valid : List Method → List ℕ → List EffectiveSlot → Val → Bool
 is_valid methods ms slots v = is_allow_other_keys v || (fills slots v || is_keyword_of methods ms (symbol_in v))
 
--- the leftmost name that is not valid
-abbrev pub first_invalid : List Method → List ℕ → List EffectiveSlot → List Val → Option Val
-first_invalid methods ms slots [] = None
-first_invalid methods ms slots (k ∷ []) = None
-first_invalid methods ms slots (k ∷ (v ∷ vs)) = if is_valid methods ms slots k then first_invalid methods ms slots vs else Some k
+-- the leftmost name that is not valid; one without a value is a name too
+abbrev mutual
+  pub first_invalid : List Method → List ℕ → List EffectiveSlot → List Val → Option Val
+  first_invalid methods ms slots [] = None
+  first_invalid methods ms slots (k ∷ vs) = if is_valid methods ms slots k then first_invalid_after methods ms slots vs else Some k
+
+  -- after the value of a name
+  pub first_invalid_after : List Method → List ℕ → List EffectiveSlot → List Val → Option Val
+  first_invalid_after methods ms slots [] = None
+  first_invalid_after methods ms slots (v ∷ vs) = first_invalid methods ms slots vs
 
 -- A true :ALLOW-OTHER-KEYS allows all, and so does a method with &allow-other-keys.
 abbrev pub invalid_initarg : List Method → List ℕ → List EffectiveSlot → List Val → Option Val

@@ -82,12 +82,12 @@ fn first_invalid<'a>(
 {
     let mut left = initargs;
     while let Some((name, rest)) = left.split_first() {
-        let Some((_, others)) = rest.split_first() else {
-            return None;
-        };
         if !is_valid(methods, reached, slots, name) {
             return Some(name);
         }
+        let Some((_, others)) = rest.split_first() else {
+            return None;
+        };
         left = others;
     }
     None

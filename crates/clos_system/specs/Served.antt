@@ -4,9 +4,9 @@ use Rattle.std.specs.List.{list_all}
 use Rattle.lisp_data.specs.Name.{Nam}
 use Rattle.lisp_data.specs.Datum.{Dat, integer, symbol, string, list, dotted, method, Dats}
 use Rattle.lisp_data.specs.Datum as datum
-use Rattle.clos_forms.specs.Form.{Frm, form, Frms, nil, cons}
+use Rattle.clos_forms.specs.Form.{Frm, form, Frms, nil, cons, operator_in}
 use Rattle.clos_forms.specs.Names.{is_called, is_one_of, functions}
-use Rattle.clos_forms.specs.Operator.{Opr}
+use Rattle.clos_forms.specs.Operator.{Opr, call_place}
 use Rattle.clos_forms.specs.Operator as of
 use Rattle.clos_lambda.specs.LambdaList.{entries_of}
 use Rattle.clos_lambda.specs.declared.lambda_list.LambdaList.{LambdaList}
@@ -34,14 +34,26 @@ is_served_as _ name = true
 abbrev pub calls : Nam → Bool
 calls name = is_served_as (callee_of name) name
 
-abbrev pub serves : Opr → Bool
-serves (of.call name) = calls name
-serves _ = true
+-- the place of incf and decf is read by a call of its function
+abbrev pub reads : Opr → Bool
+reads (of.place (call_place name)) = calls name
+reads _ = true
+
+abbrev pub reads_first : Frms → Bool
+reads_first nil = true
+reads_first (cons f fs) = reads (operator_in f)
+
+-- whether an operator is served with these parts
+abbrev pub serves : Opr → Frms → Bool
+serves (of.call name) parts = calls name
+serves of.incf parts = reads_first parts
+serves of.decf parts = reads_first parts
+serves _ parts = true
 
 -- whether a form is served, with all that is evaluated in it
 abbrev mutual
   pub is_served : Frm → Bool
-  is_served (form o ps) = serves o && are_served ps
+  is_served (form o ps) = serves o ps && are_served ps
 
   pub are_served : Frms → Bool
   are_served nil = true

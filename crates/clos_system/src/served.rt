@@ -5,9 +5,9 @@ ghost use Rattle.lisp_data.specs.DatumView.{datum_of};
 ghost use Rattle.clos_forms.specs.OperatorView.{operator_of};
 ghost use Rattle.clos_lambda.specs.LambdaList.{entries_of};
 ghost use Rattle.clos_definition.specs.Method.{eql_form};
-ghost use Rattle.clos_system.specs.Served.{are_inits_served, are_served, calls, is_combination, is_served, is_served_as, is_served_class, is_served_function, is_served_generic, is_served_if_any, is_served_method, is_served_optional, is_served_top, is_standard, is_update, serves};
+ghost use Rattle.clos_system.specs.Served.{are_inits_served, are_served, calls, is_combination, is_served, is_served_as, is_served_class, is_served_function, is_served_generic, is_served_if_any, is_served_method, is_served_optional, is_served_top, is_standard, is_update, reads, reads_first, serves};
 
-use clos_forms::{Form, Forms, Operator, is_function, is_the};
+use clos_forms::{Form, Forms, Operator, Place, is_function, is_the};
 use clos_machine::callee::{Callee, callee_named};
 use clos_syntax::{
     ClassDefinition, CombinationUse, DefaultInitarg, GenericDefinition, Key, Keys, LambdaList,
@@ -171,7 +171,8 @@ fn is_served_if_any(form: &Option<Form>) -> bool
 pub fn is_served(form: &Form) -> bool
     ensures { result ≡ is_served form.now }
 {
-    serves(form.operator()) && are_served(form.parts())
+    let parts = form.parts();
+    serves(form.operator(), parts) && are_served(parts)
 }
 
 /// Whether all of these forms are.
@@ -189,11 +190,36 @@ pub fn are_served(forms: &Forms) -> bool
     true
 }
 
-fn serves(operator: &Operator) -> bool
-    ensures { result ≡ serves (operator_of operator.now) }
+/// Whether an operator is served with these parts.
+fn serves(operator: &Operator, parts: &Forms) -> bool
+    ensures { result ≡ serves (operator_of operator.now) parts.now }
 {
     match operator {
         Operator::Call(name) => calls(name),
+        Operator::Incf => reads_first(parts),
+        Operator::Decf => reads_first(parts),
+        _ => true,
+    }
+}
+
+/// Whether the place, the first of these parts, can be read: by a call of its function.
+fn reads_first(parts: &Forms) -> bool
+    ensures { result ≡ reads_first parts.now }
+{
+    match parts.split_first() {
+        None => true,
+        Some((place, _)) => reads(place.operator()),
+    }
+}
+
+fn reads(operator: &Operator) -> bool
+    ensures { result ≡ reads (operator_of operator.now) }
+{
+    match operator {
+        Operator::Place(place) => match place {
+            Place::Call(name) => calls(name),
+            _ => true,
+        },
         _ => true,
     }
 }

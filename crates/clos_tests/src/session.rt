@@ -52,6 +52,9 @@ const NOT_SERVED: &str = "(defvar x (princ (change-class 1 'a)))
 (f (princ 1) (change-class 1 'a))
 (progn (princ 1) (cond (nil (incf (slot-value (change-class 1 'a) 'b)))))
 (progn (princ 1) (setf (slot-value (make-instance 'a) 'b) (change-class 1 'a)))
+(progn (princ 1) (incf (change-class 1 'a)))
+(defun f (x) (decf (update-instance-for-different-class (princ 1) x)))
+(progn (princ 1) (setf (change-class 1 'a) 2)) => 1~; 3 (UNDEFINED-FUNCTION (SETF CHANGE-CLASS))~
 (defun f () (princ 1)) (defun f (&optional (x (change-class 1 'a))) 2) (f) => ; 28 (UNSUPPORTED)~1
 (defun f (&key (x (princ 1)) (y (change-class 1 'a))) x)
 (defclass a () (r (s :initform (change-class 1 'a) :allocation :class)))
