@@ -4,4 +4,4 @@ use Rattle.clos_system.proofs.served.+served.Goals as goal
 
 pub is_served-returns-else-serves : goal.is_served-returns-else-serves
 is_served-returns-else-serves n c =
-    not_served c.args.form.now (operator_of c.operator.result.now) c.parts.result.now c.serves.result c.operator.ensures c.parts.ensures c.serves.ensures c.if-serves.false
+    not_served c.args.form.now (operator_of c.operator.result.now) c.parts-parts.result.now c.serves.result c.operator.ensures c.parts-parts.ensures c.serves.ensures c.if-serves.false
