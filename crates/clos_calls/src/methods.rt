@@ -16,7 +16,7 @@ use clos_lambda::LambdaList;
 use clos_machine::arguments::{Arguments, Context, Running};
 use clos_machine::machine::{Action, Doing, Frame, Machine};
 use clos_machine::parameters::keys_are_even;
-use clos_objects::slots::call_reader;
+use clos_objects_core::slots::call_reader;
 use clos_objects::system_methods::run_system_method;
 use clos_world::{ConditionKind, Stop, World, plain};
 use lisp_data::MethodId;

@@ -15,7 +15,7 @@ use Rattle.clos_machine.specs.SlotNames.{name_set, place_denoted}
 use Rattle.clos_machine.specs.declared.machine.Doing.{Doing}
 use Rattle.clos_machine.specs.declared.machine.Machine.{Machine}
 use Rattle.clos_machine.specs.declared.machine.Target.TheVariants.{SlotValue}
-use Rattle.clos_objects.proofs.Placing.{turns_same}
+use Rattle.clos_objects_core.proofs.Placing.{turns_same}
 
 module _ (m : Machine) (name : Nam) (vs : List Val) (w : State) (s : ℕ) (r : Result Doing Stop) (n : Machine) (w' : State) (s' : ℕ) where
   abbrev pub setting : Run

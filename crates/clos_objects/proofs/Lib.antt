@@ -1,9 +1,4 @@
-pub mod Telling
-pub mod Placing
-pub mod Accessing
 pub mod Passing
 pub mod Making
-pub mod Growing
 pub mod Methods
-pub mod Finding
 pub mod Reaching

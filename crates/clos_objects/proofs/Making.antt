@@ -35,7 +35,7 @@ use Rattle.clos_objects.specs.Reached.{invalid_for_new, reached_by_new}
 use Rattle.clos_class.specs.declared.effective_slots.EffectiveSlot.{EffectiveSlot}
 use Rattle.clos_generic_core.specs.declared.method.Method.{Method}
 use Rattle.clos_objects.proofs.Reaching.{new_reached}
-use Rattle.clos_objects.proofs.Placing.{stops_at_once, turns_same}
+use Rattle.clos_objects_core.proofs.Placing.{stops_at_once, turns_same}
 
 -- ---- default initargs
 

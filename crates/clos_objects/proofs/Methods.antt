@@ -25,7 +25,8 @@ use Rattle.clos_machine.specs.SystemMethods.{class_in, filled_as, if_valid, init
 use Rattle.clos_machine.specs.declared.machine.Doing.{Doing}
 use Rattle.clos_machine.specs.declared.machine.Machine.{Machine}
 use Rattle.clos_machine.proofs.Turns.{leads_same, stopped_through}
-use Rattle.clos_objects.specs.Objects.{DesignatesInstance, TellsCondition}
+use Rattle.clos_objects.specs.Objects.{TellsCondition}
+use Rattle.clos_objects_core.specs.Slots.{DesignatesInstance}
 
 module _ (m n : Machine) (w : State) where
   -- a run that stops at once

@@ -22,7 +22,7 @@ use Rattle.clos_machine.specs.declared.machine.Filling.{Filling}
 use Rattle.clos_machine.specs.declared.machine.Machine.{Machine}
 use Rattle.clos_machine.proofs.Running.{turns_of_leads}
 use Rattle.clos_machine.proofs.Turns.{leads_same}
-use Rattle.clos_objects.proofs.Placing.{stops_at_once, turns_same}
+use Rattle.clos_objects_core.proofs.Placing.{stops_at_once, turns_same}
 use Rattle.clos_class.specs.declared.effective_slots.EffectiveSlot.{EffectiveSlot}
 use Rattle.clos_world.specs.World.{State, Local, bound_as}
 use Rattle.clos_machine.specs.Filling.{Filler, Subject, fill, fill_with, filled_by, filler, nothing, initform, slots_left, subject_of}

@@ -1,3 +1,2 @@
 pub mod Objects
-pub mod Designators
 pub mod Reached

@@ -11,7 +11,7 @@ ghost use Rattle.clos_machine.specs.Outcome.{Run};
 ghost use Rattle.clos_objects.specs.Objects.{Enters, TellsCondition, default_first, ungiven};
 ghost use Rattle.clos_objects.specs.Reached.{invalid_for_new};
 
-use crate::classes::designate;
+use clos_objects_core::classes::designate;
 use crate::initargs::{invalid_initarg, is_given};
 use crate::reached::reached_by_new;
 use clos_control::control::{begin, invoke_under};

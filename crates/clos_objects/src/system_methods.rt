@@ -12,12 +12,12 @@ ghost use Rattle.clos_objects.specs.Objects.{TellsCondition, next_condition};
 ghost use Rattle.clos_world.specs.declared.condition.ConditionKind.TheVariants.{NoApplicableMethod};
 ghost use Rattle.clos_generic_core.specs.declared.system.SystemFunction.TheVariants.{SharedInitialize};
 
-use crate::class_functions::wrong_type;
+use clos_objects_core::class_functions::wrong_type;
 use crate::creation::{enter, refuse};
 use crate::initargs::invalid_initarg;
 use crate::reached::methods_reached;
 use crate::slot_names::are_slot_names;
-use crate::slots::instance_in;
+use clos_objects_core::slots::instance_in;
 use clos_control::control::invoke_under;
 use clos_forms::Forms;
 use clos_generic_core::SystemFunction;
@@ -50,7 +50,7 @@ pub fn run_system_method(
 }
 
 /// The same with arguments that begin with this one.
-#[tactic(auto, using(crate::proofs::Growing::grows_5_9, clos_machine::proofs::Turns::stopped_through))]
+#[tactic(auto, using(clos_objects_core::proofs::Growing::grows_5_9, clos_machine::proofs::Turns::stopped_through))]
 fn run_with(
     alloc: Global,
     machine: &mut Machine,

@@ -1,0 +1,82 @@
+-- Calls of readers and writers.
+use Rattle.std.proofs.Common.{◌≡◌, ℕ, List, [], ◌∷◌, Some, None, Result, Ok, Err, refl, ap, sym, ◌∙◌}
+use Rattle.std.specs.Prelude.{unwrap_or}
+use Rattle.lisp_data.specs.Name.{Nam}
+use Rattle.lisp_data.specs.Value.{Val}
+use Rattle.clos_store.specs.Store.{slot_found}
+use Rattle.clos_world.specs.Values.{only_value}
+use Rattle.clos_world.specs.World.{State, unbound}
+use Rattle.clos_world.specs.declared.condition.Condition.{Condition}
+use Rattle.clos_world.specs.declared.condition.ConditionKind.TheVariants.{ProgramError}
+use Rattle.clos_world.specs.declared.condition.Stop.{Stop}
+use Rattle.clos_world.specs.declared.condition.Stop.TheVariants.{Refused, Storage}
+use Rattle.clos_machine.specs.Accessors.{read_by, read_of, written_by, written_of}
+use Rattle.clos_machine.specs.Machine.{Leads, Turns, at, inside, resume}
+use Rattle.clos_machine.specs.Meaning.{closed}
+use Rattle.clos_machine.specs.Outcome.{Eval, Stopped, stopped}
+use Rattle.clos_machine.specs.Slots.{instance_in, slot_read}
+use Rattle.clos_machine.specs.declared.arguments.Context.{Context}
+use Rattle.clos_machine.specs.declared.machine.Doing.{Doing}
+use Rattle.clos_machine.specs.declared.machine.Machine.{Machine}
+use Rattle.clos_machine.proofs.Turns.{leads_same, stopped_through}
+use Rattle.clos_objects_core.specs.Slots.{DesignatesInstance, two_of}
+use Rattle.clos_objects_core.proofs.Placing.{stops_at_once}
+
+module _ (ev : Eval) (env : Context) (slot : Nam) where
+  -- ---- a reader
+
+  none_at : (xs : List Val) (w : State) (s : ℕ) → None ≡ only_value xs → read_by ev env slot xs w s ≡ stopped ProgramError [] w s
+  none_at [] w s e = refl
+  none_at (x ∷ []) w s e = absurd (cc e)
+  none_at (x ∷ (y ∷ xs)) w s e = refl
+
+  one_at : (xs : List Val) (a : Val) (w : State) (s : ℕ) → Some a ≡ only_value xs → read_of ev env slot (instance_in a) w s ≡ read_by ev env slot xs w s
+  one_at [] a w s e = absurd (cc e)
+  one_at (x ∷ []) a w s e = ap (λ v. read_of ev env slot (instance_in v) w s) (ap (λ o. unwrap_or o x) e)
+  one_at (x ∷ (y ∷ xs)) a w s e = absurd (cc e)
+
+  pub not_one : (m n : Machine) (xs : List Val) (c : Condition) (w : State) → None ≡ only_value xs → c ≡ record { kind = ProgramError; items = [] }
+      → Leads (inside m (read_by ev env slot xs)) w (Err (Refused c)) n
+  not_one m n xs c w e k = λ t.
+      ap (λ o. closed (resume m.levels m.context o)) (none_at xs (at m w) t e) ∙ stopped_through m.levels m.context (record { kind = ProgramError; items = [] }) (at m w) t
+      ∙ ap (λ x. Stopped x (unbound w) t) (sym k)
+
+  pub reads : (m n : Machine) (xs : List Val) (a : Val) (i : ℕ) (r : Result Doing Stop) (w : State) → Some a ≡ only_value xs → instance_in a ≡ Ok i
+      → Leads (inside m (λ u. slot_read ev env i slot (slot_found u.store i slot) u)) w r n → Leads (inside m (read_by ev env slot xs)) w r n
+  reads m n xs a i r w e k h =
+      leads_same (inside m (λ u. slot_read ev env i slot (slot_found u.store i slot) u)) (inside m (read_by ev env slot xs)) w r n
+      (λ t. ap (λ o. closed (resume m.levels m.context o)) (ap (λ d. read_of ev env slot d (at m w) t) (sym k) ∙ one_at xs a (at m w) t e)) h
+
+  pub reads_nothing : (m n : Machine) (xs : List Val) (a : Val) (stop : Stop) (w : State) → Some a ≡ only_value xs → DesignatesInstance (instance_in a) (Err stop)
+      → Leads (inside m (read_by ev env slot xs)) w (Err stop) n
+  reads_nothing m n xs a Storage w e k = tt
+  reads_nothing m n xs a (Refused c) w e k = λ t.
+      ap (λ o. closed (resume m.levels m.context o)) (sym (one_at xs a (at m w) t e) ∙ ap (λ d. read_of ev env slot d (at m w) t) k)
+      ∙ stopped_through m.levels m.context c (at m w) t
+
+  -- ---- a writer
+
+  not_two_at : (xs : List Val) (w : State) (s : ℕ) → None ≡ two_of xs → written_by ev env slot xs w s ≡ stopped ProgramError [] w s
+  not_two_at [] w s e = refl
+  not_two_at (x ∷ []) w s e = refl
+  not_two_at (x ∷ (y ∷ [])) w s e = absurd (cc e)
+  not_two_at (x ∷ (y ∷ (z ∷ xs))) w s e = refl
+
+  pub not_both : (m n : Machine) (vs us : List Val) (c : Condition) (w : State) (s : ℕ) → None ≡ two_of us → us ≡ vs
+      → c ≡ record { kind = ProgramError; items = [] } → Turns (inside m (written_by ev env slot vs)) w s (Err (Refused c)) n w s
+  not_both m n vs us c w s e k h =
+      stops_at_once m n (written_by ev env slot vs) w s c
+      (ap (λ xs. written_by ev env slot xs (at m w) s) (sym k) ∙ not_two_at us (at m w) s e ∙ ap (λ d. Stopped d (at m w) s) (sym h))
+
+  two_at : (xs : List Val) (x v : Val) (w : State) (s : ℕ) → Some (x, v) ≡ two_of xs → written_of ev env slot x (instance_in v) w s ≡ written_by ev env slot xs w s
+  two_at [] x v w s e = absurd (cc e)
+  two_at (a ∷ []) x v w s e = absurd (cc e)
+  two_at (a ∷ (b ∷ [])) x v w s e = ap (λ p. written_of ev env slot p.0 (instance_in p.1) w s) (ap (λ o. unwrap_or o (a, b)) e)
+  two_at (a ∷ (b ∷ (c ∷ xs))) x v w s e = absurd (cc e)
+
+  pub writes_nothing : (m n : Machine) (vs us : List Val) (x v : Val) (stop : Stop) (w : State) (s : ℕ) → Some (x, v) ≡ two_of us → us ≡ vs
+      → DesignatesInstance (instance_in v) (Err stop) → Turns (inside m (written_by ev env slot vs)) w s (Err stop) n w s
+  writes_nothing m n vs us x v Storage w s e k d = (refl, refl)
+  writes_nothing m n vs us x v (Refused c) w s e k d =
+      stops_at_once m n (written_by ev env slot vs) w s c
+      (ap (λ xs. written_by ev env slot xs (at m w) s) (sym k) ∙ sym (two_at us x v (at m w) s e) ∙ ap (λ q. written_of ev env slot x q (at m w) s) d)

@@ -1,0 +1,5 @@
+pub mod Telling
+pub mod Placing
+pub mod Accessing
+pub mod Growing
+pub mod Finding

@@ -1,0 +1,13 @@
+use Rattle.std.proofs.Common.{ap, ◌∙◌}
+use Rattle.clos_world.specs.World.{seen}
+use Rattle.clos_generic_core.specs.declared.system.SystemFunction.TheVariants.{SlotMissing}
+use Rattle.clos_machine.specs.GenericCalls.{invoked}
+use Rattle.clos_machine.specs.Machine.{inside}
+use Rattle.clos_machine.specs.Meaning.{meaning}
+use Rattle.clos_machine.specs.Slots.{slot_read}
+use Rattle.clos_objects_core.proofs.slots.read.Goals as goal
+
+pub returns-in_ok-arguments-in-None-clause-leads : goal.returns-in_ok-arguments-in-None-clause-leads
+returns-in_ok-arguments-in-None-clause-leads c = λ t.
+    ap (λ vs. inside c.args.machine.now (invoked (meaning c.args.machine.now.room) SlotMissing vs) (seen c.args.world.now) t) c.in_ok-arguments-in-None.ensures
+    ∙ ap (λ o. inside c.args.machine.now (slot_read (meaning c.args.machine.now.room) c.args.machine.now.context c.args.id.0 c.args.name.now o) (seen c.args.world.now) t) c.in-None.ensures

@@ -1,0 +1,2 @@
+pub mod Designators
+pub mod Slots
