@@ -15,5 +15,4 @@ pub use class::{check_class, make_class, prepare_class};
 pub use effect::{Effect, make};
 pub use generic::{check_generic, generic_forms, prepare_generic};
 pub use method::{check_method, method_forms, number_of, prepare_method};
-pub use refusal::is_taken;
 pub use removal::{find_removable, remove};

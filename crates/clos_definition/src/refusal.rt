@@ -12,7 +12,7 @@ use clos_world::{Condition, ConditionKind, Stop, World, about, called_value, pla
 use std::alloc::{AllocError, Global};
 
 /// Whether the name is that of a function that is no generic function.
-pub fn is_taken(world: &World, name: &FunctionName) -> bool
+fn is_taken(world: &World, name: &FunctionName) -> bool
     ensures { result ≡ is_taken (seen world.now) name.now }
 {
     match name {
