@@ -11,7 +11,6 @@ ghost use Rattle.clos_machine.specs.Outcome.{Run};
 ghost use Rattle.clos_objects.specs.Objects.{Enters, TellsCondition, default_first, ungiven};
 ghost use Rattle.clos_objects.specs.Reached.{invalid_for_new};
 
-use clos_objects_core::classes::designate;
 use crate::initargs::{invalid_initarg, is_given};
 use crate::reached::reached_by_new;
 use clos_control::control::{begin, invoke_under};
@@ -22,6 +21,7 @@ use clos_machine::finalized::Finalized;
 use clos_machine::locals::Locals;
 use clos_machine::machine::{Action, Doing, Frame, Level, Machine};
 use clos_machine::parameters::are_pairs;
+use clos_objects_core::classes::designate;
 use clos_syntax::DefaultInitarg;
 use clos_world::{Condition, ConditionKind, Stop, Values, World, about, about_both, plain};
 use lisp_data::{ClassId, InstanceId, Value};

@@ -12,12 +12,10 @@ ghost use Rattle.clos_objects.specs.Objects.{TellsCondition, next_condition};
 ghost use Rattle.clos_world.specs.declared.condition.ConditionKind.TheVariants.{NoApplicableMethod};
 ghost use Rattle.clos_generic_core.specs.declared.system.SystemFunction.TheVariants.{SharedInitialize};
 
-use clos_objects_core::class_functions::wrong_type;
 use crate::creation::{enter, refuse};
 use crate::initargs::invalid_initarg;
 use crate::reached::methods_reached;
 use crate::slot_names::are_slot_names;
-use clos_objects_core::slots::instance_in;
 use clos_control::control::invoke_under;
 use clos_forms::Forms;
 use clos_generic_core::SystemFunction;
@@ -26,6 +24,8 @@ use clos_machine::finalized::Finalized;
 use clos_machine::machine::{Action, Doing, Filling, Frame, Machine};
 use clos_machine::parameters::are_even;
 use clos_machine::truth::{nil, t};
+use clos_objects_core::class_functions::wrong_type;
+use clos_objects_core::slots::instance_in;
 use clos_world::{
     Condition, ConditionKind, Stop, Values, World, about, about_both, called_value, plain,
 };
