@@ -19,12 +19,22 @@ use std::marker::Model;
 use std::rc::Rc;
 
 /// The layout of a class, its slots, whose places are found by their names, and its default initargs.
-#[derive(Drop)]
 pub struct Effective {
     layout: Rc<Layout>,
     names: NameSet,
     slots: Sequence<EffectiveSlot>,
     defaults: Sequence<DefaultInitarg>,
+}
+
+impl Drop for Effective {
+    fn drop(self) {
+        let Effective {
+            layout: _,
+            names: _,
+            slots: _,
+            defaults: _,
+        } = self;
+    }
 }
 
 impl Model for Effective {

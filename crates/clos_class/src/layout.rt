@@ -14,10 +14,18 @@ use std::collections::HashMap;
 use std::marker::Model;
 
 /// The local slots of instances, and the shared ones with their cells. Contracts see both as lists.
-#[derive(Drop)]
 pub struct Layout {
     locals: NameSet,
     shared: IndexMap<Name, CellId>,
+}
+
+impl Drop for Layout {
+    fn drop(self) {
+        let Layout {
+            locals: _,
+            shared: _,
+        } = self;
+    }
 }
 
 impl Model for Layout {

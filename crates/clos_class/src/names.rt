@@ -54,9 +54,14 @@ pub fn add_names(names: &mut Sequence<Name>, more: &[Name]) -> Result<(), AllocE
 }
 
 /// Names, each once, in the order in which they came. Contracts see the list.
-#[derive(Drop)]
 pub struct NameSet {
     names: IndexSet<Name>,
+}
+
+impl Drop for NameSet {
+    fn drop(self) {
+        let NameSet { names: _ } = self;
+    }
 }
 
 impl Model for NameSet {

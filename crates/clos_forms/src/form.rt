@@ -11,9 +11,15 @@ use std::rc::Rc;
 
 /// A form: an operator and its parts. Contracts see it as the definitions do.
 #[cycle(form)]
-#[derive(Drop)]
 pub struct Form {
     node: Rc<Node>,
+}
+
+impl Drop for Form {
+    #[cycle(form)]
+    fn drop(self) {
+        let Form { node: _ } = self;
+    }
 }
 
 #[cycle(form)]

@@ -17,7 +17,6 @@ use lisp_data::{Data, Datum, Name};
 use std::alloc::{AllocError, Global};
 
 /// A lambda list. No variable stands twice in it (HyperSpec 3.4.1).
-#[derive(Drop)]
 pub struct LambdaList {
     pub required: Sequence<Name>,
     pub optional: Sequence<Optional>,
@@ -25,6 +24,17 @@ pub struct LambdaList {
     pub rest: Option<Name>,
     /// What follows `&key`, where it stands.
     pub keys: Option<Keys>,
+}
+
+impl Drop for LambdaList {
+    fn drop(self) {
+        let LambdaList {
+            required: _,
+            optional: _,
+            rest: _,
+            keys: _,
+        } = self;
+    }
 }
 
 /// A variable with its init form, and the variable that tells whether there is an argument, where they are written.

@@ -8,9 +8,14 @@ use std::alloc::{AllocError, Global};
 use std::marker::Model;
 
 /// Values, in order. Contracts see the list.
-#[derive(Drop)]
 pub struct Values {
     values: Vec<Value>,
+}
+
+impl Drop for Values {
+    fn drop(self) {
+        let Values { values: _ } = self;
+    }
 }
 
 impl Model for Values {
