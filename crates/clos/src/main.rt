@@ -1,17 +1,12 @@
-//! The program `clos`: runs files of Lisp.
+//! The program `clos`: runs files of Lisp over the process's own input and outputs.
 #![tactic(auto)]
 
-mod command_line;
-mod program;
-mod settings;
-#[cfg(test)]
-mod tests;
-
 use clap::error::ErrorKind;
-use clos_system::Session;
-use program::{Fault, STATUS_DONE, STATUS_FAULT, STATUS_USAGE, report};
-use settings::Settings;
-use std::io::{self, BufWriter, IsTerminal};
+use clos_command_line::Settings;
+use clos_program::{
+    Fault, STATUS_DONE, STATUS_FAULT, STATUS_USAGE, Session, limits, program, reads_input, report,
+};
+use std::io::{self, BufWriter, IsTerminal, Write};
 use std::process::ExitCode;
 
 /// Tells of a fault on standard error, and gives its status.
@@ -27,30 +22,39 @@ fn tell_waiting(rt: &HostRuntime) {
     }
 }
 
-/// Runs what the settings ask for over the process's own input and outputs.
-fn run_settings(rt: &HostRuntime, settings: &Settings<'_>) -> u8 {
+/// Runs what the settings ask for, and writes to this output.
+fn run_over<O: Write>(rt: &HostRuntime, settings: &Settings<'_>, output: &mut O) -> u8 {
     let alloc = rt.alloc();
-    let Ok(mut session) = Session::new(alloc, program::limits(settings)) else {
+    let Ok(mut session) = Session::new(alloc, limits(settings)) else {
         return fail(rt, Fault::Memory);
     };
-    let Ok(mut output) = BufWriter::new(alloc, io::writer(rt)) else {
-        return fail(rt, Fault::Memory);
-    };
-    if settings.files.is_empty() {
+    if reads_input(settings) {
         tell_waiting(rt);
     }
-    program::program(
+    program(
         rt,
         alloc,
         &mut session,
         settings,
         &mut rt.reader(),
-        &mut output,
+        output,
         &mut rt.stderr(),
     )
 }
 
-/// Shows help on standard output, and a fault of the command line on standard error.
+/// Runs what the settings ask for. What goes to a terminal is written after each form, and not held back.
+fn run_settings(rt: &HostRuntime, settings: &Settings<'_>) -> u8 {
+    let mut output = io::writer(rt);
+    if rt.stdout().is_terminal() {
+        return run_over(rt, settings, &mut output);
+    }
+    match BufWriter::new(rt.alloc(), output) {
+        Ok(mut buffered) => run_over(rt, settings, &mut buffered),
+        Err(_) => fail(rt, Fault::Memory),
+    }
+}
+
+/// Shows help or the version on standard output, and a fault of the command line on standard error.
 fn show(rt: &HostRuntime, error: &clap::Error) -> u8 {
     if error.kind() == ErrorKind::OutOfMemory {
         return fail(rt, Fault::Memory);
@@ -84,7 +88,7 @@ fn status(rt: &HostRuntime) -> u8 {
         Ok(words) => words,
         Err(error) => return refuse_words(rt, &error),
     };
-    match command_line::settings(rt.alloc(), words.as_slice()) {
+    match clos_command_line::settings(rt.alloc(), words.as_slice()) {
         Ok(settings) => run_settings(rt, &settings),
         Err(error) => show(rt, &error),
     }

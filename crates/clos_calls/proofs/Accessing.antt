@@ -8,12 +8,12 @@ use Rattle.clos_generic_core.specs.declared.method.MethodBody.{MethodBody}
 use Rattle.clos_generic_core.specs.declared.method.MethodBody.TheVariants.{Forms, Reader, System, Writer}
 use Rattle.clos_generic_core.specs.declared.system.SystemFunction.{SystemFunction}
 use Rattle.clos_lambda.specs.declared.lambda_list.LambdaList.{LambdaList}
-use Rattle.clos_store.specs.Store.{slot_found}
-use Rattle.clos_world.specs.World.{State}
-use Rattle.clos_world.specs.declared.condition.Condition.{Condition}
+use Rattle.clos_machine.specs.clos_world.clos_store.Store.{slot_found}
+use Rattle.clos_machine.specs.clos_world.World.{State}
+use Rattle.clos_machine.specs.clos_world.declared.condition.Condition.{Condition}
 use Rattle.clos_machine.specs.Accessors.{read_by, read_of, written_by, written_of}
-use Rattle.clos_world.specs.declared.condition.ConditionKind.TheVariants.{ProgramError}
-use Rattle.clos_world.specs.declared.condition.Stop.{Stop}
+use Rattle.clos_machine.specs.clos_world.declared.condition.ConditionKind.TheVariants.{ProgramError}
+use Rattle.clos_machine.specs.clos_world.declared.condition.Stop.{Stop}
 use Rattle.clos_machine.specs.Bodies.{body_run}
 use Rattle.clos_machine.specs.Calls.{keys_are_even, method_body_run}
 use Rattle.clos_machine.specs.Machine.{Leads, at, inside, resume}

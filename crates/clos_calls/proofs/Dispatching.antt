@@ -3,16 +3,16 @@ use Rattle.std.proofs.Common.{◌≡◌, ℕ, List, [], ◌∷◌, true, false, 
 use Rattle.std.specs.Prelude.{if◌then◌else◌, is_some, option_map}
 use Rattle.lisp_data.specs.Name.{Nam}
 use Rattle.lisp_data.specs.Value.{Val, generic, method}
-use Rattle.clos_generic.specs.Table.{Function}
+use Rattle.clos_machine.specs.clos_world.clos_generic.Table.{Function}
 use Rattle.clos_generic_core.specs.Shape.{takes_count}
 use Rattle.clos_generic_core.specs.System.{system_number}
 use Rattle.clos_generic_core.specs.declared.system.SystemFunction.TheVariants.{NoApplicableMethod}
-use Rattle.clos_world.specs.Dispatch.{ordered}
-use Rattle.clos_world.specs.World.{State, unbound}
-use Rattle.clos_world.specs.declared.condition.Condition.{Condition}
-use Rattle.clos_world.specs.declared.condition.ConditionKind.TheVariants.{InvalidMethod, ProgramError}
-use Rattle.clos_world.specs.declared.condition.Stop.{Stop}
-use Rattle.clos_world.specs.declared.condition.Stop.TheVariants.{Refused, Storage}
+use Rattle.clos_machine.specs.clos_world.Dispatch.{ordered}
+use Rattle.clos_machine.specs.clos_world.World.{State, unbound}
+use Rattle.clos_machine.specs.clos_world.declared.condition.Condition.{Condition}
+use Rattle.clos_machine.specs.clos_world.declared.condition.ConditionKind.TheVariants.{InvalidMethod, ProgramError}
+use Rattle.clos_machine.specs.clos_world.declared.condition.Stop.{Stop}
+use Rattle.clos_machine.specs.clos_world.declared.condition.Stop.TheVariants.{Refused, Storage}
 use Rattle.clos_machine.specs.GenericCalls.{after_positional, called_generic, combined_run, keywords_fit, matched, matched_or, unmatched, unmatched_by}
 use Rattle.clos_machine.specs.Contexts.{in_call}
 use Rattle.clos_machine.specs.Machine.{Leads, at, inside, resume}

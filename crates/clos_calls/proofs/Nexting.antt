@@ -5,14 +5,14 @@ use Rattle.std.specs.Str.{bytes_eq}
 use Rattle.lisp_data.specs.Value.{Val, method}
 use Rattle.clos_forms.specs.Form.{Frm, Frms, cons, nil}
 use Rattle.clos_forms.specs.Operator.{Callable, the_method, made}
-use Rattle.clos_generic.specs.Table.{Function}
+use Rattle.clos_machine.specs.clos_world.clos_generic.Table.{Function}
 use Rattle.clos_generic_core.specs.Shape.{takes_count}
-use Rattle.clos_world.specs.Dispatch.{ordered}
-use Rattle.clos_world.specs.World.{State}
-use Rattle.clos_world.specs.declared.condition.Condition.{Condition}
-use Rattle.clos_world.specs.declared.condition.ConditionKind.TheVariants.{NextArguments, ProgramError}
-use Rattle.clos_world.specs.declared.condition.Stop.{Stop}
-use Rattle.clos_world.specs.declared.condition.Stop.TheVariants.{Refused, Storage}
+use Rattle.clos_machine.specs.clos_world.Dispatch.{ordered}
+use Rattle.clos_machine.specs.clos_world.World.{State}
+use Rattle.clos_machine.specs.clos_world.declared.condition.Condition.{Condition}
+use Rattle.clos_machine.specs.clos_world.declared.condition.ConditionKind.TheVariants.{NextArguments, ProgramError}
+use Rattle.clos_machine.specs.clos_world.declared.condition.Stop.{Stop}
+use Rattle.clos_machine.specs.clos_world.declared.condition.Stop.TheVariants.{Refused, Storage}
 use Rattle.clos_machine.specs.Calls.{made_run, method_called, method_run}
 use Rattle.clos_machine.specs.Contexts.{running, with_arguments}
 use Rattle.clos_machine.specs.Dispatch.{Dispatch}

@@ -9,12 +9,12 @@ use Rattle.clos_forms.specs.Form.{Frm, Frms}
 use Rattle.clos_lambda.specs.declared.lambda_list.Keys.{Keys}
 use Rattle.clos_lambda.specs.declared.lambda_list.LambdaList.{LambdaList}
 use Rattle.clos_lambda.specs.declared.lambda_list.Optional.{Optional}
-use Rattle.clos_world.specs.Globals.{is_global}
-use Rattle.clos_world.specs.World.{State, held, Local, bound_as, unbound}
-use Rattle.clos_world.specs.declared.condition.Condition.{Condition}
-use Rattle.clos_world.specs.declared.condition.ConditionKind.TheVariants.{Unsupported}
-use Rattle.clos_world.specs.declared.condition.Stop.{Stop}
-use Rattle.clos_world.specs.declared.condition.Stop.TheVariants.{Refused, Storage}
+use Rattle.clos_machine.specs.clos_world.Globals.{is_global}
+use Rattle.clos_machine.specs.clos_world.World.{State, held, Local, bound_as, unbound}
+use Rattle.clos_machine.specs.clos_world.declared.condition.Condition.{Condition}
+use Rattle.clos_machine.specs.clos_world.declared.condition.ConditionKind.TheVariants.{Unsupported}
+use Rattle.clos_machine.specs.clos_world.declared.condition.Stop.{Stop}
+use Rattle.clos_machine.specs.clos_world.declared.condition.Stop.TheVariants.{Refused, Storage}
 use Rattle.clos_machine.specs.Bodies.{body_run, parameters_run, restoring, scoped}
 use Rattle.clos_machine.specs.Control.{sequence}
 use Rattle.clos_machine.specs.Machine.{Binds, Leads, Settles, at, given_to, inside, resume, settled, under}

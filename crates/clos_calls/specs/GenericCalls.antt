@@ -2,11 +2,11 @@
 use Rattle.std.specs.Prelude.{ℕ, Bool, false, [], ◌∷◌, Option, Some, None}
 use Rattle.lisp_data.specs.Name.{Nam}
 use Rattle.lisp_data.specs.Value.{symbol}
-use Rattle.clos_generic.specs.Table.{Function}
+use Rattle.clos_machine.specs.clos_world.clos_generic.Table.{Function}
 use Rattle.clos_generic_core.specs.Shape.{takes_count}
-use Rattle.clos_world.specs.FunctionName.{called_value}
-use Rattle.clos_world.specs.declared.condition.Condition.{Condition}
-use Rattle.clos_world.specs.declared.condition.ConditionKind.TheVariants.{RequiredGroupEmpty}
+use Rattle.clos_machine.specs.clos_world.FunctionName.{called_value}
+use Rattle.clos_machine.specs.clos_world.declared.condition.Condition.{Condition}
+use Rattle.clos_machine.specs.clos_world.declared.condition.ConditionKind.TheVariants.{RequiredGroupEmpty}
 
 -- whether there is such a function, and it takes so many arguments
 abbrev pub takes_in : Option Function → ℕ → Bool

@@ -2,7 +2,7 @@
 use Rattle.std.specs.Prelude.{[], if◌then◌else◌}
 use Rattle.clos_forms.specs.Form.{Frms}
 use Rattle.clos_lambda.specs.declared.lambda_list.LambdaList.{LambdaList}
-use Rattle.clos_world.specs.declared.condition.ConditionKind.TheVariants.{ProgramError}
+use Rattle.clos_machine.specs.clos_world.declared.condition.ConditionKind.TheVariants.{ProgramError}
 use Rattle.clos_machine.specs.Bodies.{body_run}
 use Rattle.clos_machine.specs.Calls.{keys_are_even}
 use Rattle.clos_machine.specs.Outcome.{Run, Eval, stopped}

@@ -5,10 +5,10 @@ ghost use Rattle.lisp_prims.specs.Primitive.{answer};
 ghost use Rattle.clos_forms.specs.OperatorView.{called_of};
 ghost use Rattle.clos_forms.specs.Quotation.{name_value};
 ghost use Rattle.clos_forms.specs.declared.operator.FunctionName.TheVariants.{Symbol};
-ghost use Rattle.clos_generic.specs.Table.{named};
-ghost use Rattle.clos_world.specs.FunctionName.{setter_value};
-ghost use Rattle.clos_world.specs.Functions.{function_in};
-ghost use Rattle.clos_world.specs.World.{State, seen};
+ghost use Rattle.clos_machine.specs.clos_world.clos_generic.Table.{named};
+ghost use Rattle.clos_machine.specs.clos_world.FunctionName.{setter_value};
+ghost use Rattle.clos_machine.specs.clos_world.Functions.{function_in};
+ghost use Rattle.clos_machine.specs.clos_world.World.{State, seen};
 ghost use Rattle.clos_machine.specs.Calls.{applied_to, called_defined, called_function, called_setter};
 ghost use Rattle.clos_machine.specs.Fault.{answered};
 ghost use Rattle.clos_machine.specs.Functions.{place_set};
@@ -19,13 +19,13 @@ ghost use Rattle.clos_machine.specs.declared.machine.Action.TheVariants.{Call};
 
 use crate::bodies::run_body;
 use crate::generic_calls::call_generic;
-use clos_control::control::{begin, collect_next, give_up};
 use clos_forms::{Form, Forms, FunctionName, is_function, value_named};
 use clos_machine::arguments::{Arguments, Context};
 use clos_machine::fault::of_function;
 use clos_machine::machine::{Action, Doing, Frame, Machine, Target};
+use clos_machine::moves::{begin, collect_next, give_up};
 use clos_machine::parameters::fits;
-use clos_world::{
+use clos_machine::{
     ConditionKind, Function, Stop, Values, World, about, about_name, plain, setter_value,
 };
 use lisp_data::{Name, Value};

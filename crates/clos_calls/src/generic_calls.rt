@@ -1,8 +1,8 @@
 //! Calls of generic functions (HyperSpec 7.6.5, 7.6.6).
 ghost use Rattle.std.specs.Prelude.{◌≡◌, ℕ, IfOk, Some, slice_get};
 ghost use Rattle.clos_comb.specs.OutcomeView.{combined_of};
-ghost use Rattle.clos_generic.specs.Table.{Function};
-ghost use Rattle.clos_world.specs.World.{State, seen};
+ghost use Rattle.clos_machine.specs.clos_world.clos_generic.Table.{Function};
+ghost use Rattle.clos_machine.specs.clos_world.World.{State, seen};
 ghost use Rattle.clos_machine.specs.Contexts.{in_call};
 ghost use Rattle.clos_machine.specs.GenericCalls.{called_generic, combined_run, invoked, matched, unmatched};
 ghost use Rattle.clos_machine.specs.Machine.{Leads, Grows, at, inside};
@@ -17,7 +17,7 @@ use clos_forms::Form;
 use clos_generic_core::{MethodIds, SystemFunction};
 use clos_machine::arguments::{Arguments, Context, Dispatch};
 use clos_machine::machine::{Doing, Frame, Level, Machine};
-use clos_world::{
+use clos_machine::{
     Condition, ConditionKind, Stop, Values, World, about, about_both, called_value, plain,
 };
 use lisp_data::{GenericId, Name, Value};

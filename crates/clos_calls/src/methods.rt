@@ -1,7 +1,7 @@
 //! Methods that run (HyperSpec 7.6.6).
 ghost use Rattle.std.specs.Prelude.{◌≡◌, IfOk, slice_get};
 ghost use Rattle.clos_forms.specs.CallMethodView.{callable};
-ghost use Rattle.clos_world.specs.World.{seen};
+ghost use Rattle.clos_machine.specs.clos_world.World.{seen};
 ghost use Rattle.clos_machine.specs.Calls.{made_run, method_body_run, method_called, method_run};
 ghost use Rattle.clos_machine.specs.Contexts.{running, with_arguments};
 ghost use Rattle.clos_machine.specs.Machine.{Leads, Grows, inside};
@@ -9,16 +9,16 @@ ghost use Rattle.clos_machine.specs.Meaning.{meaning};
 ghost use Rattle.clos_calls.specs.Methods.{forms_run};
 
 use crate::bodies::run_body;
-use clos_control::control::{begin, split};
 use clos_forms::{CalledMethod, Forms, NextMethods};
 use clos_generic_core::MethodBody;
 use clos_lambda::LambdaList;
 use clos_machine::arguments::{Arguments, Context, Running};
 use clos_machine::machine::{Action, Doing, Frame, Machine};
+use clos_machine::moves::{begin, split};
 use clos_machine::parameters::keys_are_even;
+use clos_machine::{ConditionKind, Stop, World, plain};
 use clos_objects::system_methods::run_system_method;
 use clos_objects_core::slots::call_reader;
-use clos_world::{ConditionKind, Stop, World, plain};
 use lisp_data::MethodId;
 use std::alloc::{AllocError, Global};
 

@@ -4,7 +4,7 @@ ghost use Rattle.std.specs.Str.{bytes_eq};
 ghost use Rattle.lisp_data.specs.Value.{generic, method};
 ghost use Rattle.lisp_data.specs.ValueView.{value_of};
 ghost use Rattle.clos_generic_core.specs.MethodIds.{method_numbers};
-ghost use Rattle.clos_world.specs.World.{State, seen};
+ghost use Rattle.clos_machine.specs.clos_world.World.{State, seen};
 ghost use Rattle.clos_machine.specs.Calls.{made_run};
 ghost use Rattle.clos_machine.specs.Contexts.{with_arguments};
 ghost use Rattle.clos_machine.specs.Machine.{Leads, Grows, at, inside};
@@ -16,12 +16,12 @@ ghost use Rattle.clos_machine.specs.Outcome.{Run};
 
 use crate::generic_calls::{enter_effect, takes};
 use crate::methods::run_method;
-use clos_control::control::{collect_next, split};
 use clos_forms::{CalledMethod, Forms};
 use clos_generic_core::SystemFunction;
 use clos_machine::arguments::{Arguments, Dispatch};
 use clos_machine::machine::{Action, Doing, Machine};
-use clos_world::{ConditionKind, Stop, Values, World, about, plain};
+use clos_machine::moves::{collect_next, split};
+use clos_machine::{ConditionKind, Stop, Values, World, about, plain};
 use lisp_data::{MethodId, Value};
 use std::alloc::{AllocError, Global};
 

@@ -3,10 +3,10 @@ use Rattle.std.proofs.Common.{◌≡◌, ℕ, List, [], ◌∷◌, Option, Some,
 use Rattle.lisp_data.specs.Name.{Nam}
 use Rattle.lisp_data.specs.Value.{Val}
 use Rattle.clos_forms.specs.Quotation.{name_value}
-use Rattle.clos_world.specs.World.{State, unbound}
-use Rattle.clos_world.specs.declared.condition.Condition.{Condition}
-use Rattle.clos_world.specs.declared.condition.ConditionKind.TheVariants.{UnboundVariable}
-use Rattle.clos_world.specs.declared.condition.Stop.TheVariants.{Refused}
+use Rattle.clos_machine.specs.clos_world.World.{State, unbound}
+use Rattle.clos_machine.specs.clos_world.declared.condition.Condition.{Condition}
+use Rattle.clos_machine.specs.clos_world.declared.condition.ConditionKind.TheVariants.{UnboundVariable}
+use Rattle.clos_machine.specs.clos_world.declared.condition.Stop.TheVariants.{Refused}
 use Rattle.clos_machine.specs.Machine.{Leads, at, inside, resume}
 use Rattle.clos_machine.specs.Meaning.{closed, meaning}
 use Rattle.clos_machine.specs.Outcome.{Out, Run, Stopped}

@@ -1,9 +1,9 @@
 -- A condition ends what would follow a value.
-use Rattle.std.proofs.Common.{◌≡◌, ℕ, Err, ap, ◌∙◌}
+use Rattle.std.proofs.Common.{Err, ap, ◌∙◌}
 use Rattle.lisp_data.specs.Value.{Val}
-use Rattle.clos_world.specs.World.{State}
-use Rattle.clos_world.specs.declared.condition.Stop.{Stop}
-use Rattle.clos_world.specs.declared.condition.Stop.TheVariants.{Refused, Storage}
+use Rattle.clos_machine.specs.clos_world.World.{State}
+use Rattle.clos_machine.specs.clos_world.declared.condition.Stop.{Stop}
+use Rattle.clos_machine.specs.clos_world.declared.condition.Stop.TheVariants.{Refused, Storage}
 use Rattle.clos_machine.specs.Machine.{Becomes, Leads, at, inside, resume}
 use Rattle.clos_machine.specs.Meaning.{closed}
 use Rattle.clos_machine.specs.Outcome.{Run, then_do}

@@ -5,8 +5,8 @@ use Rattle.lisp_data.specs.Value.{Val}
 use Rattle.clos_forms.specs.Form.{Frm, Frms, cons, operator_in, parts_in}
 use Rattle.clos_forms.specs.Operator as of
 use Rattle.clos_forms.specs.Operator.{Opr}
-use Rattle.clos_world.specs.Globals.{global_value}
-use Rattle.clos_world.specs.World.{State, Denoted, held, in_slot, local_named}
+use Rattle.clos_machine.specs.clos_world.Globals.{global_value}
+use Rattle.clos_machine.specs.clos_world.World.{State, Denoted, held, in_slot, local_named}
 use Rattle.clos_machine.specs.Machine.{Leads, Turns, Took, at, at_once, inside, resume}
 use Rattle.clos_machine.specs.Meaning.{acted, closed, collect, meaning, operated}
 use Rattle.clos_machine.specs.Outcome.{Eval, Gave, then_do}

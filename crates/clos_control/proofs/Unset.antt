@@ -1,20 +1,18 @@
 -- Variables without init forms are bound before the next that has one.
-use Rattle.std.proofs.Common.{◌≡◌, ℕ, List, [], ◌∷◌, Option, Some, None, Bool, true, false, Result, Ok, Err, refl, ap, sym, ◌∙◌}
+use Rattle.std.proofs.Common.{◌≡◌, ℕ, List, [], ◌∷◌, Option, Some, None, Bool, true, false, Err, refl, ap, sym, ◌∙◌}
 use Rattle.std.specs.Prelude.{if◌then◌else◌}
-use Rattle.lisp_data.specs.Name.{Nam}
 use Rattle.lisp_data.specs.Value as value
 use Rattle.clos_forms.specs.Form.{Frms}
 use Rattle.clos_forms.specs.Operator.{Bound}
-use Rattle.clos_world.specs.Globals.{is_global}
-use Rattle.clos_world.specs.World.{State, held, Local, bound_as, unbound}
-use Rattle.clos_world.specs.declared.condition.Condition.{Condition}
-use Rattle.clos_world.specs.declared.condition.ConditionKind.TheVariants.{Unsupported}
-use Rattle.clos_world.specs.declared.condition.Stop.{Stop}
-use Rattle.clos_world.specs.declared.condition.Stop.TheVariants.{Refused, Storage}
+use Rattle.clos_machine.specs.clos_world.Globals.{is_global}
+use Rattle.clos_machine.specs.clos_world.World.{State, held, Local, bound_as, unbound}
+use Rattle.clos_machine.specs.clos_world.declared.condition.ConditionKind.TheVariants.{Unsupported}
+use Rattle.clos_machine.specs.clos_world.declared.condition.Stop.{Stop}
+use Rattle.clos_machine.specs.clos_world.declared.condition.Stop.TheVariants.{Refused, Storage}
 use Rattle.clos_machine.specs.Machine.{at, inside, resume, unset, unset_aside, Skips, Leads}
 use Rattle.clos_machine.specs.Meaning.{closed}
 use Rattle.clos_machine.specs.Outcome.{Out, Stopped, Run, Eval, stopped}
-use Rattle.clos_machine.specs.Variables.{binding, init_form, in_order, inner, aside}
+use Rattle.clos_machine.specs.Variables.{binding, init_form, in_order, aside}
 use Rattle.clos_machine.specs.declared.arguments.Context.{Context}
 use Rattle.clos_machine.specs.declared.machine.Level.{Level}
 use Rattle.clos_machine.specs.declared.machine.Machine.{Machine}

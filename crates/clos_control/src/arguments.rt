@@ -2,16 +2,16 @@
 ghost use Rattle.std.specs.Prelude.{◌≡◌, ℕ, ◌+◌, ◌≤◌, IfOk, option_map};
 ghost use Rattle.lisp_data.specs.ValueView.{value_of};
 ghost use Rattle.clos_forms.specs.OperatorView.{operator_of};
-ghost use Rattle.clos_world.specs.World.{State, seen};
+ghost use Rattle.clos_machine.specs.clos_world.World.{State, seen};
 ghost use Rattle.clos_machine.specs.Machine.{Leads, Turns, Took, Grows, at, at_once, inside, lift};
 ghost use Rattle.clos_machine.specs.Meaning.{acted, collect, meaning};
 ghost use Rattle.clos_machine.specs.Outcome.{Run};
 
 use crate::binding::value_of_variable;
-use crate::control::{begin, give_up, split};
 use clos_forms::{Forms, Operator};
 use clos_machine::machine::{Action, Doing, Frame, Machine};
-use clos_world::{Stop, Values, World};
+use clos_machine::moves::{begin, give_up, split};
+use clos_machine::{Stop, Values, World};
 use lisp_data::Value;
 use std::alloc::AllocError;
 
@@ -97,7 +97,9 @@ pub fn collect_values(
     ensures fewer { steps.new ≤ steps.old }
 {
     let mut left = *steps;
-    let rest = take_values(machine, world, forms, &mut values, &mut left)?;
+    let Ok(rest) = take_values(machine, world, forms, &mut values, &mut left) else {
+        return Err(give_up(action, values));
+    };
     let Ok(doing) = begin_next(machine, action, rest, values) else {
         return Err(Stop::Storage);
     };

@@ -5,8 +5,8 @@ ghost use Rattle.lisp_data.specs.ValueView.{value_of};
 ghost use Rattle.lisp_prims.specs.Primitive.{answer};
 ghost use Rattle.clos_forms.specs.Form.{operator_in, parts_in, cons, nil};
 ghost use Rattle.clos_forms.specs.OperatorView.{operator_of, place_of};
-ghost use Rattle.clos_world.specs.Values.{only_value};
-ghost use Rattle.clos_world.specs.World.{State, seen};
+ghost use Rattle.clos_machine.specs.clos_world.Values.{only_value};
+ghost use Rattle.clos_machine.specs.clos_world.World.{State, seen};
 ghost use Rattle.clos_machine.specs.Assignment.{stored, stored_globally, stored_only, made_of, changed, changed_only};
 ghost use Rattle.clos_machine.specs.Fault.{answered};
 ghost use Rattle.clos_machine.specs.Machine.{Leads, Turns, Grows, Becomes, at, inside, lift, targets};
@@ -15,11 +15,11 @@ ghost use Rattle.clos_machine.specs.Outcome.{Run, then_do};
 ghost use Rattle.clos_machine.specs.declared.machine.Action.TheVariants.{Amount, NewValue, Store};
 
 use crate::binding::value_of_variable;
-use crate::control::{act_under, begin_under, collect_next, done};
 use clos_forms::{Form, Forms, Operator, Place};
 use clos_machine::fault::of_function;
 use clos_machine::machine::{Action, Doing, Frame, Machine, Target};
-use clos_world::{ConditionKind, Stop, Values, World, about_name, plain};
+use clos_machine::moves::{act_under, begin_under, collect_next, done, give_up};
+use clos_machine::{ConditionKind, Stop, Values, World, about_name, plain};
 use lisp_data::{Name, Value};
 use lisp_prims::Primitive;
 use std::alloc::Global;
@@ -385,7 +385,9 @@ pub fn with_amount(
 {
     match amount.split_first() {
         None => {
-            values.push(Value::Int(1))?;
+            let Ok(()) = values.push(Value::Int(1)) else {
+                return Err(give_up(action, values));
+            };
             Ok(Doing::Act(action, values))
         }
         Some(_) => collect_next(machine, action, amount, values),
@@ -424,8 +426,9 @@ fn set_changed(
     ensures leads { (w : State) → Leads (inside machine.old (set_place (meaning machine.old.room) machine.old.context target values (value_of value))) w result machine.new }
     ensures small { Grows 10 machine.old.levels result machine.new }
 {
-    let frame = Frame::Keep(Forms::new(), value.copy()?);
+    let given = value.copy()?;
     values.push(value)?;
+    let frame = Frame::Keep(Forms::new(), given);
     act_under(machine, Action::Set(target), values, frame)
 }
 

@@ -4,7 +4,7 @@ ghost use Rattle.lisp_data.specs.ValueView.{value_of};
 ghost use Rattle.clos_forms.specs.BoundView.{bound_slot};
 ghost use Rattle.clos_forms.specs.Form.{operator_in};
 ghost use Rattle.clos_forms.specs.Quotation.{name_value};
-ghost use Rattle.clos_world.specs.World.{State, seen};
+ghost use Rattle.clos_machine.specs.clos_world.World.{State, seen};
 ghost use Rattle.clos_machine.specs.Machine.{Grows, Leads, at, inside, slot_names};
 ghost use Rattle.clos_machine.specs.Meaning.{meaning};
 ghost use Rattle.clos_machine.specs.Outcome.{Run};
@@ -12,11 +12,11 @@ ghost use Rattle.clos_machine.specs.SlotNames.{name_read, place_denoted, with_sl
 ghost use Rattle.clos_machine.specs.Variables.{found_value};
 
 use crate::binding::{run_beside, value_of_variable};
-use crate::control::{begin, split};
 use clos_forms::{Form, Forms, Operator, SlotBinding, value_named};
 use clos_machine::locals::{Denotation, slots_of};
 use clos_machine::machine::{Action, Doing, Frame, Machine, Target};
-use clos_world::{ConditionKind, Stop, Values, World, about_name, plain};
+use clos_machine::moves::{begin, split};
+use clos_machine::{ConditionKind, Stop, Values, World, about_name, plain};
 use lisp_data::{Name, Value};
 use std::alloc::{AllocError, Global};
 

@@ -1,7 +1,7 @@
 -- Handlers that combine methods leave the state as it is.
 use Rattle.std.proofs.Common.{◌≡◌, ℕ, Result, sym, subst}
-use Rattle.clos_world.specs.World.{State}
-use Rattle.clos_world.specs.declared.condition.Stop.{Stop}
+use Rattle.clos_machine.specs.clos_world.World.{State}
+use Rattle.clos_machine.specs.clos_world.declared.condition.Stop.{Stop}
 use Rattle.clos_machine.specs.Machine.{Leads, Turns}
 use Rattle.clos_machine.specs.Outcome.{Run}
 use Rattle.clos_machine.specs.declared.machine.Doing.{Doing}

@@ -3,9 +3,9 @@ use Rattle.std.proofs.Common.{◌≡◌, ℕ, List, ◌++◌, Option, Some, None
 use Rattle.lisp_data.specs.Name.{Nam}
 use Rattle.lisp_data.specs.Value.{Val}
 use Rattle.lisp_prims.specs.declared.primitive.Primitive.{Primitive}
-use Rattle.clos_world.specs.Values.{last_first, only_value}
-use Rattle.clos_world.specs.World.{State}
-use Rattle.clos_world.specs.declared.condition.Stop.{Stop}
+use Rattle.clos_machine.specs.clos_world.Values.{last_first, only_value}
+use Rattle.clos_machine.specs.clos_world.World.{State}
+use Rattle.clos_machine.specs.clos_world.declared.condition.Stop.{Stop}
 use Rattle.clos_machine.specs.Assignment.{changed_only, stored_only}
 use Rattle.clos_machine.specs.Functions.{place_set}
 use Rattle.clos_machine.specs.Machine.{Turns, at, inside, resume}
@@ -15,7 +15,7 @@ use Rattle.clos_machine.specs.SlotNames.{name_set, place_denoted}
 use Rattle.clos_machine.specs.declared.machine.Doing.{Doing}
 use Rattle.clos_machine.specs.declared.machine.Machine.{Machine}
 use Rattle.clos_machine.specs.declared.machine.Target.TheVariants.{SlotValue}
-use Rattle.clos_objects_core.proofs.Placing.{turns_same}
+use Rattle.clos_machine.proofs.Running.{turns_same}
 
 module _ (m : Machine) (name : Nam) (vs : List Val) (w : State) (s : ℕ) (r : Result Doing Stop) (n : Machine) (w' : State) (s' : ℕ) where
   abbrev pub setting : Run

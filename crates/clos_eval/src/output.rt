@@ -2,8 +2,8 @@
 ghost use Rattle.std.specs.Prelude.{◌≡◌, ◌++◌, ℕ, List, ◌≤◌, IfOk, codes};
 ghost use Rattle.lisp_data.specs.Value.{Val};
 ghost use Rattle.lisp_data.specs.ValueView.{value_of};
-ghost use Rattle.clos_world.specs.Values.{only_value};
-ghost use Rattle.clos_world.specs.World.{Local, seen, bound_as, names_of};
+ghost use Rattle.clos_machine.specs.clos_world.Values.{only_value};
+ghost use Rattle.clos_machine.specs.clos_world.World.{Local, seen, bound_as, names_of};
 ghost use Rattle.clos_machine.specs.Machine.{Changes, Grows, Turns, inside};
 ghost use Rattle.clos_machine.specs.Outcome.{step_then};
 ghost use Rattle.clos_machine.specs.Output.{written, text_by, output_of, line_ended};
@@ -11,7 +11,7 @@ ghost use Rattle.clos_machine.specs.Output.{written, text_by, output_of, line_en
 use clos_machine::callee::Output;
 use clos_machine::machine::{Doing, Machine};
 use clos_machine::truth::nil;
-use clos_world::{ConditionKind, Stop, Values, World, plain};
+use clos_machine::{ConditionKind, Stop, Values, World, plain};
 use lisp_data::{Value, prin1, princ};
 use std::alloc::{AllocError, Global};
 

@@ -19,21 +19,21 @@ use Rattle.clos_world.specs.Definitions.{Same}
 use Rattle.clos_world.specs.FunctionName.{setter_value}
 use Rattle.clos_world.specs.Functions.{function_in}
 use Rattle.clos_forms.specs.declared.operator.FunctionName.TheVariants.{Symbol, Setf}
-use Rattle.clos_generic.specs.Table.{named}
-use Rattle.clos_generic.specs.Table as generics
-use Rattle.clos_generic_core.specs.Shape.{takes_count}
-use Rattle.clos_generic_core.specs.declared.method.Method.{Method}
-use Rattle.clos_generic_core.specs.declared.method.MethodBody.{MethodBody}
-use Rattle.clos_generic_core.specs.declared.method.MethodBody.TheVariants.{Forms, Reader, Writer, System}
-use Rattle.clos_comb.specs.Effective as comb
-use Rattle.clos_comb.specs.Outcome.{Combined}
-use Rattle.clos_comb.specs.Outcome as outcome
+use Rattle.clos_world.specs.clos_generic.Table.{named}
+use Rattle.clos_world.specs.clos_generic.Table as generics
+use Rattle.clos_world.specs.clos_generic_core.Shape.{takes_count}
+use Rattle.clos_world.specs.clos_generic_core.declared.method.Method.{Method}
+use Rattle.clos_world.specs.clos_generic_core.declared.method.MethodBody.{MethodBody}
+use Rattle.clos_world.specs.clos_generic_core.declared.method.MethodBody.TheVariants.{Forms, Reader, Writer, System}
+use Rattle.clos_world.specs.clos_comb.Effective as comb
+use Rattle.clos_world.specs.clos_comb.Outcome.{Combined}
+use Rattle.clos_world.specs.clos_comb.Outcome as outcome
 use Rattle.std.specs.Str.{bytes_eq}
 use Rattle.clos_world.specs.Dispatch.{ordered}
 use Rattle.clos_world.specs.Globals.{is_global, any_global}
-use Rattle.clos_generic_core.specs.System.{system_number}
-use Rattle.clos_generic_core.specs.declared.system.SystemFunction.{SystemFunction}
-use Rattle.clos_generic_core.specs.declared.system.SystemFunction.TheVariants.{InitializeInstance, ReinitializeInstance, SharedInitialize, UpdateInstanceForRedefinedClass, UpdateInstanceForDifferentClass, SlotUnbound, SlotMissing, NoApplicableMethod, NoNextMethod}
+use Rattle.clos_world.specs.clos_generic_core.System.{system_number}
+use Rattle.clos_world.specs.clos_generic_core.declared.system.SystemFunction.{SystemFunction}
+use Rattle.clos_world.specs.clos_generic_core.declared.system.SystemFunction.TheVariants.{InitializeInstance, ReinitializeInstance, SharedInitialize, UpdateInstanceForRedefinedClass, UpdateInstanceForDifferentClass, SlotUnbound, SlotMissing, NoApplicableMethod, NoNextMethod}
 use Rattle.clos_world.specs.Values.{only_value, last_first}
 use Rattle.clos_world.specs.World.{State, Local, bound_as, unbound, local_named, names_of, class_of, class_of_instance, held}
 use Rattle.clos_world.specs.declared.condition.Condition.{Condition}
@@ -64,10 +64,10 @@ use Rattle.clos_machine.specs.declared.callee.SlotFunction as of_slots
 use Rattle.clos_machine.specs.declared.callee.SlotFunction.TheVariants.{SlotValue, SlotBoundp, SlotMakunbound, SlotExistsP}
 use Rattle.clos_machine.specs.declared.machine.Target.{Target}
 use Rattle.clos_machine.specs.declared.machine.Target.TheVariants as target
-use Rattle.clos_class.specs.Slots.{Effective as Whole}
-use Rattle.clos_class.specs.declared.effective_slots.EffectiveSlot.{EffectiveSlot}
+use Rattle.clos_world.specs.clos_class.Slots.{Effective as Whole}
+use Rattle.clos_world.specs.clos_class.declared.effective_slots.EffectiveSlot.{EffectiveSlot}
 use Rattle.clos_syntax.specs.declared.class.DefaultInitarg.{DefaultInitarg}
-use Rattle.clos_store.specs.Store.{allocated, has_room, slot_found, with_instance}
+use Rattle.clos_world.specs.clos_store.Store.{allocated, has_room, slot_found, with_instance}
 use Rattle.clos_world.specs.Class.{effective}
 use Rattle.clos_machine.specs.Outcome.{Out, Gave, Stopped, Run, Eval, then_do, step_then, gave, stopped, is_true}
 use Rattle.clos_machine.specs.Output.{output_of, text_by, written, line_ended}

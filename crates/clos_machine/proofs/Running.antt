@@ -250,3 +250,14 @@ pub nothing_changed : (m : Machine) (p : of_values.Primitive) (name : Nam) (o : 
     → c ≡ record { kind = ProgramError; items = [] } → inside m (changed_only p name o) w s ≡ Stopped c (unbound w) s
 nothing_changed m p name None c w s e k = stopped_through m.levels m.context (record { kind = ProgramError; items = [] }) (at m w) s ∙ ap (λ d. Stopped d (unbound w) s) (sym k)
 nothing_changed m p name (Some v) c w s e k = cc
+
+-- a turn of a run that ends like another
+pub turns_same : (run run' : Run) (w : State) (s : ℕ) (r : Result Doing Stop) (m : Machine) (w' : State) (s' : ℕ) → ((t : ℕ) → run w t ≡ run' w t)
+    → Turns run w s r m w' s' → Turns run' w s r m w' s'
+turns_same run run' w s (Ok d) m w' s' e h = (h.0, h.1, λ t. h.2 t ∙ e (h.0 + t))
+turns_same run run' w s (Err (Refused c)) m w' s' e h = sym (e s) ∙ h
+turns_same run run' w s (Err Storage) m w' s' e h = h
+
+-- a run that stops at once
+pub stops_at_once : (m n : Machine) (run : Run) (w : State) (s : ℕ) (c : Condition) → run (at m w) s ≡ Stopped c (at m w) s → Turns (inside m run) w s (Err (Refused c)) n w s
+stops_at_once m n run w s c e = ap (λ o. closed (resume m.levels m.context o)) e ∙ stopped_through m.levels m.context c (at m w) s

@@ -7,7 +7,7 @@ use Rattle.clos_world.specs.declared.condition.Condition.{Condition}
 use Rattle.clos_world.specs.declared.condition.ConditionKind.TheVariants.{ProgramError}
 use Rattle.clos_world.specs.declared.condition.Stop.{Stop}
 use Rattle.clos_world.specs.declared.condition.Stop.TheVariants.{Refused, Storage}
-use Rattle.clos_generic_core.specs.declared.method.Method.{Method}
+use Rattle.clos_world.specs.clos_generic_core.declared.method.Method.{Method}
 use Rattle.clos_machine.specs.Calls.{method_run}
 use Rattle.clos_machine.specs.Control.{sequence, while_true, until_true, going}
 use Rattle.clos_machine.specs.Machine.{at, below, resume, inside, Grows, Leads, Shrinks}
@@ -36,6 +36,14 @@ no_method m ev env None c w t e k = stopped_through m.levels m.context (record {
 no_method m ev env (Some x) c w t e k = cc
 
 -- what adds little adds no more than something larger
+pub grows_5_6 : (old : List Level) (r : Result Doing Stop) (m : Machine) → Grows 5 old r m → Grows 6 old r m
+grows_5_6 old (Ok d) m h = omega (arith, h)
+grows_5_6 old (Err e) m h = tt
+
+pub grows_5_9 : (old : List Level) (r : Result Doing Stop) (m : Machine) → Grows 5 old r m → Grows 9 old r m
+grows_5_9 old (Ok d) m h = omega (arith, h)
+grows_5_9 old (Err e) m h = tt
+
 pub grows_6_16 : (old : List Level) (r : Result Doing Stop) (m : Machine) → Grows 6 old r m → Grows 16 old r m
 grows_6_16 old (Ok d) m h = omega (arith, h)
 grows_6_16 old (Err e) m h = tt

@@ -6,10 +6,10 @@ use Rattle.clos_forms.specs.Form.{Frms, nil, cons}
 use Rattle.clos_forms.specs.Operator.{Callable, the_method, made}
 use Rattle.clos_forms.specs.Quotation.{name_value}
 use Rattle.clos_forms.specs.declared.operator.FunctionName.TheVariants.{Setf}
-use Rattle.clos_generic.specs.Table.{named}
-use Rattle.clos_generic_core.specs.declared.method.Method.{Method}
-use Rattle.clos_generic_core.specs.declared.method.MethodBody.{MethodBody}
-use Rattle.clos_generic_core.specs.declared.method.MethodBody.TheVariants.{Forms, Reader, Writer, System}
+use Rattle.clos_world.specs.clos_generic.Table.{named}
+use Rattle.clos_world.specs.clos_generic_core.declared.method.Method.{Method}
+use Rattle.clos_world.specs.clos_generic_core.declared.method.MethodBody.{MethodBody}
+use Rattle.clos_world.specs.clos_generic_core.declared.method.MethodBody.TheVariants.{Forms, Reader, Writer, System}
 use Rattle.clos_lambda.specs.declared.lambda_list.LambdaList.{LambdaList}
 use Rattle.clos_world.specs.FunctionName.{setter_value}
 use Rattle.clos_world.specs.Functions.{function_in}

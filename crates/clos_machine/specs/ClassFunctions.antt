@@ -10,7 +10,7 @@ use Rattle.lisp_prims.specs.Primitive.{answer, truth}
 use Rattle.lisp_prims.specs.declared.lists.ListFunction.TheVariants as lists
 use Rattle.lisp_prims.specs.declared.primitive.Primitive.TheVariants.{Listed}
 use Rattle.clos_forms.specs.Quotation.{name_value}
-use Rattle.clos_class.specs.Table.{Table}
+use Rattle.clos_world.specs.clos_class.Table.{Table}
 use Rattle.clos_world.specs.Class.{named, precedence, precedence_or_none, class_name}
 use Rattle.clos_world.specs.Condition.{nil_name}
 use Rattle.clos_world.specs.declared.condition.Condition.{Condition}

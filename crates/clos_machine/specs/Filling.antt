@@ -7,8 +7,8 @@ use Rattle.lisp_data.specs.Value.{Val, Vals, instance, list, nil, cons}
 use Rattle.lisp_data.specs.declared.ids.CellId.{CellId}
 use Rattle.lisp_prims.specs.Predicates.{is_symbol}
 use Rattle.clos_forms.specs.Form.{Frm}
-use Rattle.clos_class.specs.declared.effective_slots.EffectiveSlot.{EffectiveSlot}
-use Rattle.clos_store.specs.Store.{slot_found}
+use Rattle.clos_world.specs.clos_class.declared.effective_slots.EffectiveSlot.{EffectiveSlot}
+use Rattle.clos_world.specs.clos_store.Store.{slot_found}
 use Rattle.clos_world.specs.World.{State, class_of_instance}
 use Rattle.clos_machine.specs.Outcome.{Gave, Run, Eval, then_do, step_then}
 use Rattle.clos_machine.specs.Parameters.{argument_by, is_symbol_named}

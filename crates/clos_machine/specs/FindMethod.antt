@@ -4,8 +4,8 @@ use Rattle.lisp_data.specs.Name.{Nam}
 use Rattle.lisp_data.specs.Print.{Specializer, on_class, on_eql}
 use Rattle.lisp_data.specs.Value.{Val, Vals, symbol, list, class, generic, method, nil, cons}
 use Rattle.clos_forms.specs.Names.{is_called}
-use Rattle.clos_class.specs.Table as classes
-use Rattle.clos_generic.specs.Table.{Function, Table, find_method}
+use Rattle.clos_world.specs.clos_class.Table as classes
+use Rattle.clos_world.specs.clos_generic.Table.{Function, Table, find_method}
 use Rattle.clos_world.specs.Class.{named}
 use Rattle.clos_world.specs.FunctionName.{called_value}
 use Rattle.clos_world.specs.declared.condition.Condition.{Condition}

@@ -4,7 +4,7 @@ use Rattle.lisp_data.specs.Name.{Nam}
 use Rattle.lisp_data.specs.Value.{Val}
 use Rattle.lisp_prims.specs.Primitive.{answer}
 use Rattle.clos_forms.specs.declared.operator.FunctionName.TheVariants.{Symbol}
-use Rattle.clos_generic.specs.Table.{named}
+use Rattle.clos_world.specs.clos_generic.Table.{named}
 use Rattle.clos_world.specs.Values.{only_value}
 use Rattle.clos_world.specs.World.{class_of}
 use Rattle.clos_machine.specs.Callee.{callee_of}

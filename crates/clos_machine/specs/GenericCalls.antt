@@ -2,15 +2,15 @@
 use Rattle.std.specs.Prelude.{ℕ, ◌+◌, Bool, true, false, not, ◌&&◌, ◌||◌, List, [], ◌∷◌, Option, Some, None, drop, if◌then◌else◌, length, slice_get}
 use Rattle.lisp_data.specs.Name.{Nam}
 use Rattle.lisp_data.specs.Value.{Val, generic, method, symbol}
-use Rattle.clos_comb.specs.Effective as comb
-use Rattle.clos_comb.specs.Outcome.{Combined, effective, invalid_method, group_empty}
-use Rattle.clos_generic.specs.Calls.{accepts, allows_all, checks_keywords}
-use Rattle.clos_generic.specs.Table.{Function, Table}
-use Rattle.clos_generic_core.specs.Shape.{takes_count}
-use Rattle.clos_generic_core.specs.System.{system_number}
-use Rattle.clos_generic_core.specs.declared.shape.Shape.{Shape}
-use Rattle.clos_generic_core.specs.declared.system.SystemFunction.{SystemFunction}
-use Rattle.clos_generic_core.specs.declared.system.SystemFunction.TheVariants.{NoApplicableMethod}
+use Rattle.clos_world.specs.clos_comb.Effective as comb
+use Rattle.clos_world.specs.clos_comb.Outcome.{Combined, effective, invalid_method, group_empty}
+use Rattle.clos_world.specs.clos_generic.Calls.{accepts, allows_all, checks_keywords}
+use Rattle.clos_world.specs.clos_generic.Table.{Function, Table}
+use Rattle.clos_world.specs.clos_generic_core.Shape.{takes_count}
+use Rattle.clos_world.specs.clos_generic_core.System.{system_number}
+use Rattle.clos_world.specs.clos_generic_core.declared.shape.Shape.{Shape}
+use Rattle.clos_world.specs.clos_generic_core.declared.system.SystemFunction.{SystemFunction}
+use Rattle.clos_world.specs.clos_generic_core.declared.system.SystemFunction.TheVariants.{NoApplicableMethod}
 use Rattle.clos_world.specs.Dispatch.{ordered}
 use Rattle.clos_world.specs.FunctionName.{called_value}
 use Rattle.clos_world.specs.declared.condition.ConditionKind.TheVariants.{InvalidMethod, ProgramError, RequiredGroupEmpty}

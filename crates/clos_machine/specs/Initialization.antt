@@ -6,19 +6,19 @@ use Rattle.lisp_data.specs.Value.{Val, instance}
 use Rattle.lisp_prims.specs.Primitive.{truth}
 use Rattle.clos_forms.specs.Quotation.{name_value}
 use Rattle.clos_syntax.specs.declared.class.DefaultInitarg.{DefaultInitarg}
-use Rattle.clos_generic_core.specs.Keywords.{method_allows, method_names}
-use Rattle.clos_generic_core.specs.System.{system_number}
-use Rattle.clos_generic_core.specs.declared.method.Method.{Method}
-use Rattle.clos_generic_core.specs.declared.system.SystemFunction.{SystemFunction}
-use Rattle.clos_class.specs.Slots.{Effective}
-use Rattle.clos_class.specs.declared.effective_slots.EffectiveSlot.{EffectiveSlot}
-use Rattle.clos_store.specs.Store.{allocated, has_room, with_instance}
+use Rattle.clos_world.specs.clos_generic_core.Keywords.{method_allows, method_names}
+use Rattle.clos_world.specs.clos_generic_core.System.{system_number}
+use Rattle.clos_world.specs.clos_generic_core.declared.method.Method.{Method}
+use Rattle.clos_world.specs.clos_generic_core.declared.system.SystemFunction.{SystemFunction}
+use Rattle.clos_world.specs.clos_class.Slots.{Effective}
+use Rattle.clos_world.specs.clos_class.declared.effective_slots.EffectiveSlot.{EffectiveSlot}
+use Rattle.clos_world.specs.clos_store.Store.{allocated, has_room, with_instance}
 use Rattle.clos_world.specs.Class.{class_name, effective}
 use Rattle.clos_world.specs.Dispatch.{ordered}
 use Rattle.clos_world.specs.World.{State}
 use Rattle.clos_world.specs.declared.condition.Condition.{Condition}
 use Rattle.clos_world.specs.declared.condition.ConditionKind.TheVariants.{ProgramError, InvalidInitarg, TableLimit}
-use Rattle.clos_generic_core.specs.declared.system.SystemFunction.TheVariants.{InitializeInstance, SharedInitialize}
+use Rattle.clos_world.specs.clos_generic_core.declared.system.SystemFunction.TheVariants.{InitializeInstance, SharedInitialize}
 use Rattle.clos_machine.specs.Bodies.{scoped}
 use Rattle.clos_machine.specs.ClassFunctions.{symbol_in}
 use Rattle.clos_machine.specs.Contexts.{known}

@@ -28,3 +28,4 @@ pub mod Functions
 pub mod SlotNames
 pub mod Meaning
 pub mod Machine
+pub use Rattle.clos_world.specs as clos_world

@@ -4,6 +4,7 @@ use Rattle.lisp_data.specs.Name.{Nam}
 use Rattle.lisp_data.specs.Value.{Val, list, nil}
 use Rattle.lisp_data.specs.ValueView.{value_of}
 use Rattle.lisp_data.specs.declared.ids.ClassId.{ClassId}
+use Rattle.lisp_data.specs.declared.ids.InstanceId.{InstanceId}
 use Rattle.lisp_data.specs.declared.value.Value.{Value}
 use Rattle.lisp_prims.specs.Primitive.{truth}
 use Rattle.clos_forms.specs.Form.{Frm, Frms, operator_in}
@@ -229,6 +230,12 @@ abbrev pub Designates : Result ℕ Condition → Result ClassId Stop → Type 0
 Designates d (Ok c) = d ≡ Ok c.0
 Designates d (Err (Refused c)) = d ≡ Err c
 Designates d (Err Storage) = Unit {0}
+
+-- the instance that a value is, or why not
+abbrev pub DesignatesInstance : Result ℕ Condition → Result InstanceId Stop → Type 0
+DesignatesInstance d (Ok i) = d ≡ Ok i.0
+DesignatesInstance d (Err (Refused c)) = d ≡ Err c
+DesignatesInstance d (Err Storage) = Unit {0}
 
 -- the machine goes on with what a frame does with a value
 abbrev pub given_to : Machine → Frame → Val → Run

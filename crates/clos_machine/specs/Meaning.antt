@@ -15,7 +15,7 @@ use Rattle.clos_forms.specs.Operator.{Opr, Plc, variable_place, slot_value_place
 use Rattle.clos_forms.specs.Operator as of
 use Rattle.clos_forms.specs.Quotation.{name_value}
 use Rattle.clos_forms.specs.declared.operator.FunctionName.TheVariants.{Symbol, Setf}
-use Rattle.clos_generic.specs.Table.{named}
+use Rattle.clos_world.specs.clos_generic.Table.{named}
 use Rattle.clos_world.specs.FunctionName.{setter_value}
 use Rattle.clos_world.specs.Functions.{function_in}
 use Rattle.clos_world.specs.Values.{only_value, last_first}

@@ -3,8 +3,8 @@ use Rattle.std.specs.Prelude.{ℕ, List, [], ◌∷◌, Option, Some, None, Resu
 use Rattle.lisp_data.specs.Name.{Nam}
 use Rattle.lisp_data.specs.Value.{Val, integer, symbol, string, list, class, generic, method, instance, nil, cons}
 use Rattle.clos_forms.specs.Quotation.{name_value}
-use Rattle.clos_class_core.specs.Initial.{is_standard}
-use Rattle.clos_class.specs.Table.{Table}
+use Rattle.clos_world.specs.clos_class_core.Initial.{is_standard}
+use Rattle.clos_world.specs.clos_class.Table.{Table}
 use Rattle.clos_world.specs.Class.{named, precedence, class_name}
 use Rattle.clos_world.specs.Condition.{nil_name}
 use Rattle.clos_world.specs.declared.condition.Condition.{Condition}

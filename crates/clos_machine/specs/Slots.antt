@@ -5,15 +5,15 @@ use Rattle.lisp_data.specs.Name.{Nam, same_name}
 use Rattle.lisp_data.specs.Value.{Val, class, instance, symbol}
 use Rattle.lisp_prims.specs.Primitive.{truth}
 use Rattle.clos_forms.specs.Quotation.{name_value}
-use Rattle.clos_class.specs.Slots.{effective_slots}
-use Rattle.clos_class.specs.SlotsView.{direct_slots}
-use Rattle.clos_class.specs.Table.{Table}
-use Rattle.clos_store.specs.Store.{slot_found, with_slot}
+use Rattle.clos_world.specs.clos_class.Slots.{effective_slots}
+use Rattle.clos_world.specs.clos_class.SlotsView.{direct_slots}
+use Rattle.clos_world.specs.clos_class.Table.{Table}
+use Rattle.clos_world.specs.clos_store.Store.{slot_found, with_slot}
 use Rattle.clos_world.specs.Class.{precedence_or_none}
 use Rattle.clos_world.specs.World.{State, class_of, class_of_instance}
 use Rattle.clos_world.specs.declared.condition.Condition.{Condition}
 use Rattle.clos_world.specs.declared.condition.ConditionKind.TheVariants.{ProgramError}
-use Rattle.clos_generic_core.specs.declared.system.SystemFunction.TheVariants.{SlotUnbound, SlotMissing}
+use Rattle.clos_world.specs.clos_generic_core.declared.system.SystemFunction.TheVariants.{SlotUnbound, SlotMissing}
 use Rattle.clos_machine.specs.ClassFunctions.{symbol_in, wrong_type}
 use Rattle.clos_machine.specs.GenericCalls.{invoked}
 use Rattle.clos_machine.specs.Outcome.{Gave, Stopped, Run, Eval, then_do, step_then, gave, stopped, is_true}

@@ -2,17 +2,17 @@
 use Rattle.std.specs.Prelude.{ℕ, true, List, [], ◌∷◌, Option, Some, None, Result, Ok, Err, if◌then◌else◌, slice_get}
 use Rattle.lisp_data.specs.Value.{Val, generic, instance, list, nil}
 use Rattle.lisp_prims.specs.Primitive.{truth}
-use Rattle.clos_class.specs.Slots.{Effective}
+use Rattle.clos_world.specs.clos_class.Slots.{Effective}
 use Rattle.clos_world.specs.Class.{class_name, effective}
 use Rattle.clos_world.specs.FunctionName.{called_value}
 use Rattle.clos_world.specs.World.{State, class_of_instance}
 use Rattle.clos_world.specs.declared.condition.Condition.{Condition}
 use Rattle.clos_world.specs.declared.condition.ConditionKind.{ConditionKind}
 use Rattle.clos_world.specs.declared.condition.ConditionKind.TheVariants.{NoApplicableMethod, NoNextMethod, ProgramError, UnboundSlot, MissingSlot, Unsupported}
-use Rattle.clos_generic.specs.Table.{Function}
-use Rattle.clos_generic_core.specs.declared.system.SystemFunction.{SystemFunction}
-use Rattle.clos_generic_core.specs.declared.system.SystemFunction.TheVariants.{InitializeInstance, ReinitializeInstance, SharedInitialize, UpdateInstanceForRedefinedClass, UpdateInstanceForDifferentClass, SlotUnbound, SlotMissing}
-use Rattle.clos_generic_core.specs.declared.system.SystemFunction.TheVariants as of_system
+use Rattle.clos_world.specs.clos_generic.Table.{Function}
+use Rattle.clos_world.specs.clos_generic_core.declared.system.SystemFunction.{SystemFunction}
+use Rattle.clos_world.specs.clos_generic_core.declared.system.SystemFunction.TheVariants.{InitializeInstance, ReinitializeInstance, SharedInitialize, UpdateInstanceForRedefinedClass, UpdateInstanceForDifferentClass, SlotUnbound, SlotMissing}
+use Rattle.clos_world.specs.clos_generic_core.declared.system.SystemFunction.TheVariants as of_system
 use Rattle.clos_machine.specs.Bodies.{scoped}
 use Rattle.clos_machine.specs.ClassFunctions.{wrong_type}
 use Rattle.clos_machine.specs.Filling.{are_slot_names, fill}

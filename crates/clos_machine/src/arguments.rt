@@ -1,12 +1,11 @@
 //! The arguments of calls, and what a running body knows of its own.
 ghost use Rattle.std.specs.Prelude.{◌≡◌, IfOk, Some, map};
 ghost use Rattle.lisp_data.specs.ValueView.{value_of};
-ghost use Rattle.clos_generic_core.specs.MethodIds.{method_numbers};
+ghost use Rattle.clos_world.specs.clos_generic_core.MethodIds.{method_numbers};
 ghost use Rattle.clos_machine.specs.Contexts.{in_call, known, with_arguments};
 
 use clos_forms::{Forms, NextMethods};
-use clos_generic_core::MethodIds;
-use clos_world::Values;
+use clos_world::{MethodIds, Values};
 use lisp_data::{GenericId, MethodId, Value};
 use std::alloc::{AllocError, Global};
 use std::marker::Model;

@@ -3,9 +3,8 @@ ghost use Rattle.std.specs.Prelude.{◌≡◌, IfOk};
 ghost use Rattle.clos_world.specs.Class.{effective};
 ghost use Rattle.clos_world.specs.World.{seen};
 
-use clos_class::{Effective, EffectiveSlot, Layout};
 use clos_syntax::DefaultInitarg;
-use clos_world::World;
+use clos_world::{Effective, EffectiveSlot, Layout, World};
 use lisp_data::ClassId;
 use std::alloc::AllocError;
 use std::marker::Model;
@@ -20,8 +19,8 @@ pub struct Finalized {
 
 impl Model for Finalized {
     ghost use Rattle.std.specs.Coded.{codes};
-    ghost use Rattle.clos_class.specs.contracts.effective.Effective as effective;
-    ghost use Rattle.clos_class.specs.Slots.{Effective as Whole};
+    ghost use Rattle.clos_world.specs.clos_class.contracts.effective.Effective as effective;
+    ghost use Rattle.clos_world.specs.clos_class.Slots.{Effective as Whole};
 
     ghost Value = { Whole };
 

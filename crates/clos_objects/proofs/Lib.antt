@@ -2,3 +2,4 @@ pub mod Passing
 pub mod Making
 pub mod Methods
 pub mod Reaching
+pub mod Designating

@@ -9,13 +9,13 @@ use Rattle.clos_forms.specs.Form.{nil}
 use Rattle.clos_syntax.specs.declared.class.DefaultInitarg.{DefaultInitarg}
 use Rattle.clos_class.specs.Slots.{Effective}
 use Rattle.clos_class.specs.Table.{Table}
-use Rattle.clos_store.specs.Store.{allocated, has_room, next_instance, with_instance}
-use Rattle.clos_world.specs.Class.{class_name, effective}
-use Rattle.clos_world.specs.World.{State, bound_as, unbound}
-use Rattle.clos_world.specs.declared.condition.Condition.{Condition}
-use Rattle.clos_world.specs.declared.condition.ConditionKind.TheVariants.{ProgramError, TableLimit, StepLimit}
-use Rattle.clos_world.specs.declared.condition.Stop.{Stop}
-use Rattle.clos_world.specs.declared.condition.Stop.TheVariants.{Refused, Storage}
+use Rattle.clos_machine.specs.clos_world.clos_store.Store.{allocated, has_room, next_instance, with_instance}
+use Rattle.clos_machine.specs.clos_world.Class.{class_name, effective}
+use Rattle.clos_machine.specs.clos_world.World.{State, bound_as, unbound}
+use Rattle.clos_machine.specs.clos_world.declared.condition.Condition.{Condition}
+use Rattle.clos_machine.specs.clos_world.declared.condition.ConditionKind.TheVariants.{ProgramError, TableLimit, StepLimit}
+use Rattle.clos_machine.specs.clos_world.declared.condition.Stop.{Stop}
+use Rattle.clos_machine.specs.clos_world.declared.condition.Stop.TheVariants.{Refused, Storage}
 use Rattle.clos_machine.specs.Bodies.{restoring}
 use Rattle.clos_machine.specs.Contexts.{known}
 use Rattle.clos_machine.specs.Initialization.{allocate, default_given, defaulted, instance_made, making, initialized, invalid_for, invalid_initarg, is_given, made, making_of}
@@ -28,14 +28,13 @@ use Rattle.clos_machine.specs.declared.arguments.Context.{Context}
 use Rattle.clos_machine.specs.declared.machine.Doing.{Doing}
 use Rattle.clos_machine.specs.declared.machine.Frame.TheVariants.{Body}
 use Rattle.clos_machine.specs.declared.machine.Machine.{Machine}
-use Rattle.clos_machine.proofs.Running.{turns_of_leads}
+use Rattle.clos_machine.proofs.Running.{turns_of_leads, stops_at_once, turns_same}
 use Rattle.clos_machine.proofs.Turns.{leads_same, stopped_through}
 use Rattle.clos_objects.specs.Objects.{Enters, TellsCondition, default_first, ungiven}
 use Rattle.clos_objects.specs.Reached.{invalid_for_new, reached_by_new}
 use Rattle.clos_class.specs.declared.effective_slots.EffectiveSlot.{EffectiveSlot}
 use Rattle.clos_generic_core.specs.declared.method.Method.{Method}
 use Rattle.clos_objects.proofs.Reaching.{new_reached}
-use Rattle.clos_objects_core.proofs.Placing.{stops_at_once, turns_same}
 
 -- ---- default initargs
 

@@ -6,18 +6,18 @@ use Rattle.clos_class.specs.Slots.{Effective}
 use Rattle.clos_class.specs.declared.effective_slots.EffectiveSlot.{EffectiveSlot}
 use Rattle.clos_generic_core.specs.declared.method.Method.{Method}
 use Rattle.clos_machine.specs.Parameters.{are_even}
-use Rattle.clos_world.specs.Class.{class_name}
-use Rattle.clos_world.specs.World.{State}
-use Rattle.clos_world.specs.declared.condition.Condition.{Condition}
-use Rattle.clos_world.specs.declared.condition.ConditionKind.TheVariants.{ProgramError}
-use Rattle.clos_world.specs.declared.condition.Stop.{Stop}
-use Rattle.clos_world.specs.declared.condition.Stop.TheVariants.{Refused, Storage}
+use Rattle.clos_machine.specs.clos_world.Class.{class_name}
+use Rattle.clos_machine.specs.clos_world.World.{State}
+use Rattle.clos_machine.specs.clos_world.declared.condition.Condition.{Condition}
+use Rattle.clos_machine.specs.clos_world.declared.condition.ConditionKind.TheVariants.{ProgramError}
+use Rattle.clos_machine.specs.clos_world.declared.condition.Stop.{Stop}
+use Rattle.clos_machine.specs.clos_world.declared.condition.Stop.TheVariants.{Refused, Storage}
 use Rattle.clos_generic_core.specs.declared.system.SystemFunction.{SystemFunction}
 use Rattle.clos_generic_core.specs.declared.system.SystemFunction.TheVariants.{InitializeInstance, ReinitializeInstance, SharedInitialize, UpdateInstanceForRedefinedClass, UpdateInstanceForDifferentClass, SlotUnbound, SlotMissing, NoApplicableMethod, NoNextMethod}
 use Rattle.clos_machine.specs.ClassFunctions.{wrong_type}
 use Rattle.clos_machine.specs.Filling.{are_slot_names, initargs_in, names_in}
 use Rattle.clos_machine.specs.Initialization.{invalid_for, invalid_initarg, methods_reached}
-use Rattle.clos_machine.specs.Machine.{Leads, at, inside, resume}
+use Rattle.clos_machine.specs.Machine.{DesignatesInstance, Leads, at, inside, resume}
 use Rattle.clos_machine.specs.Meaning.{closed}
 use Rattle.clos_machine.specs.Outcome.{Eval, Run, Stopped, stopped}
 use Rattle.clos_machine.specs.Slots.{instance_in}
@@ -26,7 +26,6 @@ use Rattle.clos_machine.specs.declared.machine.Doing.{Doing}
 use Rattle.clos_machine.specs.declared.machine.Machine.{Machine}
 use Rattle.clos_machine.proofs.Turns.{leads_same, stopped_through}
 use Rattle.clos_objects.specs.Objects.{TellsCondition}
-use Rattle.clos_objects_core.specs.Slots.{DesignatesInstance}
 
 module _ (m n : Machine) (w : State) where
   -- a run that stops at once

@@ -8,11 +8,11 @@ use Rattle.lisp_data.specs.Value.{instance}
 use Rattle.lisp_data.specs.declared.ids.InstanceId.{InstanceId}
 use Rattle.lisp_data.specs.declared.value.Value.TheVariants.{Instance}
 use Rattle.clos_forms.specs.Form.{Frm}
-use Rattle.clos_store.specs.Store.{with_slot}
-use Rattle.clos_world.specs.declared.condition.Condition.{Condition}
-use Rattle.clos_world.specs.declared.condition.ConditionKind.TheVariants.{StepLimit}
-use Rattle.clos_world.specs.declared.condition.Stop.{Stop}
-use Rattle.clos_world.specs.declared.condition.Stop.TheVariants.{Refused}
+use Rattle.clos_machine.specs.clos_world.clos_store.Store.{with_slot}
+use Rattle.clos_machine.specs.clos_world.declared.condition.Condition.{Condition}
+use Rattle.clos_machine.specs.clos_world.declared.condition.ConditionKind.TheVariants.{StepLimit}
+use Rattle.clos_machine.specs.clos_world.declared.condition.Stop.{Stop}
+use Rattle.clos_machine.specs.clos_world.declared.condition.Stop.TheVariants.{Refused}
 use Rattle.clos_machine.specs.Machine.{Leads, Turns, at, denote, inside, resume}
 use Rattle.clos_machine.specs.Meaning.{closed, meaning}
 use Rattle.clos_machine.specs.declared.machine.Action.TheVariants.{Fill}
@@ -20,11 +20,10 @@ use Rattle.clos_machine.specs.declared.machine.Doing.{Doing}
 use Rattle.clos_machine.specs.declared.machine.Doing.TheVariants.{Act, Give}
 use Rattle.clos_machine.specs.declared.machine.Filling.{Filling}
 use Rattle.clos_machine.specs.declared.machine.Machine.{Machine}
-use Rattle.clos_machine.proofs.Running.{turns_of_leads}
+use Rattle.clos_machine.proofs.Running.{turns_of_leads, stops_at_once, turns_same}
 use Rattle.clos_machine.proofs.Turns.{leads_same}
-use Rattle.clos_objects_core.proofs.Placing.{stops_at_once, turns_same}
 use Rattle.clos_class.specs.declared.effective_slots.EffectiveSlot.{EffectiveSlot}
-use Rattle.clos_world.specs.World.{State, Local, bound_as}
+use Rattle.clos_machine.specs.clos_world.World.{State, Local, bound_as}
 use Rattle.clos_machine.specs.Filling.{Filler, Subject, fill, fill_with, filled_by, filler, nothing, initform, slots_left, subject_of}
 use Rattle.clos_machine.specs.Filling as filler
 use Rattle.clos_machine.specs.Outcome.{Gave, Stopped, Run, Eval, then_do}

@@ -5,18 +5,18 @@ use Rattle.std.specs.List.{list_any}
 use Rattle.std.proofs.lemmas.Bool.{ne_eqb}
 use Rattle.std.proofs.lemmas.List.{length-map, take-map, take_all}
 use Rattle.std.proofs.lemmas.List.Folds.{list_any-append}
-use Rattle.clos_class_core.specs.Initial.{number}
+use Rattle.clos_machine.specs.clos_world.clos_class_core.Initial.{number}
 use Rattle.lisp_data.specs.Value.{Val, instance}
 use Rattle.lisp_prims.specs.Primitive.{truth}
 use Rattle.clos_class.specs.Slots.{Layout}
-use Rattle.clos_generic.specs.Calls as calls
+use Rattle.clos_machine.specs.clos_world.clos_generic.Calls as calls
 use Rattle.clos_generic_core.specs.Arguments.{arguments_of}
 use Rattle.clos_generic_core.specs.System.{system_number}
 use Rattle.clos_generic_core.specs.declared.system.SystemFunction.TheVariants.{InitializeInstance, SharedInitialize}
 use Rattle.clos_machine.specs.Initialization.{methods_reached}
-use Rattle.clos_store.specs.Store.{Object, allocated, with_instance}
-use Rattle.clos_world.specs.Dispatch.{ordered, required_by, required_in}
-use Rattle.clos_world.specs.World.{State, class_of}
+use Rattle.clos_machine.specs.clos_world.clos_store.Store.{Object, allocated, with_instance}
+use Rattle.clos_machine.specs.clos_world.Dispatch.{ordered, required_by, required_in}
+use Rattle.clos_machine.specs.clos_world.World.{State, class_of}
 use Rattle.clos_objects.specs.Reached.{ordered_as, reached_by_new, required_of}
 
 pub either_any : {X : Type 0} (p : X → Bool) (xs ys : List X) (b c : Bool) → b ≡ list_any p xs → c ≡ list_any p ys → (b || c) ≡ list_any p (xs ++ ys)

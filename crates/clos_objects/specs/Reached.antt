@@ -4,13 +4,13 @@ use Rattle.lisp_data.specs.Value.{Val, instance}
 use Rattle.lisp_prims.specs.Primitive.{truth}
 use Rattle.std.specs.Prelude.{true}
 use Rattle.clos_class.specs.declared.effective_slots.EffectiveSlot.{EffectiveSlot}
-use Rattle.clos_generic.specs.Calls as calls
+use Rattle.clos_machine.specs.clos_world.clos_generic.Calls as calls
 use Rattle.clos_generic_core.specs.Arguments.{arguments_of}
 use Rattle.clos_generic_core.specs.System.{system_number}
 use Rattle.clos_generic_core.specs.declared.system.SystemFunction.TheVariants.{InitializeInstance, SharedInitialize}
 use Rattle.clos_machine.specs.Initialization.{invalid_initarg}
-use Rattle.clos_world.specs.Dispatch.{required_by}
-use Rattle.clos_world.specs.World.{State, class_of}
+use Rattle.clos_machine.specs.clos_world.Dispatch.{required_by}
+use Rattle.clos_machine.specs.clos_world.World.{State, class_of}
 
 -- how many of so many arguments are those of required parameters
 abbrev pub required_of : State → ℕ → ℕ → ℕ

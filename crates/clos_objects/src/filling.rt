@@ -3,8 +3,8 @@ ghost use Rattle.std.specs.Prelude.{◌≡◌, ◌∷◌, [], ℕ, ◌≤◌, If
 ghost use Rattle.std.specs.Option.{option_map_or};
 ghost use Rattle.lisp_data.specs.Value.{list, nil};
 ghost use Rattle.lisp_data.specs.ValueView.{value_of};
-ghost use Rattle.clos_store.specs.Store.{slot_found};
-ghost use Rattle.clos_world.specs.World.{class_of_instance, seen};
+ghost use Rattle.clos_machine.specs.clos_world.clos_store.Store.{slot_found};
+ghost use Rattle.clos_machine.specs.clos_world.World.{class_of_instance, seen};
 ghost use Rattle.clos_machine.specs.Filling.{is_named, fill, fill_with, filler, is_the_class, slots_left, subject_of, unbound_filler};
 ghost use Rattle.clos_machine.specs.Machine.{Grows, Leads, Shrinks, Turns, inside};
 ghost use Rattle.clos_machine.specs.Meaning.{meaning};
@@ -14,10 +14,10 @@ ghost use Rattle.clos_objects.specs.Objects.{Finds, filler_found, filler_of_form
 use crate::initargs::initarg_for;
 use crate::slot_names::{initargs_in, is_named, names_in};
 use clos_class::EffectiveSlot;
-use clos_control::control::begin;
 use clos_forms::Form;
 use clos_machine::machine::{Action, Doing, Filling, Frame, Machine};
-use clos_world::{ConditionKind, Stop, Values, World, plain};
+use clos_machine::moves::begin;
+use clos_machine::{ConditionKind, Stop, Values, World, plain};
 use lisp_data::{InstanceId, Value};
 use std::alloc::{AllocError, Global};
 

@@ -3,14 +3,14 @@ ghost use Rattle.std.specs.Prelude.{◌≡◌, IfOk, length, map};
 ghost use Rattle.std.specs.List.{list_any};
 ghost use Rattle.lisp_data.specs.ValueView.{value_of};
 ghost use Rattle.clos_generic_core.specs.Keywords.{method_allows, method_names};
-ghost use Rattle.clos_precedence.specs.PrecedenceView.{numbers};
-ghost use Rattle.clos_world.specs.World.{seen};
+ghost use Rattle.clos_machine.specs.clos_world.clos_precedence.PrecedenceView.{numbers};
+ghost use Rattle.clos_machine.specs.clos_world.World.{seen};
 ghost use Rattle.clos_machine.specs.Initialization.{methods_reached};
 ghost use Rattle.clos_objects.specs.Reached.{ordered_as, reached_by_new, required_of};
 
 use clos_generic_core::{Arguments, Method, MethodIds, SystemFunction, any_allows, any_names};
 use clos_machine::truth::t;
-use clos_world::{Values, World};
+use clos_machine::{Values, World};
 use lisp_data::{ClassId, GenericId, InstanceId, Name, Value};
 use std::alloc::{AllocError, Global};
 use std::marker::Model;

@@ -3,15 +3,15 @@ use Rattle.std.proofs.Common.{◌≡◌, ℕ, List, [], ◌∷◌, Some, None, R
 use Rattle.std.specs.Prelude.{unwrap_or}
 use Rattle.lisp_data.specs.Name.{Nam}
 use Rattle.lisp_data.specs.Value.{Val}
-use Rattle.clos_store.specs.Store.{slot_found}
-use Rattle.clos_world.specs.Values.{only_value}
-use Rattle.clos_world.specs.World.{State, unbound}
-use Rattle.clos_world.specs.declared.condition.Condition.{Condition}
-use Rattle.clos_world.specs.declared.condition.ConditionKind.TheVariants.{ProgramError}
-use Rattle.clos_world.specs.declared.condition.Stop.{Stop}
-use Rattle.clos_world.specs.declared.condition.Stop.TheVariants.{Refused, Storage}
+use Rattle.clos_machine.specs.clos_world.clos_store.Store.{slot_found}
+use Rattle.clos_machine.specs.clos_world.Values.{only_value}
+use Rattle.clos_machine.specs.clos_world.World.{State, unbound}
+use Rattle.clos_machine.specs.clos_world.declared.condition.Condition.{Condition}
+use Rattle.clos_machine.specs.clos_world.declared.condition.ConditionKind.TheVariants.{ProgramError}
+use Rattle.clos_machine.specs.clos_world.declared.condition.Stop.{Stop}
+use Rattle.clos_machine.specs.clos_world.declared.condition.Stop.TheVariants.{Refused, Storage}
 use Rattle.clos_machine.specs.Accessors.{read_by, read_of, written_by, written_of}
-use Rattle.clos_machine.specs.Machine.{Leads, Turns, at, inside, resume}
+use Rattle.clos_machine.specs.Machine.{DesignatesInstance, Leads, Turns, at, inside, resume}
 use Rattle.clos_machine.specs.Meaning.{closed}
 use Rattle.clos_machine.specs.Outcome.{Eval, Stopped, stopped}
 use Rattle.clos_machine.specs.Slots.{instance_in, slot_read}
@@ -19,8 +19,8 @@ use Rattle.clos_machine.specs.declared.arguments.Context.{Context}
 use Rattle.clos_machine.specs.declared.machine.Doing.{Doing}
 use Rattle.clos_machine.specs.declared.machine.Machine.{Machine}
 use Rattle.clos_machine.proofs.Turns.{leads_same, stopped_through}
-use Rattle.clos_objects_core.specs.Slots.{DesignatesInstance, two_of}
-use Rattle.clos_objects_core.proofs.Placing.{stops_at_once}
+use Rattle.clos_objects_core.specs.Slots.{two_of}
+use Rattle.clos_machine.proofs.Running.{stops_at_once}
 
 module _ (ev : Eval) (env : Context) (slot : Nam) where
   -- ---- a reader

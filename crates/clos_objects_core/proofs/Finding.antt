@@ -3,10 +3,10 @@ use Rattle.std.proofs.Common.{◌≡◌, List, [], ◌∷◌, ◌++◌, Option, 
 use Rattle.std.specs.Prelude.{option_map}
 use Rattle.lisp_data.specs.Print.{Specializer}
 use Rattle.lisp_data.specs.Value.{Val}
-use Rattle.clos_world.specs.World.{State}
-use Rattle.clos_world.specs.declared.condition.Condition.{Condition}
-use Rattle.clos_world.specs.declared.condition.Stop.{Stop}
-use Rattle.clos_world.specs.declared.condition.Stop.TheVariants.{Refused, Storage}
+use Rattle.clos_machine.specs.clos_world.World.{State}
+use Rattle.clos_machine.specs.clos_world.declared.condition.Condition.{Condition}
+use Rattle.clos_machine.specs.clos_world.declared.condition.Stop.{Stop}
+use Rattle.clos_machine.specs.clos_world.declared.condition.Stop.TheVariants.{Refused, Storage}
 use Rattle.clos_machine.specs.ClassFunctions.{Tells, comes_to}
 use Rattle.clos_machine.specs.FindMethod.{Designator, and_more, followed_by, method_answer}
 use Rattle.clos_machine.specs.Machine.{Leads, at, inside, resume}

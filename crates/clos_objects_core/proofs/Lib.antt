@@ -1,5 +1,4 @@
 pub mod Telling
 pub mod Placing
 pub mod Accessing
-pub mod Growing
 pub mod Finding

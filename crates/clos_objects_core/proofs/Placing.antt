@@ -6,12 +6,12 @@ use Rattle.lisp_data.specs.Value.{Val}
 use Rattle.lisp_data.specs.ValueView.{value_of}
 use Rattle.lisp_data.specs.declared.ids.InstanceId.{InstanceId}
 use Rattle.lisp_data.specs.declared.value.Value.{Value}
-use Rattle.clos_store.specs.Store.{slot_found, with_slot}
-use Rattle.clos_world.specs.World.{State}
-use Rattle.clos_world.specs.declared.condition.Condition.{Condition}
-use Rattle.clos_world.specs.declared.condition.ConditionKind.TheVariants.{ProgramError, StepLimit}
-use Rattle.clos_world.specs.declared.condition.Stop.{Stop}
-use Rattle.clos_world.specs.declared.condition.Stop.TheVariants.{Refused, Storage}
+use Rattle.clos_machine.specs.clos_world.clos_store.Store.{slot_found, with_slot}
+use Rattle.clos_machine.specs.clos_world.World.{State}
+use Rattle.clos_machine.specs.clos_world.declared.condition.Condition.{Condition}
+use Rattle.clos_machine.specs.clos_world.declared.condition.ConditionKind.TheVariants.{ProgramError, StepLimit}
+use Rattle.clos_machine.specs.clos_world.declared.condition.Stop.{Stop}
+use Rattle.clos_machine.specs.clos_world.declared.condition.Stop.TheVariants.{Refused, Storage}
 use Rattle.clos_machine.specs.Machine.{Leads, Turns, at, denote, inside, resume}
 use Rattle.clos_machine.specs.Meaning.{closed, meaning}
 use Rattle.clos_machine.specs.Outcome.{Run, Eval, Stopped, step_then, stopped}
@@ -21,20 +21,9 @@ use Rattle.clos_machine.specs.declared.callee.SlotFunction.{SlotFunction}
 use Rattle.clos_machine.specs.declared.machine.Doing.{Doing}
 use Rattle.clos_machine.specs.declared.machine.Doing.TheVariants.{Give}
 use Rattle.clos_machine.specs.declared.machine.Machine.{Machine}
-use Rattle.clos_machine.proofs.Running.{turns_of_leads}
+use Rattle.clos_machine.proofs.Running.{stops_at_once, turns_of_leads, turns_same}
 use Rattle.clos_machine.proofs.Turns.{leads_same, stopped_through}
 use Rattle.clos_objects_core.specs.Slots.{DesignatesSlot, three_of, two_of}
-
--- a turn of a run that ends like another
-pub turns_same : (run run' : Run) (w : State) (s : ℕ) (r : Result Doing Stop) (m : Machine) (w' : State) (s' : ℕ) → ((t : ℕ) → run w t ≡ run' w t)
-    → Turns run w s r m w' s' → Turns run' w s r m w' s'
-turns_same run run' w s (Ok d) m w' s' e h = (h.0, h.1, λ t. h.2 t ∙ e (h.0 + t))
-turns_same run run' w s (Err (Refused c)) m w' s' e h = sym (e s) ∙ h
-turns_same run run' w s (Err Storage) m w' s' e h = h
-
--- a run that stops at once
-pub stops_at_once : (m n : Machine) (run : Run) (w : State) (s : ℕ) (c : Condition) → run (at m w) s ≡ Stopped c (at m w) s → Turns (inside m run) w s (Err (Refused c)) n w s
-stops_at_once m n run w s c e = ap (λ o. closed (resume m.levels m.context o)) e ∙ stopped_through m.levels m.context c (at m w) s
 
 module _ (ev : Eval) (env : Context) where
   -- ---- a function with other than two arguments

@@ -9,11 +9,11 @@ use Rattle.lisp_prims.specs.Fault as prims
 use Rattle.lisp_prims.specs.Fault.{AnswersUnlessMemory, StandsFor}
 use Rattle.lisp_prims.specs.declared.fault.PrimFault.{PrimFault}
 use Rattle.lisp_prims.specs.declared.fault.PrimFault.TheVariants as fault
-use Rattle.clos_world.specs.Class.{named}
-use Rattle.clos_world.specs.Condition.{nil_name}
-use Rattle.clos_world.specs.World.{State, class_of}
-use Rattle.clos_world.specs.declared.condition.Stop.{Stop}
-use Rattle.clos_world.specs.declared.condition.Stop.TheVariants.{Refused, Storage}
+use Rattle.clos_machine.specs.clos_world.Class.{named}
+use Rattle.clos_machine.specs.clos_world.Condition.{nil_name}
+use Rattle.clos_machine.specs.clos_world.World.{State, class_of}
+use Rattle.clos_machine.specs.clos_world.declared.condition.Stop.{Stop}
+use Rattle.clos_machine.specs.clos_world.declared.condition.Stop.TheVariants.{Refused, Storage}
 use Rattle.clos_machine.specs.ClassFunctions.{Tells, class_answer, comes_to, in_words_of_conditions}
 use Rattle.clos_machine.specs.Fault.{Signals}
 use Rattle.clos_machine.specs.Machine.{Designates, Leads, at, inside, resume}
@@ -45,10 +45,3 @@ not_listed (Ok v) fault.DivisionByZero (Refused d) a h k = absurd a
 not_listed (Err c) fault.DivisionByZero (Refused d) a h k = ap Err (sym (h c a))
 not_listed (Ok v) fault.Unsupported (Refused d) a h k = absurd a
 not_listed (Err c) fault.Unsupported (Refused d) a h k = ap Err (sym (h c a))
-
--- ---- the class of NIL's name
-
-pub nil_designates : (w : State) (l : Vals) (n : Nam) (r : Result ClassId Stop) → l ≡ nil → n ≡ nil_name → Designates (class_found w.classes n (named w.classes n)) r
-    → Designates (designated w.classes (list l)) r
-nil_designates w l n r e k h =
-    subst (λ x. Designates (designated w.classes (list x)) r) (sym e) (subst (λ x. Designates (class_found w.classes x (named w.classes x)) r) k h)

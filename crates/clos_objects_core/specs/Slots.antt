@@ -4,10 +4,10 @@ use Rattle.lisp_data.specs.Name.{Nam}
 use Rattle.lisp_data.specs.Value.{Val, instance}
 use Rattle.lisp_data.specs.declared.ids.InstanceId.{InstanceId}
 use Rattle.clos_forms.specs.Quotation.{name_value}
-use Rattle.clos_world.specs.World.{State}
-use Rattle.clos_world.specs.declared.condition.Condition.{Condition}
-use Rattle.clos_world.specs.declared.condition.Stop.{Stop}
-use Rattle.clos_world.specs.declared.condition.Stop.TheVariants.{Refused, Storage}
+use Rattle.clos_machine.specs.clos_world.World.{State}
+use Rattle.clos_machine.specs.clos_world.declared.condition.Condition.{Condition}
+use Rattle.clos_machine.specs.clos_world.declared.condition.Stop.{Stop}
+use Rattle.clos_machine.specs.clos_world.declared.condition.Stop.TheVariants.{Refused, Storage}
 use Rattle.clos_machine.specs.Slots.{class_value, operation_name}
 
 -- ---- arguments by their number
@@ -30,12 +30,6 @@ abbrev pub DesignatesSlot : Result (ℕ × Nam) Condition → Result (InstanceId
 DesignatesSlot d (Ok p) = d ≡ Ok (p.0.0, p.1)
 DesignatesSlot d (Err (Refused c)) = d ≡ Err c
 DesignatesSlot d (Err Storage) = Unit {0}
-
--- the instance that a value is, or why not
-abbrev pub DesignatesInstance : Result ℕ Condition → Result InstanceId Stop → Type 0
-DesignatesInstance d (Ok i) = d ≡ Ok i.0
-DesignatesInstance d (Err (Refused c)) = d ≡ Err c
-DesignatesInstance d (Err Storage) = Unit {0}
 
 -- ---- the arguments of slot-missing where a slot was to get this value, or none
 

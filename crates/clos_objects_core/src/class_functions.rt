@@ -3,18 +3,18 @@ ghost use Rattle.std.specs.Prelude.{◌≡◌, IfOk, map};
 ghost use Rattle.lisp_data.specs.Value.{class};
 ghost use Rattle.lisp_data.specs.ValueView.{value_of};
 ghost use Rattle.lisp_prims.specs.Primitive.{truth};
-ghost use Rattle.clos_precedence.specs.PrecedenceView.{numbers};
-ghost use Rattle.clos_world.specs.Class.{named, class_name, precedence};
-ghost use Rattle.clos_world.specs.World.{class_of, seen};
+ghost use Rattle.clos_machine.specs.clos_world.clos_precedence.PrecedenceView.{numbers};
+ghost use Rattle.clos_machine.specs.clos_world.Class.{named, class_name, precedence};
+ghost use Rattle.clos_machine.specs.clos_world.World.{class_of, seen};
 ghost use Rattle.clos_machine.specs.ClassFunctions.{Tells, class_answer, class_by_symbol, class_designated, class_name_of, class_of_value, classes_listed, comes_to, found_class, incomplete_class, is_subclass, listed_if_complete, missing, name_of_class, named_by, of_class, of_type, precedence_list_of, precedence_of_class, symbol_in, undefined_class, wrong_number, wrong_type};
 ghost use Rattle.clos_machine.specs.Machine.{Designates, Grows, Leads, inside};
 
 use clos_forms::value_named;
 use clos_machine::callee::ClassFunction;
-use clos_machine::fault::of_function;
+use clos_machine::fault::{incomplete_class, of_function, wrong_type};
 use clos_machine::machine::{Doing, Machine};
 use clos_machine::truth::{is_true, nil, t};
-use clos_world::{Condition, ConditionKind, Stop, Values, World, about, about_name, plain};
+use clos_machine::{Condition, ConditionKind, Stop, Values, World, about, about_name, plain};
 use lisp_data::{ClassId, Name, Naming, Value};
 use lisp_prims::Primitive;
 use lisp_prims::lists::ListFunction;
@@ -243,26 +243,9 @@ pub fn wrong_number(alloc: Global) -> Result<Value, Stop>
     Err(Stop::Refused(plain(alloc, ConditionKind::ProgramError)))
 }
 
-/// The condition that this value is of a wrong type.
-pub fn wrong_type(alloc: Global, value: &Value) -> Result<Condition, AllocError>
-    ensures { IfOk result (λ c. c ≡ wrong_type (value_of value.now)) }
-{
-    about(alloc, ConditionKind::TypeError, value.copy()?)
-}
-
 /// The condition that there is no class of this name.
 pub fn undefined_class(alloc: Global, name: &Name) -> Result<Condition, AllocError>
     ensures { IfOk result (λ c. c ≡ undefined_class name.now) }
 {
     about_name(alloc, ConditionKind::UndefinedClass, name)
-}
-
-/// The condition that this class is not complete.
-pub fn incomplete_class(alloc: Global, world: &World, id: ClassId) -> Result<Condition, AllocError>
-    ensures { IfOk result (λ c. c ≡ incomplete_class (class_name (seen world.now).classes id.0)) }
-{
-    match world.class_name(id) {
-        None => Ok(plain(alloc, ConditionKind::IncompleteClass)),
-        Some(name) => about_name(alloc, ConditionKind::IncompleteClass, name),
-    }
 }

@@ -2,6 +2,5 @@
 #![tactic(auto)]
 
 pub mod class_functions;
-pub mod classes;
 pub mod find_method;
 pub mod slots;

@@ -5,23 +5,24 @@ ghost use Rattle.lisp_data.specs.Value.{instance};
 ghost use Rattle.lisp_data.specs.ValueView.{value_of};
 ghost use Rattle.lisp_prims.specs.Primitive.{truth};
 ghost use Rattle.clos_forms.specs.Quotation.{name_value};
-ghost use Rattle.clos_store.specs.Store.{slot_found};
-ghost use Rattle.clos_world.specs.Values.{only_value};
-ghost use Rattle.clos_world.specs.World.{State, class_of_instance, seen};
+ghost use Rattle.clos_machine.specs.clos_world.clos_store.Store.{slot_found};
+ghost use Rattle.clos_machine.specs.clos_world.Values.{only_value};
+ghost use Rattle.clos_machine.specs.clos_world.World.{State, class_of_instance, seen};
 ghost use Rattle.clos_machine.specs.Accessors.{read_by, written_by};
 ghost use Rattle.clos_machine.specs.Machine.{Grows, Leads, Turns, at, inside};
 ghost use Rattle.clos_machine.specs.Meaning.{meaning};
 ghost use Rattle.clos_machine.specs.Outcome.{Gave, Run};
 ghost use Rattle.clos_machine.specs.Slots.{class_value, operation_name, has_slot, instance_in, slot_answer, slot_called, slot_changed, slot_designated, slot_read, slot_set, slot_tested};
-ghost use Rattle.clos_objects_core.specs.Slots.{DesignatesInstance, DesignatesSlot, changed_arguments, three_of, two_of};
+ghost use Rattle.clos_objects_core.specs.Slots.{DesignatesSlot, changed_arguments, three_of, two_of};
 
-use crate::class_functions::{symbol_in, truth, wrong_type};
-use clos_control::control::invoke_under;
+use crate::class_functions::{symbol_in, truth};
 use clos_forms::{Forms, value_named};
 use clos_generic_core::SystemFunction;
 use clos_machine::callee::SlotFunction;
+use clos_machine::fault::{instance_in, wrong_type};
 use clos_machine::machine::{Doing, Frame, Machine};
-use clos_world::{ConditionKind, Stop, Values, World, plain};
+use clos_machine::moves::invoke_under;
+use clos_machine::{ConditionKind, Stop, Values, World, plain};
 use lisp_data::{InstanceId, Name, Value};
 use std::alloc::{AllocError, Global};
 
@@ -52,16 +53,6 @@ fn three(values: &[Value]) -> Option<(&Value, &Value, &Value)>
     match values {
         [first, second, third] => Some((first, second, third)),
         _ => None,
-    }
-}
-
-/// The instance that a value is.
-pub fn instance_in(alloc: Global, object: &Value) -> Result<InstanceId, Stop>
-    ensures { DesignatesInstance (instance_in (value_of object.now)) result }
-{
-    match object {
-        Value::Instance(id) => Ok(*id),
-        _ => Err(Stop::Refused(wrong_type(alloc, object)?)),
     }
 }
 
@@ -247,7 +238,7 @@ fn read(
 }
 
 /// Whether a slot has a value.
-#[tactic(auto, using(crate::proofs::Growing::grows_5_6))]
+#[tactic(auto, using(clos_machine::proofs::Turns::grows_5_6))]
 fn test(
     alloc: Global,
     machine: &mut Machine,
@@ -317,7 +308,7 @@ fn change(
 }
 
 /// Slot-missing is called in place of the change of a slot, and then this value is given.
-#[tactic(auto, using(crate::proofs::Growing::grows_5_6))]
+#[tactic(auto, using(clos_machine::proofs::Turns::grows_5_6))]
 fn change_missing(
     alloc: Global,
     machine: &mut Machine,

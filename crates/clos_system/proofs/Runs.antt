@@ -4,12 +4,12 @@ use Rattle.std.specs.Io.KnownBytes.{Appends}
 use Rattle.lisp_data.specs.Datum.{Dat}
 use Rattle.lisp_data.specs.declared.value.Value.{Value}
 use Rattle.lisp_reader.specs.Answers.{Next}
-use Rattle.clos_world.specs.World.{State}
-use Rattle.clos_machine.specs.Machine.{Answers}
-use Rattle.clos_system.specs.Step.{step}
+use Rattle.clos_session.specs.clos_world.World.{State}
+use Rattle.clos_session.specs.clos_machine.Machine.{Answers}
+use Rattle.clos_session.specs.Step.{step}
 use Rattle.clos_system.specs.Transcript.{Ran, performs, cuts, told, told_for, counted, counted_for, state_after, ends_line, Stands, Performs, FailsAfter, Faults, RunFaults, SourceFails}
-use Rattle.clos_world.specs.declared.condition.Stop.{Stop}
-use Rattle.clos_world.specs.declared.condition.Stop.TheVariants.{Refused, Storage}
+use Rattle.clos_session.specs.clos_world.declared.condition.Stop.{Stop}
+use Rattle.clos_session.specs.clos_world.declared.condition.Stop.TheVariants.{Refused, Storage}
 use Rattle.clos_system.specs.declared.transcript.Summary.{Summary}
 use Rattle.clos_system.specs.declared.transcript.RunFault.{RunFault}
 use Rattle.clos_system.specs.declared.transcript.RunFault.TheVariants.{Read, TooLong, Reader, Write, Memory}

@@ -1,9 +1,3 @@
-pub mod Variable
-pub mod Forms
-pub mod Function
-pub mod Definition
-pub mod Served
-pub mod Step
-pub mod Session
 pub mod Transcript
-pub mod Definitions
+pub use Rattle.clos_session.specs.clos_world as clos_world
+pub use Rattle.clos_session.specs as clos_session

@@ -10,14 +10,14 @@ use Rattle.lisp_data.specs.declared.value.Value.{Value}
 use Rattle.lisp_reader.specs.Answers.{Next, NextFails}
 use Rattle.lisp_reader.specs.Fault.{OnFault, offset_of}
 use Rattle.lisp_reader.specs.Gaps.{Gaps}
-use Rattle.clos_world.specs.Condition.{number_of, condition_name}
-use Rattle.clos_world.specs.World.{State, names_of}
-use Rattle.clos_machine.specs.Outcome.{Out, Gave, Stopped}
-use Rattle.clos_machine.specs.Machine.{Answers, leaves}
-use Rattle.clos_system.specs.Step.{step}
-use Rattle.clos_world.specs.declared.condition.Condition.{Condition}
-use Rattle.clos_world.specs.declared.condition.Stop.{Stop}
-use Rattle.clos_world.specs.declared.condition.Stop.TheVariants.{Refused, Storage}
+use Rattle.clos_session.specs.clos_world.Condition.{number_of, condition_name}
+use Rattle.clos_session.specs.clos_world.World.{State, names_of}
+use Rattle.clos_session.specs.clos_machine.Outcome.{Out, Gave, Stopped}
+use Rattle.clos_session.specs.clos_machine.Machine.{Answers, leaves}
+use Rattle.clos_session.specs.Step.{step}
+use Rattle.clos_session.specs.clos_world.declared.condition.Condition.{Condition}
+use Rattle.clos_session.specs.clos_world.declared.condition.Stop.{Stop}
+use Rattle.clos_session.specs.clos_world.declared.condition.Stop.TheVariants.{Refused, Storage}
 use Rattle.clos_system.specs.declared.transcript.Summary.{Summary}
 use Rattle.clos_system.specs.declared.transcript.RunFault.{RunFault}
 use Rattle.clos_system.specs.declared.transcript.RunFault.TheVariants.{Read, TooLong, Reader, Write, Memory}

@@ -1,14 +1,7 @@
-//! Sessions of the language: top-level forms, and runs of whole texts.
+//! Runs of whole texts in sessions, and their transcripts.
 #![tactic(auto)]
 
-mod definition;
-mod forms;
-mod function;
-mod served;
-mod session;
 mod transcript;
-mod variable;
 
-pub use clos_world::{ConditionKind, Limits, Values};
-pub use session::{Reply, Session};
+pub use clos_session::{ConditionKind, Limits, Reply, Session, Values};
 pub use transcript::{RunFault, Summary, run};

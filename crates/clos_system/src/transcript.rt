@@ -3,12 +3,11 @@ ghost use Rattle.std.specs.Prelude.{◌≡◌, ◌++◌, ◌∷◌, ◌+◌, ◌
 ghost use Rattle.lisp_data.specs.Print.{text_of};
 ghost use Rattle.lisp_data.specs.ValueView.{value_of};
 ghost use Rattle.lisp_data.specs.DatumView.{datum_of};
-ghost use Rattle.clos_world.specs.World.{State, seen, names_of};
-ghost use Rattle.clos_system.specs.Session.{state_of};
+ghost use Rattle.clos_session.specs.clos_world.World.{State, seen, names_of};
+ghost use Rattle.clos_session.specs.Session.{state_of};
 ghost use Rattle.clos_system.specs.Transcript.{ends_line, fresh_line, condition_text, storage_text, told_for, counted_for, Finishes, Faults, Performs, FailsAfter, OverText, RunFaults, SourceFails};
 
-use crate::session::{Session, perform};
-use clos_world::{Condition, Stop, World};
+use clos_session::{Condition, Session, Stop, World};
 use itoa::Buffer;
 use lisp_data::{Datum, Value, prin1};
 use lisp_reader::{ReadFault, read_form};
@@ -155,12 +154,12 @@ fn run_form<W: Write>(
     ensures few { IfOk result (λ r. (r.0.conditions ≤ r.0.forms) × (r.0.storages ≤ r.0.forms) × (r.0.forms ≡ summary.forms + 1)) }
     ensures fails { IfErr result (FailsAfter (datum_of datum) (state_of session.old) (state_of session.new)) }
 {
-    let from = session.world.written.len();
-    let limit = session.world.limits.steps;
+    let from = session.written().len();
+    let limit = session.world().limits.steps;
     let mut left = limit;
-    let answer = perform(alloc, &mut session.world, &datum, &mut left);
+    let answer = session.perform(&datum, &mut left);
     let counts = counted(summary, &answer);
-    let world = &session.world;
+    let world = session.world();
     let taken = limit.saturating_sub(left);
     let Ok(piece) = tell(alloc, world, from, answer, taken, echo, fresh) else {
         return Err(RunFault::Memory);

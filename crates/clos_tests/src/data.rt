@@ -33,8 +33,3 @@ pub fn deepest(alloc: Global, symbol: &'static str) -> Result<Datum, Fail> {
     }
     Ok(datum)
 }
-
-/// Adds words to a text. Where memory is refused they are missing, and the text is not the one that is wanted.
-pub fn say(out: &mut String, words: &str) {
-    let _ = out.push_str(words);
-}

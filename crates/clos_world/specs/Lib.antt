@@ -10,3 +10,10 @@ pub mod Dispatch
 pub mod Initial
 pub mod FunctionName
 pub mod Definitions
+pub use Rattle.clos_precedence.specs as clos_precedence
+pub use Rattle.clos_class_core.specs as clos_class_core
+pub use Rattle.clos_class.specs as clos_class
+pub use Rattle.clos_store.specs as clos_store
+pub use Rattle.clos_generic_core.specs as clos_generic_core
+pub use Rattle.clos_generic.specs as clos_generic
+pub use Rattle.clos_comb.specs as clos_comb

@@ -10,6 +10,8 @@ pub mod limits;
 pub mod values;
 pub mod world;
 
+pub use clos_class::{Effective, EffectiveSlot, Layout};
+pub use clos_generic_core::{MethodIds, SystemFunction};
 pub use condition::{
     Condition, ConditionKind, Stop, about, about_both, about_call, about_name, about_names, plain,
 };

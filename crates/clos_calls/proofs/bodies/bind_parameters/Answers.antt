@@ -1,5 +1,5 @@
 use Rattle.std.proofs.Common.{[], ◌∷◌, Ok, ap, subst, ◌∙◌}
-use Rattle.clos_world.specs.World.{seen, bound_as}
+use Rattle.clos_machine.specs.clos_world.World.{seen, bound_as}
 use Rattle.clos_machine.specs.Machine.{Leads, given_to, resume, with_init}
 use Rattle.clos_machine.specs.Meaning.{closed, meaning}
 use Rattle.clos_machine.specs.Parameters.{init}

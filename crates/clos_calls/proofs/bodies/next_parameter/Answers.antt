@@ -1,6 +1,6 @@
 use Rattle.std.proofs.Common.{sym, ◌∙◌}
 use Rattle.lisp_data.specs.ValueView.{value_of}
-use Rattle.clos_world.specs.World.{seen}
+use Rattle.clos_machine.specs.clos_world.World.{seen}
 use Rattle.clos_calls.proofs.Settled.{parameter_stops}
 use Rattle.clos_calls.proofs.bodies.next_parameter.Goals as goal
 

@@ -1,5 +1,5 @@
 use Rattle.std.proofs.Common.{◌∙◌}
-use Rattle.clos_world.specs.World.{seen}
+use Rattle.clos_machine.specs.clos_world.World.{seen}
 use Rattle.clos_calls.proofs.Settled.{planned}
 use Rattle.clos_calls.proofs.bodies.run_planned.Goals as goal
 

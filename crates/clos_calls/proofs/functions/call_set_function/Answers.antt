@@ -1,7 +1,7 @@
 use Rattle.std.proofs.Common.{ap}
-use Rattle.clos_world.specs.FunctionName.{setter_value}
-use Rattle.clos_world.specs.Functions.{function_in}
-use Rattle.clos_world.specs.World.{seen}
+use Rattle.clos_machine.specs.clos_world.FunctionName.{setter_value}
+use Rattle.clos_machine.specs.clos_world.Functions.{function_in}
+use Rattle.clos_machine.specs.clos_world.World.{seen}
 use Rattle.clos_machine.specs.Calls.{called_defined, applied_to}
 use Rattle.clos_machine.specs.Machine.{inside}
 use Rattle.clos_machine.specs.Meaning.{meaning}

@@ -1,8 +1,8 @@
 use Rattle.std.proofs.Common.{ap, slice_get, ◌∙◌}
-use Rattle.clos_world.specs.FunctionName.{setter_value}
-use Rattle.clos_world.specs.Functions.{function_in}
-use Rattle.clos_world.specs.Values.{last_first}
-use Rattle.clos_world.specs.World.{seen}
+use Rattle.clos_machine.specs.clos_world.FunctionName.{setter_value}
+use Rattle.clos_machine.specs.clos_world.Functions.{function_in}
+use Rattle.clos_machine.specs.clos_world.Values.{last_first}
+use Rattle.clos_machine.specs.clos_world.World.{seen}
 use Rattle.clos_machine.specs.Calls.{called_defined, called_setter, called_setter_by}
 use Rattle.clos_machine.specs.GenericCalls.{called_generic}
 use Rattle.clos_machine.specs.Machine.{inside}

@@ -1,6 +1,6 @@
 use Rattle.std.proofs.Common.{ap, sym, ◌∙◌, slice_get}
-use Rattle.clos_world.specs.Dispatch.{ordered}
-use Rattle.clos_world.specs.World.{seen}
+use Rattle.clos_machine.specs.clos_world.Dispatch.{ordered}
+use Rattle.clos_machine.specs.clos_world.World.{seen}
 use Rattle.clos_machine.specs.Meaning.{meaning}
 use Rattle.clos_calls.specs.GenericCalls.{takes_in}
 use Rattle.clos_calls.proofs.Dispatching.{none_called, some_called, wrong_count}

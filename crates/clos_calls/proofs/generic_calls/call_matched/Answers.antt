@@ -2,7 +2,7 @@ use Rattle.std.proofs.Common.{ap, map, sym, ◌∙◌}
 use Rattle.lisp_data.specs.ValueView.{value_of}
 use Rattle.clos_comb.specs.Effective as comb
 use Rattle.clos_comb.specs.OutcomeView.{combined_of}
-use Rattle.clos_world.specs.World.{seen}
+use Rattle.clos_machine.specs.clos_world.World.{seen}
 use Rattle.clos_machine.specs.GenericCalls.{after_positional, keywords_fit}
 use Rattle.clos_machine.specs.Meaning.{meaning}
 use Rattle.clos_calls.proofs.Dispatching.{keywords_right, keywords_wrong}

@@ -1,10 +1,10 @@
 use Rattle.std.proofs.Common.{◌∷◌, ap, not, slice_get, subst, sym, ◌∙◌}
 use Rattle.lisp_data.specs.Value.{generic}
-use Rattle.clos_generic.specs.TableView.{function_of}
+use Rattle.clos_machine.specs.clos_world.clos_generic.TableView.{function_of}
 use Rattle.clos_generic_core.specs.System.{system_number}
 use Rattle.clos_generic_core.specs.declared.system.SystemFunction.TheVariants.{NoApplicableMethod}
-use Rattle.clos_world.specs.Dispatch.{ordered}
-use Rattle.clos_world.specs.World.{seen}
+use Rattle.clos_machine.specs.clos_world.Dispatch.{ordered}
+use Rattle.clos_machine.specs.clos_world.World.{seen}
 use Rattle.clos_machine.specs.GenericCalls.{matched}
 use Rattle.clos_machine.specs.Machine.{Leads, inside}
 use Rattle.clos_machine.specs.Meaning.{meaning}

@@ -1,5 +1,5 @@
 use Rattle.std.proofs.Common.{slice_get, subst}
-use Rattle.clos_world.specs.World.{seen}
+use Rattle.clos_machine.specs.clos_world.World.{seen}
 use Rattle.clos_machine.specs.GenericCalls.{called_generic}
 use Rattle.clos_machine.specs.Machine.{Leads, inside}
 use Rattle.clos_machine.specs.Meaning.{meaning}

@@ -1,6 +1,6 @@
 use Rattle.std.proofs.Common.{ap, sym, ◌∙◌}
 use Rattle.clos_comb.specs.OutcomeView.{combined_of}
-use Rattle.clos_world.specs.World.{seen}
+use Rattle.clos_machine.specs.clos_world.World.{seen}
 use Rattle.clos_machine.specs.Contexts.{in_call}
 use Rattle.clos_machine.specs.GenericCalls.{combined_run}
 use Rattle.clos_machine.specs.Machine.{at}

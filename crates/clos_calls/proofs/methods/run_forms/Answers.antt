@@ -1,5 +1,5 @@
 use Rattle.std.proofs.Common.{ap, sym, ◌∙◌}
-use Rattle.clos_world.specs.World.{seen}
+use Rattle.clos_machine.specs.clos_world.World.{seen}
 use Rattle.clos_machine.specs.Calls.{keys_are_even}
 use Rattle.clos_calls.proofs.Accessing.{keys_even}
 use Rattle.clos_calls.proofs.methods.run_forms.Goals as goal

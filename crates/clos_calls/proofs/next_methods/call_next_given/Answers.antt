@@ -1,5 +1,5 @@
 use Rattle.std.proofs.Common.{Err, None, subst, ◌≡◌}
-use Rattle.clos_world.specs.World.{seen}
+use Rattle.clos_machine.specs.clos_world.World.{seen}
 use Rattle.clos_machine.specs.Machine.{Leads, inside}
 use Rattle.clos_machine.specs.Meaning.{meaning}
 use Rattle.clos_machine.specs.NextMethods.{next_called}

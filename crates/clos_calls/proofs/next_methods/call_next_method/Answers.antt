@@ -1,4 +1,4 @@
-use Rattle.clos_world.specs.World.{seen}
+use Rattle.clos_machine.specs.clos_world.World.{seen}
 use Rattle.clos_machine.specs.Machine.{at}
 use Rattle.clos_machine.specs.Meaning.{meaning, next_method}
 use Rattle.clos_calls.proofs.Nexting.{none_given, some_given}

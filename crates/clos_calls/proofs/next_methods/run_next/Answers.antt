@@ -1,6 +1,6 @@
 use Rattle.std.proofs.Common.{ap, ◌∙◌, ◌∷◌, drop}
 use Rattle.clos_forms.specs.Operator.{the_method}
-use Rattle.clos_world.specs.World.{seen}
+use Rattle.clos_machine.specs.clos_world.World.{seen}
 use Rattle.clos_calls.proofs.Nexting.{made_runs, method_runs, none_runs}
 use Rattle.clos_calls.proofs.next_methods.run_next.Goals as goal
 

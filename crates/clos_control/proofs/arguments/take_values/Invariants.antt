@@ -1,4 +1,4 @@
-use Rattle.clos_world.specs.World.{seen}
+use Rattle.clos_machine.specs.clos_world.World.{seen}
 use Rattle.clos_machine.specs.Machine.{Took, at}
 use Rattle.clos_control.proofs.arguments.take_values.Given as goal
 

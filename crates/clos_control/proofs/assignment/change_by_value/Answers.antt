@@ -1,5 +1,5 @@
 use Rattle.lisp_data.specs.ValueView.{value_of}
-use Rattle.clos_world.specs.World.{seen}
+use Rattle.clos_machine.specs.clos_world.World.{seen}
 use Rattle.clos_machine.proofs.Running.{not_changed}
 use Rattle.clos_control.proofs.assignment.change_by_value.Goals as goal
 

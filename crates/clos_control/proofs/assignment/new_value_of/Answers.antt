@@ -1,5 +1,5 @@
 use Rattle.lisp_data.specs.ValueView.{value_of}
-use Rattle.clos_world.specs.World.{seen}
+use Rattle.clos_machine.specs.clos_world.World.{seen}
 use Rattle.clos_machine.specs.Machine.{at}
 use Rattle.clos_machine.proofs.Running.{made_from}
 use Rattle.clos_control.proofs.assignment.new_value_of.Goals as goal

@@ -1,5 +1,5 @@
-use Rattle.clos_world.specs.Values.{only_value}
-use Rattle.clos_world.specs.World.{seen}
+use Rattle.clos_machine.specs.clos_world.Values.{only_value}
+use Rattle.clos_machine.specs.clos_world.World.{seen}
 use Rattle.clos_machine.proofs.Running.{nothing_stored}
 use Rattle.clos_control.proofs.assignment.store_only.Goals as goal
 

@@ -1,5 +1,5 @@
-use Rattle.std.proofs.Common.{Some, ap, sym, refl, ◌∙◌}
-use Rattle.clos_world.specs.World.{seen, bound_as}
+use Rattle.std.proofs.Common.{ap, sym, refl, ◌∙◌}
+use Rattle.clos_machine.specs.clos_world.World.{seen, bound_as}
 use Rattle.clos_machine.specs.Machine.{inside, resume, with_next}
 use Rattle.clos_machine.specs.Meaning.{meaning, closed}
 use Rattle.clos_machine.specs.Outcome.{Run}

@@ -1,5 +1,5 @@
 use Rattle.std.proofs.Common.{ap, refl, ◌∙◌}
-use Rattle.clos_world.specs.World.{seen, bound_as}
+use Rattle.clos_machine.specs.clos_world.World.{seen, bound_as}
 use Rattle.clos_machine.specs.Meaning.{meaning, closed}
 use Rattle.clos_machine.specs.Outcome.{Run}
 use Rattle.clos_machine.specs.Variables.{in_order}

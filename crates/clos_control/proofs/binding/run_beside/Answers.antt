@@ -1,6 +1,6 @@
 use Rattle.std.proofs.Common.{ap, refl, ◌∙◌}
 use Rattle.lisp_data.specs.Value.{list, nil}
-use Rattle.clos_world.specs.World.{bound_as}
+use Rattle.clos_machine.specs.clos_world.World.{bound_as}
 use Rattle.clos_machine.specs.Machine.{inside, resume}
 use Rattle.clos_machine.specs.Meaning.{meaning, closed}
 use Rattle.clos_machine.specs.Outcome.{Run}

@@ -1,5 +1,5 @@
 use Rattle.std.proofs.Common.{ap, sym, ◌∙◌}
-use Rattle.clos_world.specs.World.{seen}
+use Rattle.clos_machine.specs.clos_world.World.{seen}
 use Rattle.clos_machine.specs.Machine.{at}
 use Rattle.clos_machine.specs.Meaning.{meaning}
 use Rattle.clos_control.proofs.Unset.{put_aside, aside_skips}

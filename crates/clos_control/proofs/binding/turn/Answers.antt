@@ -1,6 +1,6 @@
-use Rattle.std.proofs.Common.{◌≡◌, ◌+◌, suc, arith, ap, sym, ◌∙◌, refl}
+use Rattle.std.proofs.Common.{arith, ap, ◌∙◌, refl}
 use Rattle.std.specs.Prelude.{pos}
-use Rattle.clos_world.specs.World.{seen}
+use Rattle.clos_machine.specs.clos_world.World.{seen}
 use Rattle.clos_machine.specs.Machine.{inside, loop_of, at, resume}
 use Rattle.clos_machine.specs.Meaning.{meaning, closed}
 use Rattle.clos_machine.specs.Variables.{turns}

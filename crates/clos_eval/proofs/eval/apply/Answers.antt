@@ -1,8 +1,8 @@
 use Rattle.std.proofs.Common.{sym, subst, ◌∙◌}
 use Rattle.lisp_prims.specs.Primitive.{answer}
 use Rattle.clos_forms.specs.declared.operator.FunctionName.TheVariants.{Symbol}
-use Rattle.clos_generic.specs.Table.{named}
-use Rattle.clos_world.specs.World.{class_of, seen}
+use Rattle.clos_machine.specs.clos_world.clos_generic.Table.{named}
+use Rattle.clos_machine.specs.clos_world.World.{class_of, seen}
 use Rattle.clos_machine.specs.Calls.{called_function}
 use Rattle.clos_machine.specs.ClassFunctions.{class_answer, comes_to}
 use Rattle.clos_machine.specs.Fault.{answered}

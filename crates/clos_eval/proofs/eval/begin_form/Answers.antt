@@ -1,5 +1,5 @@
 use Rattle.std.proofs.Common.{◌-◌, arith, ap, sym, ◌∙◌}
-use Rattle.clos_world.specs.World.{seen}
+use Rattle.clos_machine.specs.clos_world.World.{seen}
 use Rattle.clos_machine.specs.Outcome.{Stopped}
 use Rattle.clos_machine.specs.Machine.{at}
 use Rattle.clos_machine.proofs.Running.{start_no_step, start_too_deep, start_begins, start_begins_at}

@@ -1,5 +1,5 @@
 use Rattle.std.proofs.Common.{subst}
-use Rattle.clos_world.specs.World.{seen}
+use Rattle.clos_machine.specs.clos_world.World.{seen}
 use Rattle.clos_machine.specs.Functions.{place_read}
 use Rattle.clos_machine.specs.Machine.{Turns, inside}
 use Rattle.clos_machine.specs.Meaning.{meaning}

@@ -1,5 +1,5 @@
 use Rattle.std.proofs.Common.{sym, ◌∙◌}
-use Rattle.clos_world.specs.World.{seen}
+use Rattle.clos_machine.specs.clos_world.World.{seen}
 use Rattle.clos_eval.proofs.Naming.{place_is_changed, variable_is_changed}
 use Rattle.clos_eval.proofs.eval.change_name.Goals as goal
 

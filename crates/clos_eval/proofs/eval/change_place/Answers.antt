@@ -1,6 +1,6 @@
 use Rattle.std.proofs.Common.{ap, sym, ◌∙◌, []}
-use Rattle.clos_world.specs.World.{seen, unbound}
-use Rattle.clos_world.specs.declared.condition.ConditionKind.TheVariants.{ProgramError}
+use Rattle.clos_machine.specs.clos_world.World.{seen, unbound}
+use Rattle.clos_machine.specs.clos_world.declared.condition.ConditionKind.TheVariants.{ProgramError}
 use Rattle.clos_machine.specs.Machine.{at, inside}
 use Rattle.clos_machine.specs.Meaning.{changed_place, meaning}
 use Rattle.clos_machine.specs.Outcome.{Stopped}

@@ -1,4 +1,4 @@
-use Rattle.clos_world.specs.World.{seen}
+use Rattle.clos_machine.specs.clos_world.World.{seen}
 use Rattle.clos_machine.specs.Meaning.{evaluation}
 use Rattle.clos_machine.specs.Machine.{Reached, denote, weight}
 use Rattle.clos_eval.proofs.eval.evaluate.Given as goal

@@ -1,5 +1,5 @@
 use Rattle.std.proofs.Common.{sym, ◌∙◌}
-use Rattle.clos_world.specs.World.{seen}
+use Rattle.clos_machine.specs.clos_world.World.{seen}
 use Rattle.clos_eval.proofs.Naming.{place_is_set, variable_is_set}
 use Rattle.clos_eval.proofs.eval.set_name.Goals as goal
 

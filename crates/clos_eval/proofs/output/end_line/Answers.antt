@@ -1,4 +1,4 @@
-use Rattle.clos_world.specs.World.{seen}
+use Rattle.clos_machine.specs.clos_world.World.{seen}
 use Rattle.clos_machine.proofs.Running.{line_refused}
 use Rattle.clos_eval.proofs.output.end_line.Goals as goal
 

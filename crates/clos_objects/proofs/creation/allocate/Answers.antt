@@ -1,5 +1,5 @@
 use Rattle.std.proofs.Common.{ap, refl}
-use Rattle.clos_world.specs.World.{seen}
+use Rattle.clos_machine.specs.clos_world.World.{seen}
 use Rattle.clos_objects.proofs.Making.{allocate_full, allocate_goes, allocate_no_step, allocate_stops, next_of}
 use Rattle.clos_objects.proofs.creation.allocate.Goals as goal
 

@@ -1,6 +1,6 @@
 use Rattle.std.proofs.Common.{ap, drop, refl, subst}
 use Rattle.lisp_data.specs.ValueView.{value_of}
-use Rattle.clos_world.specs.World.{seen}
+use Rattle.clos_machine.specs.clos_world.World.{seen}
 use Rattle.clos_machine.specs.Filling.{fill_with, slots_left, subject_of}
 use Rattle.clos_machine.specs.Meaning.{meaning}
 use Rattle.clos_machine.specs.Outcome.{then_do}

@@ -1,6 +1,6 @@
 use Rattle.std.proofs.Common.{◌-◌, arith, ap, drop, refl}
 use Rattle.lisp_data.specs.ValueView.{value_of}
-use Rattle.clos_world.specs.World.{seen}
+use Rattle.clos_machine.specs.clos_world.World.{seen}
 use Rattle.clos_machine.specs.Filling.{slots_left, subject_of}
 use Rattle.clos_machine.specs.declared.machine.Filling.{Filling}
 use Rattle.clos_objects.proofs.Passing.{first_next, first_no_step}

@@ -1,5 +1,5 @@
 use Rattle.std.proofs.Common.{ap, sym, subst, ◌∙◌, Some}
-use Rattle.clos_world.specs.World.{seen}
+use Rattle.clos_machine.specs.clos_world.World.{seen}
 use Rattle.clos_machine.specs.Filling.{slots_left, subject_of}
 use Rattle.clos_objects.specs.Objects.{Finds, filler_found}
 use Rattle.clos_objects.proofs.Passing.{found_at, passed_over}

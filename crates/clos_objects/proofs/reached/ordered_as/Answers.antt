@@ -1,8 +1,8 @@
 use Rattle.std.proofs.Common.{◌≡◌, ap, length, refl, subst, ◌∙◌}
 use Rattle.std.specs.Prelude.{IfOk}
 use Rattle.lisp_data.specs.ValueView.{value_of}
-use Rattle.clos_generic.specs.Calls.{ordered}
-use Rattle.clos_world.specs.World.{seen}
+use Rattle.clos_machine.specs.clos_world.clos_generic.Calls.{ordered}
+use Rattle.clos_machine.specs.clos_world.World.{seen}
 use Rattle.clos_objects.proofs.Reaching.{those_taken}
 use Rattle.clos_objects.proofs.reached.ordered_as.Goals as goal
 

@@ -1,6 +1,6 @@
 use Rattle.std.proofs.Common.{◌≡◌, subst}
 use Rattle.std.specs.Prelude.{option_map}
-use Rattle.clos_world.specs.World.{seen}
+use Rattle.clos_machine.specs.clos_world.World.{seen}
 use Rattle.clos_machine.specs.Filling.{initargs_in, names_in}
 use Rattle.clos_machine.specs.Meaning.{meaning}
 use Rattle.clos_machine.specs.SystemMethods.{class_in}

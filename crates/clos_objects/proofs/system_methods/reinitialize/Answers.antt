@@ -1,6 +1,6 @@
 use Rattle.std.proofs.Common.{map, refl}
 use Rattle.lisp_data.specs.ValueView.{value_of}
-use Rattle.clos_world.specs.World.{seen}
+use Rattle.clos_machine.specs.clos_world.World.{seen}
 use Rattle.clos_machine.specs.Meaning.{meaning}
 use Rattle.clos_machine.specs.Slots.{instance_in}
 use Rattle.clos_machine.specs.SystemMethods.{reinitialize}

@@ -1,4 +1,4 @@
-use Rattle.clos_world.specs.World.{seen}
+use Rattle.clos_machine.specs.clos_world.World.{seen}
 use Rattle.clos_objects_core.proofs.Telling.{told_stops}
 use Rattle.clos_objects_core.proofs.class_functions.call_class_function.Goals as goal
 

@@ -5,7 +5,7 @@ use Rattle.lisp_prims.specs.Fault.{AnswersUnlessMemory}
 use Rattle.lisp_prims.specs.Primitive.{answer}
 use Rattle.lisp_prims.specs.declared.lists.ListFunction.TheVariants.{List}
 use Rattle.lisp_prims.specs.declared.primitive.Primitive.TheVariants.{Listed}
-use Rattle.clos_precedence.specs.PrecedenceView.{numbers}
+use Rattle.clos_machine.specs.clos_world.clos_precedence.PrecedenceView.{numbers}
 use Rattle.clos_objects_core.proofs.Telling.{not_listed}
 use Rattle.clos_objects_core.proofs.class_functions.classes_listed.Goals as goal
 

@@ -1,4 +1,4 @@
-use Rattle.clos_world.specs.World.{seen}
+use Rattle.clos_machine.specs.clos_world.World.{seen}
 use Rattle.clos_objects_core.proofs.Finding.{found_stops}
 use Rattle.clos_objects_core.proofs.find_method.call_find_method.Goals as goal
 

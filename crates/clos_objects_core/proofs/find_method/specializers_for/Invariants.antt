@@ -1,6 +1,6 @@
 use Rattle.std.proofs.Common.{◌≡◌, length}
 use Rattle.clos_machine.specs.FindMethod.{specializers_for}
-use Rattle.clos_world.specs.World.{seen}
+use Rattle.clos_machine.specs.clos_world.World.{seen}
 use Rattle.clos_objects_core.specs.Designators.{designators_of}
 use Rattle.clos_objects_core.proofs.Finding.{after_those}
 use Rattle.clos_objects_core.proofs.find_method.specializers_for.Given as goal

@@ -1,5 +1,5 @@
 use Rattle.std.proofs.Common.{ap, ◌∙◌}
-use Rattle.clos_world.specs.World.{seen}
+use Rattle.clos_machine.specs.clos_world.World.{seen}
 use Rattle.clos_generic_core.specs.declared.system.SystemFunction.TheVariants.{SlotMissing}
 use Rattle.clos_machine.specs.GenericCalls.{invoked}
 use Rattle.clos_machine.specs.Machine.{inside}

@@ -1,4 +1,4 @@
-use Rattle.clos_system.specs.Session.{state_of}
+use Rattle.clos_session.specs.Session.{state_of}
 use Rattle.clos_system.proofs.Runs.{source_fails}
 use Rattle.clos_system.proofs.transcript.run.Goals as goal
 

@@ -1,7 +1,7 @@
 use Rattle.std.proofs.Common.{◌<◌, [], arith, refl, Ok, Some}
 use Rattle.lisp_data.specs.DatumView.{datum_of}
 use Rattle.lisp_reader.specs.Answers.{Answers}
-use Rattle.clos_system.specs.Session.{state_of}
+use Rattle.clos_session.specs.Session.{state_of}
 use Rattle.clos_system.specs.Transcript.{begins}
 use Rattle.clos_system.proofs.Runs.{appends_none, stands_on, fails_after}
 use Rattle.clos_system.proofs.transcript.run_text.Goals as goal

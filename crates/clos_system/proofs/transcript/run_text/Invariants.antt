@@ -1,5 +1,5 @@
 use Rattle.std.proofs.Common.{◌-◌, length}
-use Rattle.clos_system.specs.Session.{state_of}
+use Rattle.clos_session.specs.Session.{state_of}
 use Rattle.clos_system.specs.Transcript.{Stands}
 use Rattle.clos_system.proofs.transcript.run_text.Given as goal
 

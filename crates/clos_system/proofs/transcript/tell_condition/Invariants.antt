@@ -2,7 +2,7 @@ use Rattle.std.proofs.Common.{◌≡◌, ◌++◌, ◌∷◌, take, true, map}
 use Rattle.std.specs.List.{flat_map}
 use Rattle.lisp_data.specs.Print.{text_of}
 use Rattle.lisp_data.specs.ValueView.{value_of}
-use Rattle.clos_world.specs.World.{seen, names_of}
+use Rattle.clos_session.specs.clos_world.World.{seen, names_of}
 use Rattle.clos_system.proofs.transcript.tell_condition.Given as goal
 
 abbrev pub invariant-loop-item : goal.invariant-loop-item

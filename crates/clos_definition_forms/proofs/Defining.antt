@@ -1,0 +1,214 @@
+-- Definition forms that are refused, and those that go on.
+use Rattle.std.proofs.Common.{◌≡◌, ℕ, ◌+◌, zero, suc, List, [], ◌∷◌, Option, Some, None, Result, Ok, Err, map, length, refl, ap, sym, ◌∙◌, subst, arith}
+use Rattle.lisp_data.specs.Value.{Val, class, generic, method}
+use Rattle.lisp_data.specs.declared.ids.GenericId.{GenericId}
+use Rattle.lisp_data.specs.declared.ids.MethodId.{MethodId}
+use Rattle.lisp_data.specs.declared.value.Value.{Value}
+use Rattle.clos_class.specs.declared.reserve.NewCell.{NewCell}
+use Rattle.clos_forms.specs.Form.{Frm}
+use Rattle.clos_forms.specs.declared.operator.FunctionName.{FunctionName}
+use Rattle.clos_machine.specs.clos_world.clos_generic.Table.{number}
+use Rattle.clos_syntax.specs.declared.class.ClassDefinition.{ClassDefinition}
+use Rattle.clos_syntax.specs.declared.generic.GenericDefinition.{GenericDefinition}
+use Rattle.clos_syntax.specs.declared.method.MethodDefinition.{MethodDefinition}
+use Rattle.clos_machine.specs.clos_world.Class.{named}
+use Rattle.clos_machine.specs.clos_world.World.{State}
+use Rattle.clos_machine.specs.clos_world.declared.condition.Condition.{Condition}
+use Rattle.clos_machine.specs.clos_world.declared.condition.Stop.{Stop}
+use Rattle.clos_machine.specs.clos_world.declared.condition.Stop.TheVariants.{Refused, Storage}
+use Rattle.clos_definition.specs.Class.{cells_needed, class_number, class_refusal, initforms, with_accessors, with_class, with_defined_class}
+use Rattle.clos_definition.specs.Effect.{with_effect}
+use Rattle.clos_definition.specs.Generic.{eql_forms, generic_refusal, with_defined_generic}
+use Rattle.clos_definition.specs.Method.{eql_form, method_refusal, with_defined_method}
+use Rattle.clos_definition.specs.Refusal.{StopsFor}
+use Rattle.clos_definition.specs.Removal.{Finds, removable, with_removed}
+use Rattle.clos_definition.specs.declared.effect.Effect.{Effect}
+use Rattle.clos_machine.specs.Machine.{Answers, leaves}
+use Rattle.clos_machine.specs.Outcome.{Run, Stopped}
+use Rattle.clos_definition_forms.specs.Definition.{class_made, define_class, define_generic, define_method, generic_made, method_made, method_removed, new_class, remove_method, removed_if, takes_effect, unless, value_at, values_removed}
+use Rattle.clos_definition_forms.specs.Forms.{EndsBefore, GoesOn, forms_evaluated}
+use Rattle.clos_definition_forms.proofs.Evaluations.{answers_same}
+use Rattle.clos_definition_forms.proofs.Quiet.{class_forms_quiet, class_made_quiet, define_generic_quiet, define_method_quiet, generic_forms_quiet, generic_made_quiet, method_forms_quiet, method_made_quiet, new_class_quiet, remove_method_quiet, values_removed_quiet}
+use Rattle.clos_definition_forms.proofs.Evaluated.{forms_go_on, forms_stop}
+
+-- ---- a check, and then what goes on
+
+module _ (o : Option Condition) (go : Run) (w u : State) where
+  -- It is refused, in a state that is the same.
+  stops_at : (s : ℕ) (stop : Stop) → u ≡ w → leaves (unless o go w 0) w 0 → StopsFor o stop → Answers (unless o go) w s (Err stop) u s
+  stops_at s (Refused c) e l h = ap (λ x. unless x go w s) h ∙ ap (λ v. Stopped c v s) (sym e)
+  stops_at s Storage e l h = (0, omega arith, subst (λ v. leaves (unless o go w 0) v 0) (sym e) l)
+
+  -- It goes on, in a state that is the same.
+  passes_at : (s j : ℕ) (x : State) (r : Result Value Stop) → u ≡ w → o ≡ None → Answers go u s r x j → Answers (unless o go) w s r x j
+  passes_at s j x r e h a =
+      answers_same go (unless o go) w s r x j (λ i. sym (ap (λ p. unless p go w i) h)) (subst (λ v. Answers go v s r x j) e a)
+
+-- no memory for the first step
+storage_at : (run : Run) (w : State) (s : ℕ) → leaves (run w 0) w 0 → Answers run w s (Err Storage) w s
+storage_at run w s l = (0, omega arith, l)
+
+-- with an effect that is the same
+takes_same : (v v' : Val) (x x' w u y : State) (s j : ℕ) (r : Result Value Stop) → u ≡ w → v ≡ v' → x ≡ x' → Answers (takes_effect v x) u s r y j → Answers (takes_effect v' x') w s r y j
+takes_same v v' x x' w u y s j r e h g a =
+    subst (λ p. Answers (takes_effect v' p) w s r y j) g
+    (subst (λ p. Answers (takes_effect p x) w s r y j) h (subst (λ p. Answers (takes_effect v x) p s r y j) e a))
+
+-- ---- defmethod
+
+module _ (name : FunctionName) (m : MethodDefinition) (w u : State) (s : ℕ) where
+  pub method_refused : (stop : Stop) → w.locals ≡ [] → StopsFor (method_refusal name m None w) stop → Answers (define_method name m) w s (Err stop) w s
+  method_refused stop l h =
+      stops_at (method_refusal name m None w) (forms_evaluated (map eql_form m.specializers) [] (method_made name m)) w w s stop refl (define_method_quiet name m w l) h
+
+  pub method_evaluated : (j : ℕ) (r : Result Value Stop) → method_refusal name m None w ≡ None
+      → Answers (forms_evaluated (map eql_form m.specializers) [] (method_made name m)) w s r u j → Answers (define_method name m) w s r u j
+  method_evaluated j r h a =
+      passes_at (method_refusal name m None w) (forms_evaluated (map eql_form m.specializers) [] (method_made name m)) w w s j u r refl h a
+
+  pub method_not_begun : w.locals ≡ [] → Answers (forms_evaluated (map eql_form m.specializers) [] (method_made name m)) w s (Err Storage) w s
+  method_not_begun l = storage_at (forms_evaluated (map eql_form m.specializers) [] (method_made name m)) w s (method_forms_quiet name m w l)
+
+  pub method_forms_stop : (fs : List (Option Frm)) (k : ℕ) (stop : Stop) → fs ≡ map eql_form m.specializers → EndsBefore (forms_evaluated fs []) w s stop u k
+      → Answers (forms_evaluated (map eql_form m.specializers) [] (method_made name m)) w s (Err stop) u k
+  method_forms_stop fs k stop e h =
+      forms_stop (map eql_form m.specializers) (method_made name m) w u s k stop (λ vs. method_made_quiet name m vs u)
+      (subst (λ l. EndsBefore (forms_evaluated l []) w s stop u k) e h)
+
+  pub method_forms_go_on : (fs : List (Option Frm)) (k : ℕ) (vs : List (Option Val)) (r : Result Value Stop) (x : State) (j : ℕ) → fs ≡ map eql_form m.specializers
+      → GoesOn (forms_evaluated fs []) w s vs u k → Answers (method_made name m vs) u k r x j
+      → Answers (forms_evaluated (map eql_form m.specializers) [] (method_made name m)) w s r x j
+  method_forms_go_on fs k vs r x j e h a =
+      forms_go_on (map eql_form m.specializers) (method_made name m) w u s k vs r x j (subst (λ l. GoesOn (forms_evaluated l []) w s vs u k) e h) a
+
+  pub method_not_made : (vs : List (Option Val)) (stop : Stop) → u ≡ w → StopsFor (method_refusal name m (Some vs) w) stop → Answers (method_made name m vs) w s (Err stop) u s
+  method_not_made vs stop e h =
+      stops_at (method_refusal name m (Some vs) w) (takes_effect (method (length w.generics.methods)) (with_defined_method name m vs w)) w u s stop e (method_made_quiet name m vs w) h
+
+  pub method_is_made : (vs : List (Option Val)) (f : Effect) (n j : ℕ) (x : State) (r : Result Value Stop) → u ≡ w → method_refusal name m (Some vs) w ≡ None
+      → with_effect f w ≡ with_defined_method name m vs w → n ≡ length w.generics.methods → Answers (takes_effect (method n) (with_effect f u)) u s r x j
+      → Answers (method_made name m vs) w s r x j
+  method_is_made vs f n j x r e h g q a =
+      passes_at (method_refusal name m (Some vs) w) (takes_effect (method (length w.generics.methods)) (with_defined_method name m vs w)) w w s j x r refl h
+      (takes_same (method n) (method (length w.generics.methods)) (with_effect f u) (with_defined_method name m vs w) w u x s j r e (ap method q)
+      (ap (with_effect f) e ∙ g) a)
+
+-- ---- defgeneric
+
+module _ (d : GenericDefinition) (w u : State) (s : ℕ) where
+  pub generic_refused : (stop : Stop) → w.locals ≡ [] → StopsFor (generic_refusal d None w) stop → Answers (define_generic d) w s (Err stop) w s
+  generic_refused stop l h =
+      stops_at (generic_refusal d None w) (forms_evaluated (eql_forms d.methods) [] (generic_made d)) w w s stop refl (define_generic_quiet d w l) h
+
+  pub generic_evaluated : (j : ℕ) (r : Result Value Stop) → generic_refusal d None w ≡ None
+      → Answers (forms_evaluated (eql_forms d.methods) [] (generic_made d)) w s r u j → Answers (define_generic d) w s r u j
+  generic_evaluated j r h a = passes_at (generic_refusal d None w) (forms_evaluated (eql_forms d.methods) [] (generic_made d)) w w s j u r refl h a
+
+  pub generic_not_begun : w.locals ≡ [] → Answers (forms_evaluated (eql_forms d.methods) [] (generic_made d)) w s (Err Storage) w s
+  generic_not_begun l = storage_at (forms_evaluated (eql_forms d.methods) [] (generic_made d)) w s (generic_forms_quiet d w l)
+
+  pub generic_forms_stop : (fs : List (Option Frm)) (k : ℕ) (stop : Stop) → fs ≡ eql_forms d.methods → EndsBefore (forms_evaluated fs []) w s stop u k
+      → Answers (forms_evaluated (eql_forms d.methods) [] (generic_made d)) w s (Err stop) u k
+  generic_forms_stop fs k stop e h =
+      forms_stop (eql_forms d.methods) (generic_made d) w u s k stop (λ vs. generic_made_quiet d vs u)
+      (subst (λ l. EndsBefore (forms_evaluated l []) w s stop u k) e h)
+
+  pub generic_forms_go_on : (fs : List (Option Frm)) (k : ℕ) (vs : List (Option Val)) (r : Result Value Stop) (x : State) (j : ℕ) → fs ≡ eql_forms d.methods
+      → GoesOn (forms_evaluated fs []) w s vs u k → Answers (generic_made d vs) u k r x j
+      → Answers (forms_evaluated (eql_forms d.methods) [] (generic_made d)) w s r x j
+  generic_forms_go_on fs k vs r x j e h a =
+      forms_go_on (eql_forms d.methods) (generic_made d) w u s k vs r x j (subst (λ l. GoesOn (forms_evaluated l []) w s vs u k) e h) a
+
+  pub generic_not_made : (vs : List (Option Val)) (stop : Stop) → u ≡ w → StopsFor (generic_refusal d (Some vs) w) stop → Answers (generic_made d vs) w s (Err stop) u s
+  generic_not_made vs stop e h =
+      stops_at (generic_refusal d (Some vs) w) (takes_effect (generic (number w.generics d.name)) (with_defined_generic d vs w)) w u s stop e (generic_made_quiet d vs w) h
+
+  pub generic_is_made : (vs : List (Option Val)) (f : Effect) (n j : ℕ) (x : State) (r : Result Value Stop) → u ≡ w → generic_refusal d (Some vs) w ≡ None
+      → with_effect f w ≡ with_defined_generic d vs w → n ≡ number w.generics d.name → Answers (takes_effect (generic n) (with_effect f u)) u s r x j
+      → Answers (generic_made d vs) w s r x j
+  generic_is_made vs f n j x r e h g q a =
+      passes_at (generic_refusal d (Some vs) w) (takes_effect (generic (number w.generics d.name)) (with_defined_generic d vs w)) w w s j x r refl h
+      (takes_same (generic n) (generic (number w.generics d.name)) (with_effect f u) (with_defined_generic d vs w) w u x s j r e (ap generic q)
+      (ap (with_effect f) e ∙ g) a)
+
+-- ---- defclass
+
+-- A class that is not defined is a new one.
+pub of_new_name : (d : ClassDefinition) (w u : State) (s j : ℕ) (r : Result Value Stop) → named w.classes d.name ≡ None → Answers (new_class d) w s r u j
+    → Answers (λ v k. define_class d (named v.classes d.name) v k) w s r u j
+of_new_name d w u s j (Ok v) n h = ap (λ o. define_class d o w s) n ∙ h
+of_new_name d w u s j (Err (Refused c)) n h = ap (λ o. define_class d o w s) n ∙ h
+of_new_name d w u s j (Err Storage) n h = (h.0, h.1, subst (λ o. leaves (define_class d o w h.0) u 0) (sym n) h.2)
+
+module _ (d : ClassDefinition) (w u : State) (s : ℕ) where
+  pub class_refused : (stop : Stop) → w.locals ≡ [] → u ≡ w → StopsFor (class_refusal d (length (cells_needed d w)) w) stop → Answers (new_class d) w s (Err stop) u s
+  class_refused stop l e h =
+      stops_at (class_refusal d (length (cells_needed d w)) w) (forms_evaluated (initforms (cells_needed d w)) [] (class_made d)) w u s stop e (new_class_quiet d w l) h
+
+  pub class_evaluated : (cs : List NewCell) (j : ℕ) (x : State) (r : Result Value Stop) → u ≡ w → cs ≡ cells_needed d w → class_refusal d (length (cells_needed d w)) w ≡ None
+      → Answers (forms_evaluated (initforms cs) [] (class_made d)) u s r x j → Answers (new_class d) w s r x j
+  class_evaluated cs j x r e q h a =
+      passes_at (class_refusal d (length (cells_needed d w)) w) (forms_evaluated (initforms (cells_needed d w)) [] (class_made d)) w u s j x r e h
+      (subst (λ l. Answers (forms_evaluated (initforms l) [] (class_made d)) u s r x j) q a)
+
+  pub class_not_begun : (fs : List (Option Frm)) → w.locals ≡ [] → Answers (forms_evaluated fs [] (class_made d)) w s (Err Storage) w s
+  class_not_begun fs l = storage_at (forms_evaluated fs [] (class_made d)) w s (class_forms_quiet d fs w l)
+
+  pub class_forms_stop : (fs gs : List (Option Frm)) (k : ℕ) (stop : Stop) → fs ≡ gs → EndsBefore (forms_evaluated fs []) w s stop u k
+      → Answers (forms_evaluated gs [] (class_made d)) w s (Err stop) u k
+  class_forms_stop fs gs k stop e h =
+      forms_stop gs (class_made d) w u s k stop (λ vs. class_made_quiet d vs u) (subst (λ l. EndsBefore (forms_evaluated l []) w s stop u k) e h)
+
+  pub class_forms_go_on : (fs gs : List (Option Frm)) (k : ℕ) (vs : List (Option Val)) (r : Result Value Stop) (x : State) (j : ℕ) → fs ≡ gs
+      → GoesOn (forms_evaluated fs []) w s vs u k → Answers (class_made d vs) u k r x j → Answers (forms_evaluated gs [] (class_made d)) w s r x j
+  class_forms_go_on fs gs k vs r x j e h a =
+      forms_go_on gs (class_made d) w u s k vs r x j (subst (λ l. GoesOn (forms_evaluated l []) w s vs u k) e h) a
+
+  pub class_not_made : (vs : List (Option Val)) (n : ℕ) (stop : Stop) → u ≡ w → n ≡ length vs → StopsFor (class_refusal d n w) stop → Answers (class_made d vs) w s (Err stop) u s
+  class_not_made vs n stop e q h =
+      stops_at (class_refusal d (length vs) w) (takes_effect (class (class_number d w)) (with_defined_class d vs w)) w u s stop e (class_made_quiet d vs w)
+      (subst (λ i. StopsFor (class_refusal d i w) stop) q h)
+
+  pub class_is_made : (vs : List (Option Val)) (f : Effect) (n c j : ℕ) (x : State) (r : Result Value Stop) → u ≡ w → n ≡ length vs → class_refusal d n w ≡ None
+      → with_effect f w ≡ with_accessors d w → c ≡ class_number d w → Answers (takes_effect (class c) (with_class d vs (with_effect f u))) u s r x j
+      → Answers (class_made d vs) w s r x j
+  class_is_made vs f n c j x r e p h g q a =
+      passes_at (class_refusal d (length vs) w) (takes_effect (class (class_number d w)) (with_defined_class d vs w)) w w s j x r refl
+      (ap (λ i. class_refusal d i w) (sym p) ∙ h)
+      (takes_same (class c) (class (class_number d w)) (with_class d vs (with_effect f u)) (with_defined_class d vs w) w u x s j r e (ap class q)
+      (ap (with_class d vs) (ap (with_effect f) e ∙ g)) a)
+
+-- ---- remove-method
+
+module _ (f m : Frm) (w u : State) (s : ℕ) where
+  pub removal_not_begun : w.locals ≡ [] → Answers (remove_method f m) w s (Err Storage) w s
+  removal_not_begun l = storage_at (remove_method f m) w s (remove_method_quiet f m w l)
+
+  pub removal_forms_stop : (fs : List (Option Frm)) (k : ℕ) (stop : Stop) → fs ≡ Some f ∷ Some m ∷ [] → EndsBefore (forms_evaluated fs []) w s stop u k
+      → Answers (remove_method f m) w s (Err stop) u k
+  removal_forms_stop fs k stop e h =
+      forms_stop (Some f ∷ Some m ∷ []) values_removed w u s k stop (λ vs. values_removed_quiet vs u)
+      (subst (λ l. EndsBefore (forms_evaluated l []) w s stop u k) e h)
+
+  pub removal_forms_go_on : (fs : List (Option Frm)) (k : ℕ) (vs : List (Option Val)) (r : Result Value Stop) (x : State) (j : ℕ) → fs ≡ Some f ∷ Some m ∷ []
+      → GoesOn (forms_evaluated fs []) w s vs u k → Answers (values_removed vs) u k r x j → Answers (remove_method f m) w s r x j
+  removal_forms_go_on fs k vs r x j e h a =
+      forms_go_on (Some f ∷ Some m ∷ []) values_removed w u s k vs r x j (subst (λ l. GoesOn (forms_evaluated l []) w s vs u k) e h) a
+
+module _ (vs : List (Option Val)) (w : State) (s : ℕ) where
+  pub removal_not_begun_yet : Answers (values_removed vs) w s (Err Storage) w s
+  removal_not_begun_yet = storage_at (values_removed vs) w s (values_removed_quiet vs w)
+
+  not_found : (stop : Stop) → Finds (removable (value_at vs 0) (value_at vs 1)) (Err stop) → Answers (values_removed vs) w s (Err stop) w s
+  not_found (Refused c) h = ap (λ p. removed_if (value_at vs 0) p w s) h
+  not_found Storage h = removal_not_begun_yet
+
+  pub not_removable : (f m : Val) (stop : Stop) → f ≡ value_at vs 0 → m ≡ value_at vs 1 → Finds (removable f m) (Err stop) → Answers (values_removed vs) w s (Err stop) w s
+  not_removable f m stop e q h = not_found stop (subst (λ x. Finds (removable x (value_at vs 1)) (Err stop)) e (subst (λ x. Finds (removable f x) (Err stop)) q h))
+
+  pub is_removed : (f m : Val) (g n j : ℕ) (u : State) (r : Result Value Stop) → f ≡ value_at vs 0 → m ≡ value_at vs 1 → removable f m ≡ Ok (g, n)
+      → Answers (takes_effect f (with_removed g n w)) w s r u j → Answers (values_removed vs) w s r u j
+  is_removed f m g n j u r e q h a =
+      let p : removable (value_at vs 0) (value_at vs 1) ≡ Ok (g, n) = ap (λ x. removable x (value_at vs 1)) (sym e) ∙ ap (removable f) (sym q) ∙ h in
+      answers_same (takes_effect (value_at vs 0) (with_removed g n w)) (values_removed vs) w s r u j
+      (λ i. sym (ap (λ x. removed_if (value_at vs 0) x w i) p)) (subst (λ x. Answers (takes_effect x (with_removed g n w)) w s r u j) e a)

@@ -1,0 +1,5 @@
+pub mod Evaluations
+pub mod Evaluated
+pub mod Quiet
+pub mod Defining
+pub use Rattle.clos_machine.proofs as clos_machine

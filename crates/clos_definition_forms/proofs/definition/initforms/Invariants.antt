@@ -1,0 +1,9 @@
+use Rattle.std.proofs.Common.{◌≡◌, ◌++◌, length}
+use Rattle.clos_definition.specs.Class.{initforms}
+use Rattle.clos_definition_forms.proofs.definition.initforms.Given as goal
+
+abbrev pub invariant-loop-cell : goal.invariant-loop-cell
+invariant-loop-cell l = l.forms.items ++ initforms l.left ≡ initforms l.fn.cells
+
+abbrev pub decreases-loop-cell : goal.decreases-loop-cell
+decreases-loop-cell l = length l.left

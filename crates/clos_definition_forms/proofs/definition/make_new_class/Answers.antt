@@ -1,0 +1,11 @@
+use Rattle.std.proofs.Common.{◌≡◌, length, arith}
+use Rattle.clos_machine.specs.clos_world.World.{seen}
+use Rattle.clos_definition_forms.proofs.Defining.{class_is_made}
+use Rattle.clos_definition_forms.proofs.definition.make_new_class.Goals as goal
+
+pub returns-in-Ok : goal.returns-in-Ok
+returns-in-Ok c =
+    let m : c.len.result ≡ length c.args.values.items = omega arith in
+    class_is_made c.args.definition.now (seen c.args.world.now) (seen c.prepare_class.new.world) c.args.steps.now c.args.values.items c.in-Ok.accessors
+    c.len.result c.in-Ok.class.0 c.make_prepared_class.new.steps (seen c.make_prepared_class.new.world) c.make_prepared_class.result
+    c.in-Ok.ensures.same m c.in-Ok.ensures.allows c.in-Ok.ensures.effect c.in-Ok.ensures.class c.make_prepared_class.ensures

@@ -1,0 +1,83 @@
+-- What definition forms do (HyperSpec 7.7): all checks come first, then the forms that are evaluated, then the checks again, now with
+-- their values, and last one step for the whole of the effect.
+use Rattle.std.specs.Prelude.{ℕ, List, [], ◌∷◌, length, map, slice_get, Option, Some, None, Result, Ok, Err}
+use Rattle.lisp_data.specs.Value.{Val, class, generic, list, method, nil}
+use Rattle.clos_forms.specs.Form.{Frm}
+use Rattle.clos_forms.specs.declared.operator.FunctionName.{FunctionName}
+use Rattle.clos_machine.specs.clos_world.clos_generic.Table.{number}
+use Rattle.clos_syntax.specs.declared.class.ClassDefinition.{ClassDefinition}
+use Rattle.clos_syntax.specs.declared.generic.GenericDefinition.{GenericDefinition}
+use Rattle.clos_syntax.specs.declared.method.MethodDefinition.{MethodDefinition}
+use Rattle.clos_machine.specs.clos_world.World.{State}
+use Rattle.clos_machine.specs.clos_world.declared.condition.Condition.{Condition}
+use Rattle.clos_machine.specs.clos_world.declared.condition.ConditionKind.TheVariants.{Unsupported}
+use Rattle.clos_definition.specs.Class.{cells_needed, class_number, class_refusal, initforms, with_defined_class}
+use Rattle.clos_definition.specs.Generic.{eql_forms, generic_refusal, with_defined_generic}
+use Rattle.clos_definition.specs.Method.{eql_form, method_refusal, with_defined_method}
+use Rattle.clos_definition.specs.Removal.{removable, with_removed}
+use Rattle.clos_machine.specs.Outcome.{Gave, Run, Stopped, step_then, stopped}
+use Rattle.clos_definition_forms.specs.Forms.{forms_evaluated}
+
+-- it goes on where nothing is wrong
+abbrev pub unless : Option Condition → Run → Run
+unless None go w k = go w k
+unless (Some c) go w k = Stopped c w k
+
+-- one step, after which the state is this
+abbrev pub takes_effect : Val → State → Run
+takes_effect value u = step_then (λ w k. Gave value u k)
+
+-- ---- defmethod
+
+abbrev pub method_made : FunctionName → MethodDefinition → List (Option Val) → Run
+method_made name m vs w k =
+    unless (method_refusal name m (Some vs) w) (takes_effect (method (length w.generics.methods)) (with_defined_method name m vs w)) w k
+
+abbrev pub define_method : FunctionName → MethodDefinition → Run
+define_method name m w k = unless (method_refusal name m None w) (forms_evaluated (map eql_form m.specializers) [] (method_made name m)) w k
+
+-- ---- defgeneric
+
+abbrev pub generic_made : GenericDefinition → List (Option Val) → Run
+generic_made d vs w k =
+    unless (generic_refusal d (Some vs) w) (takes_effect (generic (number w.generics d.name)) (with_defined_generic d vs w)) w k
+
+abbrev pub define_generic : GenericDefinition → Run
+define_generic d w k = unless (generic_refusal d None w) (forms_evaluated (eql_forms d.methods) [] (generic_made d)) w k
+
+-- ---- defclass
+
+abbrev pub class_made : ClassDefinition → List (Option Val) → Run
+class_made d vs w k = unless (class_refusal d (length vs) w) (takes_effect (class (class_number d w)) (with_defined_class d vs w)) w k
+
+-- a class of a new name, of whose direct superclasses some may not be defined yet
+abbrev pub new_class : ClassDefinition → Run
+new_class d w k = unless (class_refusal d (length (cells_needed d w)) w) (forms_evaluated (initforms (cells_needed d w)) [] (class_made d)) w k
+
+-- A class that is defined is not defined again.
+abbrev pub define_class : ClassDefinition → Option ℕ → Run
+define_class d None w k = new_class d w k
+define_class d (Some n) w k = stopped Unsupported [] w k
+
+-- ---- remove-method: both forms are evaluated first
+
+abbrev pub removed_if : Val → Result (ℕ × ℕ) Condition → Run
+removed_if function (Err c) w k = Stopped c w k
+removed_if function (Ok p) w k = takes_effect function (with_removed p.0 p.1 w) w k
+
+abbrev pub method_removed : Val → Val → Run
+method_removed function m w k = removed_if function (removable function m) w k
+
+abbrev pub object_in : Option (Option Val) → Val
+object_in None = list nil
+object_in (Some None) = list nil
+object_in (Some (Some v)) = v
+
+abbrev pub value_at : List (Option Val) → ℕ → Val
+value_at vs n = object_in (slice_get vs n)
+
+abbrev pub values_removed : List (Option Val) → Run
+values_removed vs w k = method_removed (value_at vs 0) (value_at vs 1) w k
+
+abbrev pub remove_method : Frm → Frm → Run
+remove_method function m w k = forms_evaluated (Some function ∷ Some m ∷ []) [] values_removed w k

@@ -1,0 +1,8 @@
+pub mod Variable
+pub mod Forms
+pub mod Function
+pub mod Definition
+pub use Rattle.clos_machine.specs as clos_machine
+pub use Rattle.clos_machine.specs.clos_world as clos_world
+pub use Rattle.clos_definition.specs as clos_definition
+pub use Rattle.clos_machine.specs.clos_world.clos_generic as clos_generic

@@ -1,0 +1,47 @@
+-- What defvar and defparameter do (HyperSpec 5.3).
+use Rattle.std.specs.Prelude.{ℕ, ◌-◌, ◌||◌, min, nat_lt, Bool, false, [], Option, Some, None, is_some, length, if◌then◌else◌}
+use Rattle.lisp_data.specs.Name.{Nam}
+use Rattle.lisp_data.specs.Value.{Val}
+use Rattle.clos_forms.specs.Form.{Frm}
+use Rattle.clos_forms.specs.Quotation.{name_value}
+use Rattle.clos_syntax.specs.declared.variable.Definer.{Definer}
+use Rattle.clos_syntax.specs.declared.variable.Definer.TheVariants.{DefVar, DefParameter}
+use Rattle.clos_syntax.specs.declared.variable.VariableDefinition.{VariableDefinition}
+use Rattle.clos_machine.specs.clos_world.Globals.{is_global, global_value, with_global}
+use Rattle.clos_machine.specs.clos_world.World.{State}
+use Rattle.clos_machine.specs.clos_world.declared.condition.ConditionKind.TheVariants.{TableLimit}
+use Rattle.clos_machine.specs.Meaning.{evaluation}
+use Rattle.clos_machine.specs.Outcome.{Gave, Run, then_do, stopped, step_then}
+
+-- how deep the forms may nest that stand in a definition
+abbrev pub room_below : State → ℕ
+room_below w = min w.limits.depth 4_000 - 1
+
+-- a defvar leaves the value that there is
+abbrev pub keeps_value : State → Definer → Nam → Bool
+keeps_value w DefVar name = is_some (global_value w.globals name)
+keeps_value w DefParameter name = false
+
+abbrev pub named : Nam → Run
+named name w k = Gave (name_value name) w k
+
+-- a variable without a value, where there is none yet
+abbrev pub declared : Nam → Run
+declared name w k =
+    if is_global w.globals name then named name w k else Gave (name_value name) (record w { globals = with_global name None w.globals }) k
+
+abbrev pub value_given : Nam → Val → Run
+value_given name v w k = Gave (name_value name) (record w { globals = with_global name (Some v) w.globals }) k
+
+abbrev pub given_value : Nam → Frm → Run
+given_value name f w k = then_do (evaluation (room_below w) f w k) (λ v. step_then (value_given name v))
+
+abbrev pub new_value : Nam → Option Frm → Run
+new_value name None w k = step_then (declared name) w k
+new_value name (Some f) w k = given_value name f w k
+
+abbrev pub variable_defined : VariableDefinition → Run
+variable_defined d w k =
+    if is_global w.globals d.name || nat_lt (length w.globals) w.limits.globals
+    then (if keeps_value w d.definer d.name then step_then (named d.name) w k else new_value d.name d.form w k)
+    else stopped TableLimit [] w k

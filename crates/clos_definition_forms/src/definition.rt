@@ -1,0 +1,359 @@
+//! What definition forms do (HyperSpec 7.7): the checks, the forms that they evaluate, and one step for the whole of the effect. What
+//! is refused takes none.
+ghost use Rattle.std.specs.Prelude.{◌≡◌, [], ◌∷◌, Some, IfOk, map};
+ghost use Rattle.lisp_data.specs.ValueView.{value_of};
+ghost use Rattle.clos_machine.specs.clos_world.Class.{named};
+ghost use Rattle.clos_machine.specs.clos_world.World.{seen};
+ghost use Rattle.lisp_data.specs.Value.{class};
+ghost use Rattle.clos_definition.specs.Class.{initforms, with_class};
+ghost use Rattle.clos_definition.specs.Effect.{IsReserved, with_effect};
+ghost use Rattle.clos_definition.specs.Generic.{eql_forms};
+ghost use Rattle.clos_definition.specs.Method.{eql_form};
+ghost use Rattle.clos_definition.specs.Removal.{with_removed};
+ghost use Rattle.clos_machine.specs.Machine.{Answers};
+ghost use Rattle.clos_definition_forms.specs.Definition.{class_made, define_class, define_generic, define_method, generic_made, method_made, new_class, remove_method, takes_effect, value_at, values_removed};
+ghost use Rattle.clos_definition_forms.specs.Forms.{forms_evaluated};
+
+use crate::forms::evaluate_forms;
+use clos_class::NewCell;
+use clos_definition::{
+    Effect, check_class, check_generic, check_method, find_removable, generic_forms, make,
+    make_class, method_forms, number_of, prepare_class, prepare_generic, prepare_method, remove,
+};
+use clos_forms::{Form, FunctionName};
+use clos_machine::{ConditionKind, Stop, World, plain};
+use clos_store::Slot;
+use clos_syntax::{ClassDefinition, GenericDefinition, MethodDefinition};
+use lisp_data::{ClassId, GenericId, Items, MethodId, Value};
+use std::alloc::{AllocError, Global};
+
+/// Defines a method, which takes the place of one with the same qualifiers and specializers.
+#[tactic(auto, using(crate::proofs::Defining::method_refused, crate::proofs::Defining::method_evaluated))]
+pub fn defmethod(
+    alloc: Global,
+    world: &mut World,
+    name: FunctionName,
+    definition: MethodDefinition,
+    steps: &mut u64,
+) -> Result<Value, Stop>
+    ensures { Answers (define_method name definition) (seen world.old) steps.old result (seen world.new) steps.new }
+{
+    match check_method(alloc, world, &name, &definition) {
+        Err(stop) => Err(stop),
+        Ok(()) => define_checked_method(alloc, world, name, definition, steps),
+    }
+}
+
+/// Evaluates the forms of the specializers of a method, and then makes it.
+#[tactic(auto, using(crate::proofs::Defining::method_not_begun, crate::proofs::Defining::method_forms_stop, crate::proofs::Defining::method_forms_go_on))]
+fn define_checked_method(
+    alloc: Global,
+    world: &mut World,
+    name: FunctionName,
+    definition: MethodDefinition,
+    steps: &mut u64,
+) -> Result<Value, Stop>
+    ensures { Answers (forms_evaluated (map eql_form definition.specializers) [] (method_made name definition)) (seen world.old) steps.old result (seen world.new) steps.new }
+{
+    let Ok(forms) = method_forms(alloc, &definition) else {
+        return Err(Stop::Storage);
+    };
+    match evaluate_forms(alloc, world, &forms, steps) {
+        Err(stop) => Err(stop),
+        Ok(values) => make_method(alloc, world, name, definition, &values, steps),
+    }
+}
+
+/// Makes a method, where the forms of its specializers gave these values.
+#[tactic(auto, using(crate::proofs::Defining::method_not_made, crate::proofs::Defining::method_is_made))]
+fn make_method(
+    alloc: Global,
+    world: &mut World,
+    name: FunctionName,
+    definition: MethodDefinition,
+    values: &[Slot],
+    steps: &mut u64,
+) -> Result<Value, Stop>
+    ensures { Answers (method_made name definition values.now) (seen world.old) steps.old result (seen world.new) steps.new }
+{
+    let id = MethodId(world.generics.method_count());
+    match prepare_method(alloc, world, &name, definition, values) {
+        Err(stop) => Err(stop),
+        Ok(effect) => take_effect(alloc, world, effect, Value::Method(id), steps),
+    }
+}
+
+/// Defines a generic function, or defines it again.
+#[tactic(auto, using(crate::proofs::Defining::generic_refused, crate::proofs::Defining::generic_evaluated))]
+pub fn defgeneric(
+    alloc: Global,
+    world: &mut World,
+    definition: GenericDefinition,
+    steps: &mut u64,
+) -> Result<Value, Stop>
+    ensures { Answers (define_generic definition) (seen world.old) steps.old result (seen world.new) steps.new }
+{
+    match check_generic(alloc, world, &definition) {
+        Err(stop) => Err(stop),
+        Ok(()) => define_checked_generic(alloc, world, definition, steps),
+    }
+}
+
+/// Evaluates the forms of the specializers of its methods, and then makes it.
+#[tactic(auto, using(crate::proofs::Defining::generic_not_begun, crate::proofs::Defining::generic_forms_stop, crate::proofs::Defining::generic_forms_go_on))]
+fn define_checked_generic(
+    alloc: Global,
+    world: &mut World,
+    definition: GenericDefinition,
+    steps: &mut u64,
+) -> Result<Value, Stop>
+    ensures { Answers (forms_evaluated (eql_forms definition.methods) [] (generic_made definition)) (seen world.old) steps.old result (seen world.new) steps.new }
+{
+    let Ok(forms) = generic_forms(alloc, &definition) else {
+        return Err(Stop::Storage);
+    };
+    match evaluate_forms(alloc, world, &forms, steps) {
+        Err(stop) => Err(stop),
+        Ok(values) => make_generic(alloc, world, definition, &values, steps),
+    }
+}
+
+/// Makes a generic function, where the forms of the specializers of its methods gave these values.
+#[tactic(auto, using(crate::proofs::Defining::generic_not_made, crate::proofs::Defining::generic_is_made))]
+fn make_generic(
+    alloc: Global,
+    world: &mut World,
+    definition: GenericDefinition,
+    values: &[Slot],
+    steps: &mut u64,
+) -> Result<Value, Stop>
+    ensures { Answers (generic_made definition values.now) (seen world.old) steps.old result (seen world.new) steps.new }
+{
+    let id = number_of(&world.generics, &definition.name);
+    match prepare_generic(alloc, world, definition, values) {
+        Err(stop) => Err(stop),
+        Ok(effect) => take_effect(alloc, world, effect, Value::Generic(id), steps),
+    }
+}
+
+/// Takes the step of an effect that was prepared, and then makes it.
+fn take_effect(
+    alloc: Global,
+    world: &mut World,
+    effect: Effect,
+    value: Value,
+    steps: &mut u64,
+) -> Result<Value, Stop>
+    requires { IsReserved effect world.old.generics }
+    ensures { Answers (takes_effect (value_of value) (with_effect effect (seen world.old))) (seen world.old) steps.old result (seen world.new) steps.new }
+{
+    if *steps == 0 {
+        world.generics.release();
+        return Err(Stop::Refused(plain(alloc, ConditionKind::StepLimit)));
+    }
+    *steps -= 1;
+    make(world, effect);
+    Ok(value)
+}
+
+/// Defines a class of a new name, with the methods of its accessors. Some of its direct superclasses may not be defined yet.
+#[tactic(auto, using(crate::proofs::Defining::of_new_name))]
+pub fn defclass(
+    alloc: Global,
+    world: &mut World,
+    definition: &ClassDefinition,
+    steps: &mut u64,
+) -> Result<Value, Stop>
+    ensures { Answers (λ w k. define_class definition.now (named w.classes definition.now.name) w k) (seen world.old) steps.old result (seen world.new) steps.new }
+{
+    if world.classes.named(&definition.name).is_some() {
+        return Err(Stop::Refused(plain(alloc, ConditionKind::Unsupported)));
+    }
+    define_new_class(alloc, world, definition, steps)
+}
+
+/// The same, where the name is known to be new.
+#[tactic(auto, using(crate::proofs::Defining::class_refused, crate::proofs::Defining::class_evaluated))]
+fn define_new_class(
+    alloc: Global,
+    world: &mut World,
+    definition: &ClassDefinition,
+    steps: &mut u64,
+) -> Result<Value, Stop>
+    ensures { Answers (new_class definition.now) (seen world.old) steps.old result (seen world.new) steps.new }
+{
+    match check_class(alloc, world, definition) {
+        Err(stop) => Err(stop),
+        Ok(reserved) => {
+            define_checked_class(alloc, world, definition, reserved.cells.as_slice(), steps)
+        }
+    }
+}
+
+/// Evaluates the initforms of the new cells of a class, and then makes it.
+#[tactic(auto, using(crate::proofs::Defining::class_not_begun, crate::proofs::Defining::class_forms_stop, crate::proofs::Defining::class_forms_go_on))]
+fn define_checked_class(
+    alloc: Global,
+    world: &mut World,
+    definition: &ClassDefinition,
+    cells: &[NewCell],
+    steps: &mut u64,
+) -> Result<Value, Stop>
+    ensures { Answers (forms_evaluated (initforms cells.now) [] (class_made definition.now)) (seen world.old) steps.old result (seen world.new) steps.new }
+{
+    let Ok(forms) = initforms(alloc, cells) else {
+        return Err(Stop::Storage);
+    };
+    match evaluate_forms(alloc, world, &forms, steps) {
+        Err(stop) => Err(stop),
+        Ok(values) => make_new_class(alloc, world, definition, values, steps),
+    }
+}
+
+/// The forms of the first values of these cells.
+fn initforms(alloc: Global, cells: &[NewCell]) -> Result<Vec<Option<Form>>, AllocError>
+    ensures { IfOk result (λ r. r.items ≡ initforms cells.now) }
+{
+    let mut forms = Vec::new(alloc);
+    let mut left = cells;
+    while let Some((cell, others)) = left.split_first() {
+        forms.push(copy_form(&cell.initform)?)?;
+        left = others;
+    }
+    Ok(forms)
+}
+
+fn copy_form(form: &Option<Form>) -> Result<Option<Form>, AllocError>
+    ensures { IfOk result (λ r. r ≡ form.now) }
+{
+    match form {
+        None => Ok(None),
+        Some(form) => Ok(Some(form.copy()?)),
+    }
+}
+
+/// Makes a class, whose new cells have these values.
+#[tactic(auto, using(crate::proofs::Defining::class_not_made))]
+fn make_new_class(
+    alloc: Global,
+    world: &mut World,
+    definition: &ClassDefinition,
+    values: Vec<Slot>,
+    steps: &mut u64,
+) -> Result<Value, Stop>
+    ensures { Answers (class_made definition.now values.items) (seen world.old) steps.old result (seen world.new) steps.new }
+{
+    match prepare_class(alloc, world, definition, values.len() as u64) {
+        Err(stop) => Err(stop),
+        Ok((class, accessors)) => {
+            make_prepared_class(alloc, world, definition, class, values, accessors, steps)
+        }
+    }
+}
+
+/// Takes the step of a class whose accessors were prepared, and then makes it.
+fn make_prepared_class(
+    alloc: Global,
+    world: &mut World,
+    definition: &ClassDefinition,
+    id: ClassId,
+    values: Vec<Slot>,
+    accessors: Effect,
+    steps: &mut u64,
+) -> Result<Value, Stop>
+    requires { IsReserved accessors world.old.generics }
+    ensures { Answers (takes_effect (class id.0) (with_class definition.now values.items (with_effect accessors (seen world.old)))) (seen world.old) steps.old result (seen world.new) steps.new }
+{
+    if *steps == 0 {
+        world.generics.release();
+        return Err(Stop::Refused(plain(alloc, ConditionKind::StepLimit)));
+    }
+    let Ok(()) = make_class(alloc, world, definition, values, accessors) else {
+        return Err(Stop::Storage);
+    };
+    *steps -= 1;
+    Ok(Value::Class(id))
+}
+
+/// Takes a method out of a function, after both forms are evaluated.
+#[tactic(auto, using(crate::proofs::Defining::removal_forms_stop))]
+pub fn remove_method(
+    alloc: Global,
+    world: &mut World,
+    function: Form,
+    method: Form,
+    steps: &mut u64,
+) -> Result<Value, Stop>
+    ensures { Answers (remove_method function method) (seen world.old) steps.old result (seen world.new) steps.new }
+{
+    let Ok(forms) = both(alloc, function, method) else {
+        return Err(Stop::Storage);
+    };
+    match evaluate_forms(alloc, world, &forms, steps) {
+        Err(stop) => Err(stop),
+        Ok(values) => remove_evaluated(alloc, world, &values, steps),
+    }
+}
+
+fn both(alloc: Global, function: Form, method: Form) -> Result<Vec<Option<Form>>, AllocError>
+    ensures { IfOk result (λ r. r.items ≡ Some function ∷ Some method ∷ []) }
+{
+    let mut forms = Vec::new(alloc);
+    forms.push(Some(function))?;
+    forms.push(Some(method))?;
+    Ok(forms)
+}
+
+/// Takes a method out of a function, which are these two values.
+#[tactic(auto, using(crate::proofs::Defining::removal_not_begun_yet, crate::proofs::Defining::not_removable, crate::proofs::Defining::is_removed))]
+fn remove_evaluated(
+    alloc: Global,
+    world: &mut World,
+    values: &[Slot],
+    steps: &mut u64,
+) -> Result<Value, Stop>
+    ensures { Answers (values_removed values.now) (seen world.old) steps.old result (seen world.new) steps.new }
+{
+    let Ok(function) = value_or_nil(values, 0) else {
+        return Err(Stop::Storage);
+    };
+    let Ok(method) = value_or_nil(values, 1) else {
+        return Err(Stop::Storage);
+    };
+    match find_removable(alloc, &function, &method) {
+        Err(stop) => Err(stop),
+        Ok((generic, id)) => take_out(alloc, world, generic, id, function, steps),
+    }
+}
+
+/// Takes the step of a removal, and then makes it. The value is the function.
+fn take_out(
+    alloc: Global,
+    world: &mut World,
+    generic: GenericId,
+    method: MethodId,
+    function: Value,
+    steps: &mut u64,
+) -> Result<Value, Stop>
+    ensures { Answers (takes_effect (value_of function) (with_removed generic.0 method.0 (seen world.old))) (seen world.old) steps.old result (seen world.new) steps.new }
+{
+    if *steps == 0 {
+        return Err(Stop::Refused(plain(alloc, ConditionKind::StepLimit)));
+    }
+    *steps -= 1;
+    remove(world, generic, method);
+    Ok(function)
+}
+
+/// The value at this place.
+fn value_or_nil(values: &[Slot], place: usize) -> Result<Value, AllocError>
+    ensures { IfOk result (λ r. value_of r ≡ value_at values.now place) }
+{
+    match values.get(place) {
+        None => Ok(Value::List(Items::new())),
+        Some(slot) => match slot.value() {
+            None => Ok(Value::List(Items::new())),
+            Some(value) => Ok(value.copy()?),
+        },
+    }
+}

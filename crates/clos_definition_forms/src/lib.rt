@@ -1,0 +1,14 @@
+//! Definition forms: what each evaluates, and the one step of its effect.
+#![tactic(auto)]
+
+mod definition;
+mod forms;
+mod function;
+mod variable;
+
+pub use clos_eval::evaluate;
+pub use clos_machine::callee::{Callee, callee_named};
+pub use clos_machine::{Condition, ConditionKind, Limits, Stop, Values, World, plain};
+pub use definition::{defclass, defgeneric, defmethod, remove_method};
+pub use function::defun;
+pub use variable::define_variable;

@@ -1,0 +1,123 @@
+//! What `defvar` and `defparameter` do (HyperSpec 5.3). Each takes one step for its effect, besides those of its form.
+ghost use Rattle.std.specs.Prelude.{◌≡◌, ℕ, ◌+◌, ◌-◌, option_map, Some};
+ghost use Rattle.lisp_data.specs.Value.{Val};
+ghost use Rattle.lisp_data.specs.ValueView.{value_of};
+ghost use Rattle.clos_forms.specs.Quotation.{name_value};
+ghost use Rattle.clos_machine.specs.clos_world.World.{State, seen};
+ghost use Rattle.clos_machine.specs.Machine.{Answers};
+ghost use Rattle.clos_machine.specs.Meaning.{evaluation};
+ghost use Rattle.clos_machine.specs.Outcome.{Run, Gave, step_then, then_do};
+ghost use Rattle.clos_definition_forms.specs.Variable.{variable_defined, keeps_value, declared, given_value, value_given, room_below};
+
+use clos_eval::evaluate;
+use clos_forms::{Form, value_named};
+use clos_machine::{ConditionKind, Stop, World, plain};
+use clos_syntax::{Definer, VariableDefinition};
+use lisp_data::{Name, Value};
+use std::alloc::Global;
+
+/// Defines a global variable.
+pub fn define_variable(
+    alloc: Global,
+    world: &mut World,
+    definition: VariableDefinition,
+    steps: &mut u64,
+) -> Result<Value, Stop>
+    ensures { Answers (variable_defined definition) (seen world.old) steps.old result (seen world.new) steps.new }
+{
+    let VariableDefinition {
+        definer,
+        name,
+        form,
+    } = definition;
+    if !world.globals.has(&name) && world.globals.len() as u64 >= world.limits.globals {
+        return Err(Stop::Refused(plain(alloc, ConditionKind::TableLimit)));
+    }
+    if keeps_value(world, definer, &name) {
+        return keep_value(alloc, world, &name, steps);
+    }
+    match form {
+        None => declare(alloc, world, name, steps),
+        Some(form) => give_value(alloc, world, name, form, steps),
+    }
+}
+
+/// Whether a `defvar` finds a value, which stays.
+fn keeps_value(world: &World, definer: Definer, name: &Name) -> bool
+    ensures { result ≡ keeps_value (seen world.now) definer name.now }
+{
+    match definer {
+        Definer::DefVar => world.globals.value(name).is_some(),
+        Definer::DefParameter => false,
+    }
+}
+
+/// Nothing changes, but a step is taken.
+fn keep_value(alloc: Global, world: &mut World, name: &Name, steps: &mut u64) -> Result<Value, Stop>
+    ensures { Answers (step_then (λ w k. Gave (name_value name.now) w k)) (seen world.old) steps.old result (seen world.new) steps.new }
+{
+    let _ = world;
+    if *steps == 0 {
+        return Err(Stop::Refused(plain(alloc, ConditionKind::StepLimit)));
+    }
+    let value = value_named(name)?;
+    *steps -= 1;
+    Ok(value)
+}
+
+/// A variable without a value, where there is none yet.
+fn declare(alloc: Global, world: &mut World, name: Name, steps: &mut u64) -> Result<Value, Stop>
+    ensures { Answers (step_then (declared name)) (seen world.old) steps.old result (seen world.new) steps.new }
+{
+    if *steps == 0 {
+        return Err(Stop::Refused(plain(alloc, ConditionKind::StepLimit)));
+    }
+    let value = value_named(&name)?;
+    if !world.globals.has(&name) {
+        let Ok(()) = world.globals.set(name, None) else {
+            return Err(Stop::Storage);
+        };
+    }
+    *steps -= 1;
+    Ok(value)
+}
+
+/// The variable gets the value of the form.
+#[tactic(auto, using(crate::proofs::Evaluations::stopped_before, crate::proofs::Evaluations::changed_after))]
+fn give_value(
+    alloc: Global,
+    world: &mut World,
+    name: Name,
+    form: Form,
+    steps: &mut u64,
+) -> Result<Value, Stop>
+    ensures { Answers (given_value name form) (seen world.old) steps.old result (seen world.new) steps.new }
+{
+    let room = world.limits.depth.min(4_000);
+    let below = room.saturating_sub(1);
+    match evaluate(alloc, world, form, below, steps) {
+        Ok(value) => set_value(alloc, world, name, value, steps),
+        Err(stop) => Err(stop),
+    }
+}
+
+/// The variable gets this value, which takes a step.
+fn set_value(
+    alloc: Global,
+    world: &mut World,
+    name: Name,
+    value: Value,
+    steps: &mut u64,
+) -> Result<Value, Stop>
+    ensures { Answers (step_then (value_given name (value_of value))) (seen world.old) steps.old result (seen world.new) steps.new }
+{
+    if *steps == 0 {
+        return Err(Stop::Refused(plain(alloc, ConditionKind::StepLimit)));
+    }
+    let named = value_named(&name)?;
+    let Ok(()) = world.globals.set(name, Some(value)) else {
+        return Err(Stop::Storage);
+    };
+    *steps -= 1;
+    Ok(named)
+}

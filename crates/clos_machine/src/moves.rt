@@ -1,0 +1,158 @@
+//! What many handlers do next: begin a form, act or call under a frame, give a value.
+ghost use Rattle.std.specs.Prelude.{◌≡◌, ℕ, ◌+◌, ◌∷◌, IfOk, OnOk, Ok, MatchOption};
+ghost use Rattle.lisp_data.specs.ValueView.{value_of};
+ghost use Rattle.clos_forms.specs.Form.{cons, nil};
+ghost use Rattle.clos_world.specs.World.{State};
+ghost use Rattle.clos_world.specs.declared.condition.Stop.TheVariants.{Storage};
+ghost use Rattle.clos_machine.specs.GenericCalls.{invoked};
+ghost use Rattle.clos_machine.specs.Machine.{Leads, Grows, at, inside, below, after, given, lift, weight_of};
+ghost use Rattle.clos_machine.specs.Meaning.{acted, collect, meaning};
+ghost use Rattle.clos_machine.specs.Outcome.{Run, Gave, then_do};
+ghost use Rattle.clos_machine.specs.declared.machine.Doing.TheVariants.{Act};
+
+use crate::machine::{Action, Doing, Frame, Level, Levels, Machine};
+use clos_forms::{Form, Forms};
+use clos_world::{Stop, SystemFunction, Values};
+use lisp_data::Value;
+use std::alloc::AllocError;
+
+/// An action is not done, since memory was refused. A function of its own: each way out that drops an action is proved
+/// variant by variant.
+pub fn give_up(action: Action, values: Values) -> Stop
+    ensures { result ≡ Storage }
+{
+    drop(action);
+    drop(values);
+    Stop::Storage
+}
+
+/// Copies of the first of these forms and of the others.
+pub fn split(forms: &Forms) -> Result<Option<(Form, Forms)>, AllocError>
+    ensures { IfOk result (λ r. MatchOption r (forms.now ≡ nil) (λ p. forms.now ≡ cons p.0 p.1)) }
+{
+    match forms.split_first() {
+        None => Ok(None),
+        Some((first, others)) => {
+            let first = first.copy()?;
+            Ok(Some((first, others.copy()?)))
+        }
+    }
+}
+
+/// Evaluates this next, and then does what the frame does with its value.
+pub fn begin(machine: &mut Machine, next: Form, frame: Frame) -> Result<Doing, Stop>
+    ensures leads { (run : Run) (w : State) → below machine.old.context frame ≡ machine.old.context
+        → ((t : ℕ) → then_do (meaning machine.old.room machine.old.context next (at machine.old w) t) (after (meaning machine.old.room) machine.old.context frame) ≡ run (at machine.old w) t)
+        → Leads (inside machine.old run) w result machine.new }
+    ensures small { Grows (weight_of frame) machine.old.levels result machine.new }
+{
+    let room = machine.room;
+    machine.levels.push(Level { frame, room })?;
+    Ok(Doing::Start(next))
+}
+
+/// Two levels of this room: the frame, and the outer one under it.
+fn push_both(levels: &mut Levels, frame: Frame, outer: Frame, room: u64) -> Result<(), AllocError>
+    ensures { OnOk result (levels.new ≡ record { frame = frame; room = room } ∷ record { frame = outer; room = room } ∷ levels.old) }
+{
+    let Ok(()) = levels.push(Level { frame: outer, room }) else {
+        drop(frame);
+        return Err(AllocError);
+    };
+    levels.push(Level { frame, room })
+}
+
+/// The same, and after the frame what another does with its value.
+pub fn begin_under(
+    machine: &mut Machine,
+    next: Form,
+    frame: Frame,
+    outer: Frame,
+) -> Result<Doing, Stop>
+    ensures leads { (run : Run) (w : State) → below machine.old.context frame ≡ machine.old.context → below machine.old.context outer ≡ machine.old.context
+        → ((t : ℕ) → then_do (then_do (meaning machine.old.room machine.old.context next (at machine.old w) t) (after (meaning machine.old.room) machine.old.context frame)) (after (meaning machine.old.room) machine.old.context outer) ≡ run (at machine.old w) t)
+        → Leads (inside machine.old run) w result machine.new }
+    ensures small { Grows (weight_of frame + weight_of outer) machine.old.levels result machine.new }
+{
+    let room = machine.room;
+    let Ok(()) = push_both(&mut machine.levels, frame, outer, room) else {
+        drop(next);
+        return Err(Stop::Storage);
+    };
+    Ok(Doing::Start(next))
+}
+
+/// Does this action with the values next, and then what the frame does with its value.
+pub fn act_under(
+    machine: &mut Machine,
+    action: Action,
+    values: Values,
+    frame: Frame,
+) -> Result<Doing, Stop>
+    ensures leads { (run : Run) (w : State) → below machine.old.context frame ≡ machine.old.context
+        → ((t : ℕ) → then_do (acted (meaning machine.old.room) machine.old.context action values (at machine.old w) t) (after (meaning machine.old.room) machine.old.context frame) ≡ run (at machine.old w) t)
+        → Leads (inside machine.old run) w result machine.new }
+    ensures small { Grows (weight_of frame + given (Act action values)) machine.old.levels result machine.new }
+{
+    let room = machine.room;
+    let Ok(()) = machine.levels.push(Level { frame, room }) else {
+        return Err(give_up(action, values));
+    };
+    Ok(Doing::Act(action, values))
+}
+
+/// Calls this generic function of the system next, and then does what the frame does with its value.
+pub fn invoke_under(
+    machine: &mut Machine,
+    function: SystemFunction,
+    arguments: Values,
+    frame: Frame,
+) -> Result<Doing, Stop>
+    ensures leads { (run : Run) (w : State) → below machine.old.context frame ≡ machine.old.context
+        → ((t : ℕ) → then_do (invoked (meaning machine.old.room) function arguments (at machine.old w) t) (after (meaning machine.old.room) machine.old.context frame) ≡ run (at machine.old w) t)
+        → Leads (inside machine.old run) w result machine.new }
+    ensures small { Grows (weight_of frame + 3) machine.old.levels result machine.new }
+{
+    let room = machine.room;
+    machine.levels.push(Level { frame, room })?;
+    Ok(Doing::Invoke(function, arguments))
+}
+
+/// Gives this value.
+pub fn done(machine: &Machine, value: Value) -> Doing
+    ensures leads { (run : Run) (w : State) → ((t : ℕ) → run (at machine.now w) t ≡ Gave (value_of value) (at machine.now w) t)
+        → Leads (inside machine.now run) w (Ok result) machine.now }
+    ensures small { Grows 6 machine.now.levels (Ok result) machine.now }
+{
+    let _ = machine;
+    Doing::Give(value)
+}
+
+/// Evaluates this next, whose value is the machine's.
+pub fn turn_to(machine: &Machine, next: Form) -> Doing
+    ensures leads { (run : Run) (w : State) → ((t : ℕ) → meaning machine.now.room machine.now.context next (at machine.now w) t ≡ run (at machine.now w) t)
+        → Leads (inside machine.now run) w (Ok result) machine.now }
+    ensures small { Grows 6 machine.now.levels (Ok result) machine.now }
+{
+    let _ = machine;
+    Doing::Start(next)
+}
+
+/// An action is done with these values and those of these forms.
+pub fn collect_next(
+    machine: &mut Machine,
+    action: Action,
+    forms: &Forms,
+    values: Values,
+) -> Result<Doing, Stop>
+    ensures leads { (run : Run) (w : State)
+        → ((t : ℕ) → collect (meaning machine.old.room) machine.old.context forms.now values (acted (meaning machine.old.room) machine.old.context action) (at machine.old w) t ≡ run (at machine.old w) t)
+        → Leads (inside machine.old run) w result machine.new }
+    ensures small { Grows (9 + lift action) machine.old.levels result machine.new }
+{
+    let _ = machine;
+    let Ok(forms) = forms.copy() else {
+        return Err(give_up(action, values));
+    };
+    Ok(Doing::Collect(action, forms, values))
+}

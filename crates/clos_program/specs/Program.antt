@@ -1,0 +1,46 @@
+-- What the program does where its input alone is run: no file is named, or the name that stands for the input.
+use Rattle.std.specs.Prelude.{◌≡◌, ◌⊎◌, ℕ, nat_lt, ◌||◌, List, [], ◌∷◌, Bool, true, false, Option, codes, if◌then◌else◌}
+use Rattle.std.specs.Str.{bytes_eq}
+use Rattle.std.specs.Io.KnownBytes.{Keeps}
+use Rattle.clos_system.specs.clos_world.World.{State}
+use Rattle.clos_system.specs.Transcript.{Finishes, OverText, RunFaults}
+use Rattle.clos_system.specs.declared.transcript.RunFault.{RunFault}
+use Rattle.clos_system.specs.declared.transcript.Summary.{Summary}
+
+-- the name - stands for the input
+abbrev pub is_input : List ℕ → Bool
+is_input name = bytes_eq name (codes "-")
+
+-- the input alone is run: it is the only one that is named, or nothing is
+abbrev pub is_input_alone : List (List ℕ) → Bool
+is_input_alone [] = true
+is_input_alone (name ∷ []) = is_input name
+is_input_alone (name ∷ (other ∷ names)) = false
+
+-- whether a condition or storage line was written
+abbrev pub is_told : Summary → Bool
+is_told n = nat_lt 0 n.conditions || nat_lt 0 n.storages
+
+-- the exit status of a run, and that after a fault
+abbrev pub status_of : Bool → ℕ
+status_of told = if told then 1 else 0
+
+abbrev pub fault_status : ℕ
+fault_status = 3
+
+-- A run came to the end of its text. What the output holds has grown by the transcript.
+abbrev pub Ran : Bool → Option (List ℕ) → State → State → Option (List ℕ) → Option (List ℕ) → Bool → Type 0
+Ran echo known start end old new told =
+    (n : Summary) × (told ≡ is_told n) × OverText known (λ text. Finishes echo text start end old new n)
+
+-- A run ended with a fault.
+abbrev pub Failed : Bool → Option (List ℕ) → State → State → Option (List ℕ) → Option (List ℕ) → Type 0
+Failed echo known start end old new = (e : RunFault) × RunFaults echo known start end old new e
+
+-- The input was run and the output flushed, which changes nothing of what it holds. The status tells whether a condition or
+-- storage line was written, or that the run or the flush failed.
+abbrev pub RunsInput : Bool → Option (List ℕ) → State → State → Option (List ℕ) → Option (List ℕ) → ℕ → Type 0
+RunsInput echo known start end old new status =
+    (written : Option (List ℕ)) × Keeps written new
+    × (((told : Bool) × Ran echo known start end old written told × ((status ≡ status_of told) ⊎ (status ≡ fault_status)))
+    ⊎ ((status ≡ fault_status) × Failed echo known start end old written))

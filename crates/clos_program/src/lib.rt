@@ -1,0 +1,11 @@
+//! What the program `clos` does: files run one after another in one session, and a status at the end.
+#![tactic(auto)]
+
+mod fault;
+mod running;
+
+pub use clos_system::{Limits, Session};
+pub use fault::{Fault, report};
+pub use running::{
+    STATUS_CONDITION, STATUS_DONE, STATUS_FAULT, STATUS_USAGE, limits, program, reads_input,
+};

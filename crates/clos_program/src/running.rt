@@ -1,0 +1,176 @@
+//! Running files, one after the other, in one session.
+ghost use Rattle.std.specs.Prelude.{◌≡◌, ◌⊎◌, ◌||◌, IfOk, IfErr, MatchResult, map, true};
+ghost use Rattle.std.specs.List.{list_any};
+ghost use Rattle.std.specs.Io.KnownBytes.{Keeps};
+ghost use Rattle.clos_system.specs.clos_world.Limits.{standard};
+ghost use Rattle.clos_system.specs.clos_session.Session.{state_of};
+ghost use Rattle.clos_program.specs.Program.{Failed, Ran, RunsInput, fault_status, is_input, is_input_alone, status_of};
+
+use crate::fault::{Fault, report};
+use clos_command_line::Settings;
+use clos_system::{Limits, Session, run};
+use std::alloc::Global;
+use std::fs::{File, Files};
+use std::io::{Read, Write};
+
+/// Every form gave a value.
+pub const STATUS_DONE: u8 = 0;
+
+/// A condition or storage line was written.
+pub const STATUS_CONDITION: u8 = 1;
+
+/// The command line is at fault.
+pub const STATUS_USAGE: u8 = 2;
+
+/// A file can't be read, or the output not written, or memory ran out.
+pub const STATUS_FAULT: u8 = 3;
+
+/// What standard input is called where a file would be named.
+const INPUT_NAME: &str = "-";
+
+/// Whether this name stands for standard input.
+fn is_input(name: &str) -> bool
+    ensures { result ≡ is_input name.now }
+{
+    name == "-"
+}
+
+/// Whether standard input alone is run: no file is named, or it is the only one.
+fn is_input_alone(names: &[&str]) -> bool
+    ensures { result ≡ is_input_alone (map (λ f. f.now) names.now) }
+{
+    match names {
+        [] => true,
+        [name] => is_input(name),
+        _ => false,
+    }
+}
+
+/// Whether standard input is one of the files that are named.
+fn has_input(names: &[&str]) -> bool
+    ensures { result ≡ list_any (λ f. is_input f.now) names.now }
+{
+    names.iter().any(|name| is_input(name))
+}
+
+/// Whether standard input is run: no file is named, or it is one of them.
+pub fn reads_input(settings: &Settings<'_>) -> bool
+    ensures { result ≡ (is_input_alone (map (λ f. f.now) settings.now.files.items)
+        || list_any (λ f. is_input f.now) settings.now.files.items) }
+{
+    is_input_alone(settings.files.as_slice()) || has_input(settings.files.as_slice())
+}
+
+/// The limits that the settings ask for; the others are those of `Limits`.
+pub fn limits(settings: &Settings<'_>) -> Limits
+    ensures { result ≡ record standard { steps = settings.now.steps; depth = settings.now.depth } }
+{
+    Limits {
+        steps: settings.steps,
+        depth: settings.depth,
+        ..Limits::default()
+    }
+}
+
+/// Runs one text, and says whether a condition or storage line was written.
+fn run_text<'a, I: Read, O: Write>(
+    alloc: Global,
+    session: &mut Session,
+    name: &'a str,
+    input: &mut I,
+    output: &mut O,
+    echo: bool,
+) -> Result<bool, Fault<'a>>
+    ensures finishes { IfOk result (Ran echo (I.remaining input.old) (state_of session.old) (state_of session.new) (O.contents output.old) (O.contents output.new)) }
+    ensures fails { IfErr result (λ _. Failed echo (I.remaining input.old) (state_of session.old) (state_of session.new) (O.contents output.old) (O.contents output.new)) }
+{
+    match run(alloc, session, input, output, echo) {
+        Ok(summary) => Ok(summary.conditions > 0 || summary.storages > 0),
+        Err(fault) => Err(Fault::of_run(name, &fault)),
+    }
+}
+
+/// Runs the file of this name, or the input where the name stands for it.
+fn run_named<'a, R: Files, I: Read, O: Write>(
+    rt: &R,
+    alloc: Global,
+    session: &mut Session,
+    name: &'a str,
+    input: &mut I,
+    output: &mut O,
+    echo: bool,
+) -> Result<bool, Fault<'a>> {
+    if is_input(name) {
+        return run_text(alloc, session, INPUT_NAME, input, output, echo);
+    }
+    match File::open(rt, name) {
+        Ok(mut file) => run_text(alloc, session, name, &mut file, output, echo),
+        Err(_) => Err(Fault::Read(name)),
+    }
+}
+
+/// Runs the files in order, each with a flush of the output after it, and says whether a condition or storage line was
+/// written.
+fn run_files<'a, R: Files, I: Read, O: Write>(
+    rt: &R,
+    alloc: Global,
+    session: &mut Session,
+    settings: &Settings<'a>,
+    input: &mut I,
+    output: &mut O,
+) -> Result<bool, Fault<'a>> {
+    let mut any = false;
+    for name in settings.files.iter() {
+        any |= run_named(rt, alloc, session, *name, input, output, settings.echo)?;
+        if output.flush().is_err() {
+            return Err(Fault::Write);
+        }
+    }
+    Ok(any)
+}
+
+/// Flushes the output, tells a fault in one line on `errors`, and gives the exit status.
+fn finish<O: Write, E: Write>(ran: Result<bool, Fault<'_>>, output: &mut O, errors: &mut E) -> u8
+    ensures keeps { Keeps (O.contents output.old) (O.contents output.new) }
+    ensures status { MatchResult ran.entry (λ told. (result ≡ status_of told) ⊎ (result ≡ fault_status)) (λ _. result ≡ fault_status) }
+{
+    let flushed = output.flush();
+    match ran {
+        Err(fault) => {
+            report(errors, fault);
+            STATUS_FAULT
+        }
+        Ok(told) => {
+            if flushed.is_err() {
+                report(errors, Fault::Write);
+                return STATUS_FAULT;
+            }
+            if told { STATUS_CONDITION } else { STATUS_DONE }
+        }
+    }
+}
+
+/// Runs the files of the settings in order in the session, or the input where there are none; the name `-` stands for the
+/// input. The output is flushed after each, and before a fault is told, in one line on `errors`, which ends the program. The
+/// answer is the exit status.
+pub fn program<R: Files, I: Read, O: Write, E: Write>(
+    rt: &R,
+    alloc: Global,
+    session: &mut Session,
+    settings: &Settings<'_>,
+    input: &mut I,
+    output: &mut O,
+    errors: &mut E,
+) -> u8
+    ensures status { (result ≡ STATUS_DONE) ⊎ (result ≡ STATUS_CONDITION) ⊎ (result ≡ STATUS_FAULT) }
+    ensures input { is_input_alone (map (λ f. f.now) settings.now.files.items) ≡ true
+        → RunsInput settings.now.echo (I.remaining input.old) (state_of session.old) (state_of session.new)
+        (O.contents output.old) (O.contents output.new) result }
+{
+    if is_input_alone(settings.files.as_slice()) {
+        let ran = run_text(alloc, session, INPUT_NAME, input, output, settings.echo);
+        return finish(ran, output, errors);
+    }
+    let ran = run_files(rt, alloc, session, settings, input, output);
+    finish(ran, output, errors)
+}

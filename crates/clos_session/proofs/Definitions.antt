@@ -1,0 +1,174 @@
+-- A definition that is refused defines nothing, and neither does any other form.
+use Rattle.std.proofs.Common.{ℕ, zero, suc, List, [], ◌∷◌, ◌++◌, Option, Some, None, Result, Ok, Err, Bool, true, false, length, map, subst}
+use Rattle.std.specs.Prelude.{⊤, nat_lt, ◌||◌, is_some, if◌then◌else◌}
+use Rattle.lisp_data.specs.Datum.{Dat}
+use Rattle.lisp_data.specs.Name.{Nam}
+use Rattle.lisp_data.specs.Value.{Val, class, generic, method}
+use Rattle.clos_forms.specs.Form.{Frm}
+use Rattle.clos_forms.specs.declared.operator.FunctionName.{FunctionName}
+use Rattle.clos_forms.specs.declared.operator.FunctionName.TheVariants.{Symbol, Setf}
+use Rattle.clos_definition_forms.specs.clos_generic.Table.{named as generic_named, number}
+use Rattle.clos_syntax.specs.Top.{top_of}
+use Rattle.clos_syntax.specs.declared.class.ClassDefinition.{ClassDefinition}
+use Rattle.clos_syntax.specs.declared.generic.GenericDefinition.{GenericDefinition}
+use Rattle.clos_syntax.specs.declared.method.MethodDefinition.{MethodDefinition}
+use Rattle.clos_syntax.specs.declared.top.Top.{Top}
+use Rattle.clos_syntax.specs.declared.top.Top.TheVariants.{DefClass, DefGeneric, DefMethod, Defun, DefVar, RemoveMethod, AddDependent, RemoveDependent, InPackage, Expr}
+use Rattle.clos_syntax.specs.declared.variable.VariableDefinition.{VariableDefinition}
+use Rattle.clos_definition_forms.specs.clos_world.Class.{named}
+use Rattle.clos_definition_forms.specs.clos_world.Definitions.{Same}
+use Rattle.clos_definition_forms.specs.clos_world.Functions.{function_in}
+use Rattle.clos_definition_forms.specs.clos_world.Globals.{is_global}
+use Rattle.clos_definition_forms.specs.clos_world.World.{State}
+use Rattle.clos_definition_forms.specs.clos_world.declared.condition.Condition.{Condition}
+use Rattle.clos_definition_forms.specs.clos_world.declared.condition.ConditionKind.TheVariants.{TableLimit}
+use Rattle.clos_definition_forms.specs.clos_world.declared.functions.Function.{Function}
+use Rattle.clos_definition_forms.specs.clos_definition.Class.{cells_needed, class_number, class_refusal, initforms, with_defined_class}
+use Rattle.clos_definition_forms.specs.clos_definition.Generic.{eql_forms, generic_refusal, with_defined_generic}
+use Rattle.clos_definition_forms.specs.clos_definition.Method.{eql_form, method_refusal, with_defined_method}
+use Rattle.clos_definition_forms.specs.clos_definition.Removal.{removable, with_removed}
+use Rattle.clos_definition_forms.specs.clos_machine.Meaning.{evaluation}
+use Rattle.clos_definition_forms.specs.clos_machine.Outcome.{Out, Gave, Stopped, Run, then_do, step_then, stopped}
+use Rattle.clos_definition_forms.proofs.clos_machine.Kept.{same, same_then, Kept, evaluation_kept}
+use Rattle.clos_definition_forms.specs.Definition.{class_made, define_class, define_generic, define_method, generic_made, method_made, remove_method, removed_if, takes_effect, unless, value_at, values_removed}
+use Rattle.clos_session.specs.Definitions.{DefinesNothing}
+use Rattle.clos_definition_forms.specs.Forms.{form_evaluated, forms_evaluated}
+use Rattle.clos_definition_forms.specs.Function.{has_room, function_defined, setter_defined, define_function}
+use Rattle.clos_session.specs.Served.{is_combination, is_served_top}
+use Rattle.clos_session.specs.Session.{Replies}
+use Rattle.clos_session.specs.Step.{checked, performed, room_of, step}
+use Rattle.clos_definition_forms.specs.Variable.{room_below, keeps_value, named as defined_name, declared, value_given, new_value, variable_defined}
+use Rattle.clos_session.specs.declared.session.Reply.{Reply}
+use Rattle.clos_session.specs.declared.session.Reply.TheVariants.{Value, Condition as a_condition, Storage}
+
+-- where a form is refused, the definitions are those before
+
+abbrev Refuses : State → Out → Type 0
+Refuses w (Gave v u k) = ⊤
+Refuses w (Stopped c u k) = Same w u
+
+kept_refuses : (w : State) (o : Out) → Kept w o → Refuses w o
+kept_refuses w (Gave v u k) h = tt
+kept_refuses w (Stopped c u k) h = h
+
+shifted_refuses : (w u : State) (o : Out) → Same w u → Refuses u o → Refuses w o
+shifted_refuses w u (Gave v t k) h g = tt
+shifted_refuses w u (Stopped c t k) h g = same_then w u t h g
+
+choice_refuses : (b : Bool) (w : State) (x y : Out) → Refuses w x → Refuses w y → Refuses w (if b then x else y)
+choice_refuses true w x y h g = h
+choice_refuses false w x y h g = g
+
+step_refuses : (run : Run) (w : State) (k : ℕ) → ((j : ℕ) → Refuses w (run w j)) → Refuses w (step_then run w k)
+step_refuses run w zero h = same w
+step_refuses run w (suc k) h = h k
+
+unless_refuses : (o : Option Condition) (go : Run) (w : State) (k : ℕ) → Refuses w (go w k) → Refuses w (unless o go w k)
+unless_refuses None go w k h = h
+unless_refuses (Some c) go w k h = same w
+
+-- ---- forms, and then what defines nothing
+
+-- an evaluation before it
+then_refuses : (w : State) (o : Out) (go : Val → Run) → Kept w o → ((v : Val) (u : State) (j : ℕ) → Refuses u (go v u j)) → Refuses w (then_do o go)
+then_refuses w (Stopped c u k) go h g = h
+then_refuses w (Gave v u k) go h g = shifted_refuses w u (go v u k) h (g v u k)
+
+form_refuses : (o : Option Frm) (go : Option Val → Run) (w : State) (k : ℕ) → ((v : Option Val) (u : State) (j : ℕ) → Refuses u (go v u j)) → Refuses w (form_evaluated o go w k)
+form_refuses None go w k g = g None w k
+form_refuses (Some f) go w k g =
+    then_refuses w (evaluation (room_below w) f w k) (λ v. go (Some v)) (evaluation_kept (room_below w) f w k) (λ v u j. g (Some v) u j)
+
+forms_refuse : (fs : List (Option Frm)) (vs : List (Option Val)) (go : List (Option Val) → Run) (w : State) (k : ℕ) → ((us : List (Option Val)) (u : State) (j : ℕ) → Refuses u (go us u j))
+    → Refuses w (forms_evaluated fs vs go w k)
+forms_refuse [] vs go w k g = g vs w k
+forms_refuse (f ∷ fs) vs go w k g =
+    form_refuses f (λ v. forms_evaluated fs (vs ++ v ∷ []) go) w k (λ v u j. forms_refuse fs (vs ++ v ∷ []) go u j g)
+
+-- ---- the definition forms
+
+effect_refuses : (o : Option Condition) (v : Val) (u w : State) (k : ℕ) → Refuses w (unless o (takes_effect v u) w k)
+effect_refuses o v u w k = unless_refuses o (takes_effect v u) w k (step_refuses (λ x j. Gave v u j) w k (λ j. tt))
+
+method_refuses : (name : FunctionName) (m : MethodDefinition) (w : State) (k : ℕ) → Refuses w (define_method name m w k)
+method_refuses name m w k =
+    unless_refuses (method_refusal name m None w) (forms_evaluated (map eql_form m.specializers) [] (method_made name m)) w k
+    (forms_refuse (map eql_form m.specializers) [] (method_made name m) w k
+    (λ vs u j. effect_refuses (method_refusal name m (Some vs) u) (method (length u.generics.methods)) (with_defined_method name m vs u) u j))
+
+generic_refuses : (d : GenericDefinition) (w : State) (k : ℕ) → Refuses w (define_generic d w k)
+generic_refuses d w k =
+    unless_refuses (generic_refusal d None w) (forms_evaluated (eql_forms d.methods) [] (generic_made d)) w k
+    (forms_refuse (eql_forms d.methods) [] (generic_made d) w k
+    (λ vs u j. effect_refuses (generic_refusal d (Some vs) u) (generic (number u.generics d.name)) (with_defined_generic d vs u) u j))
+
+class_refuses : (d : ClassDefinition) (o : Option ℕ) (w : State) (k : ℕ) → Refuses w (define_class d o w k)
+class_refuses d None w k =
+    unless_refuses (class_refusal d (length (cells_needed d w)) w) (forms_evaluated (initforms (cells_needed d w)) [] (class_made d)) w k
+    (forms_refuse (initforms (cells_needed d w)) [] (class_made d) w k
+    (λ vs u j. effect_refuses (class_refusal d (length vs) u) (class (class_number d u)) (with_defined_class d vs u) u j))
+class_refuses d (Some n) w k = same w
+
+removed_refuses : (v : Val) (r : Result (ℕ × ℕ) Condition) (w : State) (k : ℕ) → Refuses w (removed_if v r w k)
+removed_refuses v (Err c) w k = same w
+removed_refuses v (Ok p) w k = step_refuses (λ x j. Gave v (with_removed p.0 p.1 w) j) w k (λ j. tt)
+
+removal_refuses : (f m : Frm) (w : State) (k : ℕ) → Refuses w (remove_method f m w k)
+removal_refuses f m w k =
+    forms_refuse (Some f ∷ Some m ∷ []) [] values_removed w k (λ vs u j. removed_refuses (value_at vs 0) (removable (value_at vs 0) (value_at vs 1)) u j)
+
+function_refuses : (name : FunctionName) (f : Function) (w : State) (k : ℕ) → Refuses w (define_function name f w k)
+function_refuses (Symbol name) f w k =
+    choice_refuses (is_some (generic_named w.generics (Symbol name))) w _ _ (same w)
+    (choice_refuses (is_some (function_in w.functions name) || has_room w) w (step_then (function_defined name f) w k) _
+    (step_refuses (function_defined name f) w k (λ j. tt)) (same w))
+function_refuses (Setf name) f w k =
+    choice_refuses (is_some (generic_named w.generics (Setf name))) w _ _ (same w)
+    (choice_refuses (is_some (function_in w.setters name) || has_room w) w (step_then (setter_defined name f) w k) _
+    (step_refuses (setter_defined name f) w k (λ j. tt)) (same w))
+
+-- ---- variables
+
+-- a step after an evaluation
+then_step_refuses : (w : State) (o : Out) (go : Val → Run) → Kept w o → ((v : Val) (u : State) (j : ℕ) → Refuses u (go v u j)) → Refuses w (then_do o (λ v. step_then (go v)))
+then_step_refuses w (Stopped c u k) go h g = h
+then_step_refuses w (Gave v u zero) go h g = h
+then_step_refuses w (Gave v u (suc k)) go h g = shifted_refuses w u (go v u k) h (g v u k)
+
+value_refuses : (name : Nam) (o : Option Frm) (w : State) (k : ℕ) → Refuses w (new_value name o w k)
+value_refuses name None w k = step_refuses (declared name) w k (λ j. choice_refuses (is_global w.globals name) w _ _ tt tt)
+value_refuses name (Some f) w k =
+    then_step_refuses w (evaluation (room_below w) f w k) (λ v. value_given name v) (evaluation_kept (room_below w) f w k) (λ v u j. tt)
+
+variable_refuses : (d : VariableDefinition) (w : State) (k : ℕ) → Refuses w (variable_defined d w k)
+variable_refuses d w k =
+    choice_refuses (is_global w.globals d.name || nat_lt (length w.globals) w.limits.globals) w _ (stopped TableLimit [] w k)
+    (choice_refuses (keeps_value w d.definer d.name) w (step_then (defined_name d.name) w k) (new_value d.name d.form w k)
+    (step_refuses (defined_name d.name) w k (λ j. tt)) (value_refuses d.name d.form w k)) (same w)
+
+-- ---- top-level forms
+
+performed_refuses : (top : Top) (w : State) (k : ℕ) → Refuses w (performed top w k)
+performed_refuses (DefClass d) w k = class_refuses d (named w.classes d.name) w k
+performed_refuses (DefGeneric d) w k = generic_refuses d w k
+performed_refuses (DefMethod name m) w k = method_refuses name m w k
+performed_refuses (Defun f) w k = function_refuses f.name (record { lambda_list = f.lambda_list; body = f.body }) w k
+performed_refuses (DefVar d) w k = variable_refuses d w k
+performed_refuses (RemoveMethod function m) w k = removal_refuses function m w k
+performed_refuses (AddDependent m d) w k = same w
+performed_refuses (RemoveDependent m d) w k = same w
+performed_refuses InPackage w k = tt
+performed_refuses (Expr f) w k = kept_refuses w (evaluation (room_of w) f w k) (evaluation_kept (room_of w) f w k)
+
+checked_refuses : (o : Option Top) (w : State) (k : ℕ) → Refuses w (checked o w k)
+checked_refuses None w k = same w
+checked_refuses (Some top) w k = choice_refuses (is_served_top top) w (performed top w k) _ (performed_refuses top w k) (same w)
+
+step_refused : (d : Dat) (w : State) (k : ℕ) → Refuses w (step d w k)
+step_refused d w k = choice_refuses (is_combination d) w _ (checked (top_of d) w k) (same w) (checked_refuses (top_of d) w k)
+
+-- what a session replies
+pub defines_nothing : (d : Dat) (s : ℕ) (w u : State) (r : Reply) → Replies (step d) s w r u → DefinesNothing r w u
+defines_nothing d s w u (Value v) h = tt
+defines_nothing d s w u (a_condition number items) h = subst (Refuses w) h.3 (step_refused d w s)
+defines_nothing d s w u (Storage k) h = tt

@@ -1,0 +1,3 @@
+pub mod StepQuiet
+pub mod Definitions
+pub mod Serving

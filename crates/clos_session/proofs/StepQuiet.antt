@@ -1,0 +1,86 @@
+-- With no step left a top-level form changes nothing.
+use Rattle.std.proofs.Common.{◌≡◌, ◌≤◌, ◌-◌, arith, subst, ℕ, zero, suc, [], Option, Some, None, Err, Bool, true, false, length, refl}
+use Rattle.std.specs.Prelude.{nat_lt, ◌||◌, is_some, if◌then◌else◌}
+use Rattle.lisp_data.specs.Name.{Nam}
+use Rattle.lisp_data.specs.Datum.{Dat}
+use Rattle.lisp_data.specs.Value.{Val}
+use Rattle.clos_forms.specs.Form.{Frm}
+use Rattle.clos_forms.specs.declared.operator.FunctionName.{FunctionName}
+use Rattle.clos_forms.specs.declared.operator.FunctionName.TheVariants.{Symbol, Setf}
+use Rattle.clos_definition_forms.specs.clos_generic.Table.{named as generic_named}
+use Rattle.clos_syntax.specs.Top.{top_of}
+use Rattle.clos_syntax.specs.declared.top.Top.{Top}
+use Rattle.clos_syntax.specs.declared.top.Top.TheVariants.{DefClass, DefGeneric, DefMethod, Defun, DefVar, RemoveMethod, AddDependent, RemoveDependent, InPackage, Expr}
+use Rattle.clos_syntax.specs.declared.variable.VariableDefinition.{VariableDefinition}
+use Rattle.clos_definition_forms.specs.clos_world.Class.{named}
+use Rattle.clos_definition_forms.specs.clos_world.Functions.{function_in}
+use Rattle.clos_definition_forms.specs.clos_world.Globals.{is_global}
+use Rattle.clos_definition_forms.specs.clos_world.World.{State, seen}
+use Rattle.clos_definition_forms.specs.clos_world.declared.condition.Stop.{Stop}
+use Rattle.clos_definition_forms.specs.clos_world.declared.condition.Stop.TheVariants.{Refused, Storage}
+use Rattle.clos_definition_forms.specs.clos_world.declared.functions.Function.{Function}
+use Rattle.clos_definition_forms.specs.clos_world.declared.world.World.{World}
+use Rattle.clos_definition_forms.specs.clos_machine.Contexts.{known}
+use Rattle.clos_definition_forms.specs.clos_machine.Machine.{Answers, leaves}
+use Rattle.clos_definition_forms.specs.clos_machine.Meaning.{evaluation}
+use Rattle.clos_definition_forms.specs.clos_machine.Outcome.{Out, Gave, Stopped, Run, then_do, step_then}
+use Rattle.clos_definition_forms.proofs.clos_machine.Quiet.{evaluation_quiet}
+use Rattle.clos_definition_forms.specs.Function.{has_room, define_function}
+use Rattle.clos_session.specs.Served.{is_combination, is_served_top}
+use Rattle.clos_session.specs.Step.{checked, performed, room_of, step}
+use Rattle.clos_definition_forms.specs.Variable.{room_below, keeps_value, value_given, new_value, variable_defined}
+use Rattle.clos_definition_forms.proofs.Quiet.{define_class_quiet, define_generic_quiet, define_method_quiet, remove_method_quiet}
+
+either : (b : Bool) (x y : Out) (w : State) → leaves x w 0 → leaves y w 0 → leaves (if b then x else y) w 0
+either true x y w p q = p
+either false x y w p q = q
+
+function_quiet : (name : FunctionName) (f : Function) (w : State) → leaves (define_function name f w 0) w 0
+function_quiet (Symbol name) f w =
+    either (is_some (generic_named w.generics (Symbol name))) _ _ w (refl, refl)
+    (either (is_some (function_in w.functions name) || has_room w) _ _ w (refl, refl) (refl, refl))
+function_quiet (Setf name) f w =
+    either (is_some (generic_named w.generics (Setf name))) _ _ w (refl, refl)
+    (either (is_some (function_in w.setters name) || has_room w) _ _ w (refl, refl) (refl, refl))
+
+-- an evaluation with no step left, and then a step
+then_step_quiet : (o : Out) (go : Val → Run) (w : State) → leaves o w 0 → leaves (then_do o (λ v. step_then (go v))) w 0
+then_step_quiet (Stopped c u k) go w h = h
+then_step_quiet (Gave v u zero) go w h = h
+then_step_quiet (Gave v u (suc k)) go w h = absurd (cc h.1)
+
+value_quiet : (name : Nam) (o : Option Frm) (w : World) → leaves (new_value name o (seen w) 0) (seen w) 0
+value_quiet name None w = (refl, refl)
+value_quiet name (Some f) w =
+    then_step_quiet (evaluation (room_below (seen w)) f (seen w) 0) (λ v. value_given name v) (seen w)
+    (evaluation_quiet (room_below (seen w)) (known []) f (seen w))
+
+variable_quiet : (d : VariableDefinition) (w : World) → leaves (variable_defined d (seen w) 0) (seen w) 0
+variable_quiet d w =
+    either (is_global (seen w).globals d.name || nat_lt (length (seen w).globals) (seen w).limits.globals) _ _ (seen w)
+    (either (keeps_value (seen w) d.definer d.name) _ _ (seen w) (refl, refl) (value_quiet d.name d.form w)) (refl, refl)
+
+performed_quiet : (top : Top) (w : World) → leaves (performed top (seen w) 0) (seen w) 0
+performed_quiet (DefClass d) w = define_class_quiet d (named (seen w).classes d.name) (seen w) refl
+performed_quiet (DefGeneric d) w = define_generic_quiet d (seen w) refl
+performed_quiet (DefMethod name m) w = define_method_quiet name m (seen w) refl
+performed_quiet (Defun f) w = function_quiet f.name (record { lambda_list = f.lambda_list; body = f.body }) (seen w)
+performed_quiet (DefVar d) w = variable_quiet d w
+performed_quiet (RemoveMethod function m) w = remove_method_quiet function m (seen w) refl
+performed_quiet (AddDependent m d) w = (refl, refl)
+performed_quiet (RemoveDependent m d) w = (refl, refl)
+performed_quiet InPackage w = (refl, refl)
+performed_quiet (Expr f) w = evaluation_quiet (room_of (seen w)) (known []) f (seen w)
+
+pub checked_quiet : (o : Option Top) (w : World) → leaves (checked o (seen w) 0) (seen w) 0
+checked_quiet None w = (refl, refl)
+checked_quiet (Some top) w = either (is_served_top top) (performed top (seen w) 0) _ (seen w) (performed_quiet top w) (refl, refl)
+
+pub step_quiet : (d : Dat) (w : World) → leaves (step d (seen w) 0) (seen w) 0
+step_quiet d w = either (is_combination d) _ (checked (top_of d) (seen w) 0) (seen w) (refl, refl) (checked_quiet (top_of d) w)
+
+-- where memory was refused, the steps taken are those that are gone
+pub stored : (run : Run) (w w' : State) (s s' : ℕ) (stop : Stop) → stop ≡ Storage → Answers run w s (Err stop) w' s'
+    → (s - s' ≤ s) × leaves (run w (s - s')) w' 0
+stored run w w' s s' Storage h e = (omega arith, subst (λ k. leaves (run w k) w' 0) (omega (arith, e.1)) e.2)
+stored run w w' s s' (Refused c) h e = absurd (cc h)

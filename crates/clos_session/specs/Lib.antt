@@ -1,0 +1,6 @@
+pub mod Served
+pub mod Step
+pub mod Session
+pub mod Definitions
+pub use Rattle.clos_definition_forms.specs.clos_machine as clos_machine
+pub use Rattle.clos_definition_forms.specs.clos_world as clos_world

@@ -1,0 +1,122 @@
+-- Which forms are served.
+use Rattle.std.specs.Prelude.{Bool, true, false, not, ◌&&◌, ◌||◌, Option, Some, None, codes}
+use Rattle.std.specs.List.{list_all}
+use Rattle.lisp_data.specs.Name.{Nam}
+use Rattle.lisp_data.specs.Datum.{Dat, integer, symbol, string, list, dotted, method, Dats}
+use Rattle.lisp_data.specs.Datum as datum
+use Rattle.clos_forms.specs.Form.{Frm, form, Frms, nil, cons, operator_in}
+use Rattle.clos_forms.specs.Names.{is_called, is_one_of, functions}
+use Rattle.clos_forms.specs.Operator.{Opr, call_place}
+use Rattle.clos_forms.specs.Operator as of
+use Rattle.clos_lambda.specs.LambdaList.{entries_of}
+use Rattle.clos_lambda.specs.declared.lambda_list.LambdaList.{LambdaList}
+use Rattle.clos_lambda.specs.declared.lambda_list.Optional.{Optional}
+use Rattle.clos_syntax.specs.declared.class.ClassDefinition.{ClassDefinition}
+use Rattle.clos_syntax.specs.declared.generic.CombinationUse.{CombinationUse}
+use Rattle.clos_syntax.specs.declared.generic.GenericDefinition.{GenericDefinition}
+use Rattle.clos_syntax.specs.declared.method.MethodDefinition.{MethodDefinition}
+use Rattle.clos_syntax.specs.declared.top.Top.{Top}
+use Rattle.clos_syntax.specs.declared.top.Top.TheVariants.{DefClass, DefGeneric, DefMethod, Defun, DefVar, RemoveMethod, AddDependent, RemoveDependent, InPackage, Expr}
+use Rattle.clos_definition_forms.specs.clos_definition.Method.{eql_form}
+use Rattle.clos_definition_forms.specs.clos_machine.Callee.{callee_of}
+use Rattle.clos_definition_forms.specs.clos_machine.declared.callee.Callee.{Callee}
+use Rattle.clos_definition_forms.specs.clos_machine.declared.callee.Callee.TheVariants.{Defined}
+
+-- the system's functions that the program does not call
+abbrev pub is_update : Nam → Bool
+is_update name = is_called (codes "UPDATE-INSTANCE-FOR-REDEFINED-CLASS") name || is_called (codes "UPDATE-INSTANCE-FOR-DIFFERENT-CLASS") name
+
+-- whether calls of a function are served: of those of the language some are not yet, and have no other meaning
+abbrev pub is_served_as : Callee → Nam → Bool
+is_served_as Defined name = not (is_one_of functions name) && not (is_update name)
+is_served_as _ name = true
+
+abbrev pub calls : Nam → Bool
+calls name = is_served_as (callee_of name) name
+
+-- the place of incf and decf is read by a call of its function
+abbrev pub reads : Opr → Bool
+reads (of.place (call_place name)) = calls name
+reads _ = true
+
+abbrev pub reads_first : Frms → Bool
+reads_first nil = true
+reads_first (cons f fs) = reads (operator_in f)
+
+-- whether an operator is served with these parts
+abbrev pub serves : Opr → Frms → Bool
+serves (of.call name) parts = calls name
+serves of.incf parts = reads_first parts
+serves of.decf parts = reads_first parts
+serves _ parts = true
+
+-- whether a form is served, with all that is evaluated in it
+abbrev mutual
+  pub is_served : Frm → Bool
+  is_served (form o ps) = serves o ps && are_served ps
+
+  pub are_served : Frms → Bool
+  are_served nil = true
+  are_served (cons f fs) = is_served f && are_served fs
+
+abbrev pub is_served_if_any : Option Frm → Bool
+is_served_if_any None = true
+is_served_if_any (Some f) = is_served f
+
+-- ---- top-level forms
+
+abbrev pub is_served_class : ClassDefinition → Bool
+is_served_class c = list_all (λ s. is_served_if_any s.initform) c.slots && list_all (λ i. is_served i.form) c.defaults
+
+abbrev pub is_served_optional : Optional → Bool
+is_served_optional o = is_served_if_any o.init
+
+abbrev pub are_inits_served : LambdaList → Bool
+are_inits_served l = list_all is_served_optional l.optional && list_all (λ k. is_served_optional k.variable) (entries_of l.keys)
+
+abbrev pub is_served_function : LambdaList → Frms → Bool
+is_served_function l body = are_inits_served l && are_served body
+
+abbrev pub is_served_method : MethodDefinition → Bool
+is_served_method m = list_all (λ s. is_served_if_any (eql_form s)) m.specializers && is_served_function m.lambda_list m.body
+
+-- The standard method combination alone is served.
+abbrev pub is_standard : Option CombinationUse → Bool
+is_standard None = true
+is_standard (Some c) = is_called (codes "STANDARD") c.name
+
+abbrev pub is_served_generic : GenericDefinition → Bool
+is_served_generic g = is_standard g.combination && list_all is_served_method g.methods
+
+abbrev pub is_served_top : Top → Bool
+is_served_top (DefClass c) = is_served_class c
+is_served_top (DefGeneric g) = is_served_generic g
+is_served_top (DefMethod f m) = is_served_method m
+is_served_top (Defun f) = is_served_function f.lambda_list f.body
+is_served_top (DefVar v) = is_served_if_any v.form
+is_served_top (RemoveMethod f m) = is_served f && is_served m
+is_served_top (AddDependent f d) = false
+is_served_top (RemoveDependent f d) = false
+is_served_top InPackage = true
+is_served_top (Expr f) = is_served f
+
+-- a define-method-combination, which is not served, nor checked
+abbrev pub names_combination : Dat → Bool
+names_combination (integer n) = false
+names_combination (symbol s) = is_called (codes "DEFINE-METHOD-COMBINATION") s
+names_combination (string s) = false
+names_combination (list l) = false
+names_combination (dotted l d) = false
+names_combination (method n) = false
+
+abbrev pub heads_combination : Dats → Bool
+heads_combination datum.nil = false
+heads_combination (datum.cons d l) = names_combination d
+
+abbrev pub is_combination : Dat → Bool
+is_combination (integer n) = false
+is_combination (symbol s) = false
+is_combination (string s) = false
+is_combination (list l) = heads_combination l
+is_combination (dotted l d) = false
+is_combination (method n) = false

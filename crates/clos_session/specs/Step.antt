@@ -1,0 +1,41 @@
+-- What a top-level form does (HyperSpec 3.1.2.1).
+use Rattle.std.specs.Prelude.{ℕ, min, [], Option, Some, None, if◌then◌else◌}
+use Rattle.lisp_data.specs.Datum.{Dat}
+use Rattle.lisp_data.specs.Value.{list, nil}
+use Rattle.clos_syntax.specs.Top.{top_of}
+use Rattle.clos_syntax.specs.declared.top.Top.{Top}
+use Rattle.clos_syntax.specs.declared.top.Top.TheVariants.{DefClass, DefGeneric, DefMethod, Defun, DefVar, RemoveMethod, AddDependent, RemoveDependent, InPackage, Expr}
+use Rattle.clos_definition_forms.specs.clos_world.Class.{named}
+use Rattle.clos_definition_forms.specs.clos_world.World.{State}
+use Rattle.clos_definition_forms.specs.clos_world.declared.condition.ConditionKind.TheVariants.{ProgramError, Unsupported}
+use Rattle.clos_definition_forms.specs.clos_machine.Meaning.{evaluation}
+use Rattle.clos_definition_forms.specs.clos_machine.Outcome.{Gave, Run, stopped}
+use Rattle.clos_definition_forms.specs.Definition.{define_class, define_generic, define_method, remove_method}
+use Rattle.clos_definition_forms.specs.Function.{define_function}
+use Rattle.clos_session.specs.Served.{is_combination, is_served_top}
+use Rattle.clos_definition_forms.specs.Variable.{variable_defined}
+
+-- how deep its forms may nest
+abbrev pub room_of : State → ℕ
+room_of w = min w.limits.depth 4_000
+
+abbrev pub performed : Top → Run
+performed (DefClass d) w k = define_class d (named w.classes d.name) w k
+performed (DefGeneric d) w k = define_generic d w k
+performed (DefMethod name m) w k = define_method name m w k
+performed (Defun f) w k = define_function f.name (record { lambda_list = f.lambda_list; body = f.body }) w k
+performed (DefVar d) w k = variable_defined d w k
+performed (RemoveMethod function m) w k = remove_method function m w k
+performed (AddDependent m d) w k = stopped Unsupported [] w k
+performed (RemoveDependent m d) w k = stopped Unsupported [] w k
+performed InPackage w k = Gave (list nil) w k
+performed (Expr f) w k = evaluation (room_of w) f w k
+
+-- a datum that is no form of the language is refused first
+abbrev pub checked : Option Top → Run
+checked None w k = stopped ProgramError [] w k
+checked (Some top) w k = if is_served_top top then performed top w k else stopped Unsupported [] w k
+
+-- the step of a top-level form: the value or the condition, and the state after
+abbrev pub step : Dat → Run
+step d w k = if is_combination d then stopped Unsupported [] w k else checked (top_of d) w k

@@ -1,0 +1,165 @@
+//! Sessions: the top-level forms that are submitted one after another, and what they leave.
+ghost use Rattle.std.specs.Prelude.{◌≡◌, ℕ, min, IfOk, Some};
+ghost use Rattle.lisp_data.specs.ValueView.{value_of};
+ghost use Rattle.lisp_data.specs.DatumView.{datum_of};
+ghost use Rattle.clos_definition_forms.specs.clos_world.World.{State, seen};
+ghost use Rattle.clos_definition_forms.specs.clos_machine.Outcome.{Run};
+ghost use Rattle.clos_definition_forms.specs.clos_machine.Machine.{Answers};
+ghost use Rattle.clos_session.specs.Step.{checked, performed, step};
+ghost use Rattle.clos_definition_forms.specs.clos_world.Initial.{initial};
+ghost use Rattle.clos_session.specs.Definitions.{DefinesNothing};
+ghost use Rattle.clos_session.specs.Session.{built_of, state_of, Replies};
+
+use crate::served::{is_combination, is_served_top};
+use clos_definition_forms::{
+    ConditionKind, Limits, Stop, Values, World, defclass, defgeneric, define_variable, defmethod,
+    defun, evaluate, plain, remove_method,
+};
+use clos_forms::SyntaxFault;
+use clos_syntax::{Top, parse_top};
+use lisp_data::{Datum, Items, Value};
+use std::alloc::{AllocError, Global};
+
+/// The answer to a top-level form.
+#[derive(Drop)]
+pub enum Reply {
+    Value(Value),
+    /// A condition, by its number, with what it is about.
+    Condition { number: u64, items: Values },
+    /// Memory was refused: the session stands as it was after so many steps of the form.
+    Storage { steps: u64 },
+}
+
+/// A session. It begins with the predefined classes, and each form that is submitted to it may define more.
+pub struct Session {
+    world: World,
+    alloc: Global,
+}
+
+/// By hand: to drop a session is then one call, and not one for each of its tables at each way out.
+impl Drop for Session {
+    fn drop(self) {
+        let Session { world: _, alloc: _ } = self;
+    }
+}
+
+impl Session {
+    /// A session that begins, under these limits.
+    pub fn new(alloc: Global, limits: Limits) -> Result<Session, AllocError>
+        ensures state { IfOk result (λ s. state_of s ≡ initial limits) }
+        ensures built { IfOk result (λ s. built_of s ≡ 0) }
+    {
+        let world = World::new(alloc, limits)?;
+        Ok(Session { world, alloc })
+    }
+
+    /// What the forms wrote so far.
+    pub fn written(&self) -> &[u8]
+        ensures { result.now ≡ (state_of self.now).written }
+    {
+        self.world.written.as_slice()
+    }
+
+    /// How many effective methods were worked out so far: each call of a generic function works one out (HyperSpec 7.6.6).
+    pub fn built(&self) -> u64
+        ensures { result ≡ built_of self.now }
+    {
+        self.world.meter.count()
+    }
+
+    /// The state that the forms left: their definitions, instances and variables, and what they wrote.
+    pub fn world(&self) -> &World
+        ensures { seen result.now ≡ state_of self.now }
+    {
+        &self.world
+    }
+
+    /// Performs a top-level form with so many steps, which fall by those that it takes.
+    pub fn perform(&mut self, datum: &Datum, steps: &mut u64) -> Result<Value, Stop>
+        ensures { Answers (step (datum_of datum.now)) (state_of self.old) steps.old result (state_of self.new) steps.new }
+    {
+        perform(self.alloc, &mut self.world, datum, steps)
+    }
+
+    /// Performs a top-level form (HyperSpec 3.1.2.1), and answers as its rules have it. A refused form defines nothing.
+    pub fn submit(&mut self, datum: &Datum) -> Reply
+        ensures reply { Replies (step (datum_of datum.now)) (state_of self.old).limits.steps (state_of self.old) result (state_of self.new) }
+        ensures refused { DefinesNothing result (state_of self.old) (state_of self.new) }
+    {
+        let limit = self.world.limits.steps;
+        self.submit_within(datum, limit)
+    }
+
+    /// The same with so many steps at most: the form may take the smaller of `steps` and the session's limit. Where it would
+    /// take more, the reply is the condition STEP-LIMIT, and what it did before stays done. So with the steps that a
+    /// `Reply::Storage` tells, a session in the same state comes to the state that was left there.
+    pub fn submit_within(&mut self, datum: &Datum, steps: u64) -> Reply
+        ensures reply { Replies (step (datum_of datum.now)) (min steps (state_of self.old).limits.steps) (state_of self.old) result (state_of self.new) }
+        ensures refused { DefinesNothing result (state_of self.old) (state_of self.new) }
+    {
+        let budget = steps.min(self.world.limits.steps);
+        let mut left = budget;
+        match self.perform(datum, &mut left) {
+            Ok(value) => Reply::Value(value),
+            Err(Stop::Refused(condition)) => Reply::Condition {
+                number: condition.kind.number(),
+                items: condition.items,
+            },
+            Err(Stop::Storage) => Reply::Storage {
+                steps: budget - left,
+            },
+        }
+    }
+}
+
+/// Performs a top-level form with so many steps.
+fn perform(alloc: Global, world: &mut World, datum: &Datum, steps: &mut u64) -> Result<Value, Stop>
+    ensures { Answers (step (datum_of datum.now)) (seen world.old) steps.old result (seen world.new) steps.new }
+{
+    if is_combination(datum) {
+        return Err(Stop::Refused(plain(alloc, ConditionKind::Unsupported)));
+    }
+    match parse_top(alloc, datum) {
+        Ok(top) => perform_top(alloc, world, top, steps),
+        Err(SyntaxFault::Program) => Err(Stop::Refused(plain(alloc, ConditionKind::ProgramError))),
+        Err(SyntaxFault::Memory) => Err(Stop::Storage),
+    }
+}
+
+fn perform_top(alloc: Global, world: &mut World, top: Top, steps: &mut u64) -> Result<Value, Stop>
+    ensures { Answers (checked (Some top)) (seen world.old) steps.old result (seen world.new) steps.new }
+{
+    if !is_served_top(&top) {
+        return Err(Stop::Refused(plain(alloc, ConditionKind::Unsupported)));
+    }
+    perform_served(alloc, world, top, steps)
+}
+
+fn perform_served(
+    alloc: Global,
+    world: &mut World,
+    top: Top,
+    steps: &mut u64,
+) -> Result<Value, Stop>
+    ensures { Answers (performed top) (seen world.old) steps.old result (seen world.new) steps.new }
+{
+    match top {
+        Top::DefClass(definition) => defclass(alloc, world, &definition, steps),
+        Top::DefGeneric(definition) => defgeneric(alloc, world, definition, steps),
+        Top::DefMethod(name, definition) => defmethod(alloc, world, name, definition, steps),
+        Top::Defun(function) => defun(alloc, world, function, steps),
+        Top::DefVar(variable) => define_variable(alloc, world, variable, steps),
+        Top::RemoveMethod(function, method) => {
+            remove_method(alloc, world, function, method, steps)
+        }
+        Top::AddDependent(_, _) => { Err(Stop::Refused(plain(alloc, ConditionKind::Unsupported))) }
+        Top::RemoveDependent(_, _) => {
+            Err(Stop::Refused(plain(alloc, ConditionKind::Unsupported)))
+        }
+        Top::InPackage => Ok(Value::List(Items::new())),
+        Top::Expr(form) => {
+            let room = world.limits.depth.min(4_000);
+            evaluate(alloc, world, form, room, steps)
+        }
+    }
+}

@@ -1,0 +1,7 @@
+//! Tests of the program: what no clause says of its words, texts and statuses.
+#![tactic(auto)]
+
+#[cfg(test)]
+mod command_line;
+#[cfg(test)]
+mod program;
