@@ -24,7 +24,6 @@ pub enum Place {
 }
 
 /// What a form does with its parts (HyperSpec 3.1.2.1).
-#[derive(Drop)]
 pub enum Operator {
     /// A self-evaluating object, or what a `quote` form quotes. No parts (HyperSpec 3.1.2.1.3, 3.8 `quote`).
     Constant(Value),
@@ -79,4 +78,41 @@ pub enum Operator {
     /// A call of a method with its next methods, of which only effective forms are made: the forms of those that are made
     /// (HyperSpec 7.6.6.2, 7.7 `call-method`).
     CallMethod(CalledMethod, NextMethods),
+}
+
+// Of its own, so that whoever owns an operator drops it by one call.
+impl Drop for Operator {
+    fn drop(self) {
+        match self {
+            Operator::Constant(value) => drop(value),
+            Operator::Variable(name) => drop(name),
+            Operator::Function(name) => drop(name),
+            Operator::Let(bindings) => drop(bindings),
+            Operator::LetInOrder(bindings) => drop(bindings),
+            Operator::Setq(names) => drop(names),
+            Operator::Place(place) => drop(place),
+            Operator::Dotimes(name, _) => drop(name),
+            Operator::WithSlots(bindings) => drop(bindings),
+            Operator::Call(name) => drop(name),
+            Operator::CallMethod(method, next) => {
+                drop(method);
+                drop(next);
+            }
+            Operator::NoValue => (),
+            Operator::If => (),
+            Operator::Cond => (),
+            Operator::Clause => (),
+            Operator::When => (),
+            Operator::Unless => (),
+            Operator::And => (),
+            Operator::Or => (),
+            Operator::Progn => (),
+            Operator::Prog1 => (),
+            Operator::Setf => (),
+            Operator::Incf => (),
+            Operator::Decf => (),
+            Operator::CallNextMethod => (),
+            Operator::NextMethodP => (),
+        }
+    }
 }

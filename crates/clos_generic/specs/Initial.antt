@@ -44,6 +44,11 @@ system_options f = standard_options (system_shape f)
 abbrev pub with_system : SystemFunction → Table → Table
 with_system f t = with_method (length t.functions) (system_method f) (with_made (system_generic f).name (system_options f) t)
 
+-- with these, one after another
+abbrev pub with_systems : List SystemFunction → Table → Table
+with_systems [] t = t
+with_systems (f ∷ fs) t = with_systems fs (with_system f t)
+
 -- room for so many functions and methods besides
 abbrev pub initial : ℕ → ℕ → Table
 initial functions methods = record {

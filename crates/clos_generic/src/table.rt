@@ -3,9 +3,10 @@ ghost use Rattle.std.specs.Prelude.{◌≡◌, ◌==◌, ◌<◌, ◌+◌, ◌-�
 ghost use Rattle.std.specs.List.{list_any};
 ghost use Rattle.clos_forms.specs.declared.operator.FunctionName.TheVariants.{Symbol, Setf};
 ghost use Rattle.clos_generic.specs.Changes.{changes_refusal, released, reserved};
+ghost use Rattle.clos_generic_core.specs.System.{system_functions};
 ghost use Rattle.clos_generic.specs.Fault.{addition_refusal, all_fit, definition_refusal, is_system, refusal_at, removal_refusal, system_count, takes_in};
 ghost use Rattle.clos_generic.specs.FaultView.{Refuses, Tells};
-ghost use Rattle.clos_generic.specs.Initial.{empty, initial, with_system};
+ghost use Rattle.clos_generic.specs.Initial.{empty, initial, with_system, with_systems};
 ghost use Rattle.clos_generic.specs.Table.{find_method, is_first, methods_named, methods_of, named, number, same_function, with_definition, with_method, without_method};
 ghost use Rattle.clos_generic.specs.TableView.{function_of, with_made, with_redefined};
 
@@ -71,15 +72,7 @@ impl Generics {
         ensures { IfOk result (λ r. r ≡ initial functions methods) }
     {
         let mut generics = Generics::empty(alloc, functions, methods);
-        generics.push_system(alloc, SystemFunction::InitializeInstance)?;
-        generics.push_system(alloc, SystemFunction::ReinitializeInstance)?;
-        generics.push_system(alloc, SystemFunction::SharedInitialize)?;
-        generics.push_system(alloc, SystemFunction::UpdateInstanceForRedefinedClass)?;
-        generics.push_system(alloc, SystemFunction::UpdateInstanceForDifferentClass)?;
-        generics.push_system(alloc, SystemFunction::SlotUnbound)?;
-        generics.push_system(alloc, SystemFunction::SlotMissing)?;
-        generics.push_system(alloc, SystemFunction::NoApplicableMethod)?;
-        generics.push_system(alloc, SystemFunction::NoNextMethod)?;
+        generics.push_all_of_system(alloc)?;
         Ok(generics)
     }
 
@@ -176,6 +169,21 @@ impl Generics {
             spares: VecDeque::new(alloc),
             additions: VecDeque::new(alloc),
         }
+    }
+
+    /// The functions of the system, each with its method.
+    fn push_all_of_system(&mut self, alloc: Global) -> Result<(), AllocError>
+        ensures { OnOk result (self.new ≡ with_systems system_functions self.old) }
+    {
+        self.push_system(alloc, SystemFunction::InitializeInstance)?;
+        self.push_system(alloc, SystemFunction::ReinitializeInstance)?;
+        self.push_system(alloc, SystemFunction::SharedInitialize)?;
+        self.push_system(alloc, SystemFunction::UpdateInstanceForRedefinedClass)?;
+        self.push_system(alloc, SystemFunction::UpdateInstanceForDifferentClass)?;
+        self.push_system(alloc, SystemFunction::SlotUnbound)?;
+        self.push_system(alloc, SystemFunction::SlotMissing)?;
+        self.push_system(alloc, SystemFunction::NoApplicableMethod)?;
+        self.push_system(alloc, SystemFunction::NoNextMethod)
     }
 
     /// A function of the system, with its method.

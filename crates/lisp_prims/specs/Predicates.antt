@@ -7,7 +7,11 @@ use Rattle.lisp_data.specs.Value.{Val, integer, symbol, string, list, nil, cons}
 use Rattle.lisp_prims.specs.Arguments.{any, integer_of, one_of, two_of}
 use Rattle.lisp_prims.specs.Fault.{Condition, unsupported, given}
 use Rattle.lisp_prims.specs.declared.predicates.Predicate.{Predicate}
-use Rattle.lisp_prims.specs.declared.predicates.Predicate.TheVariants.{Null, Atom, Consp, Listp, Symbolp, Integerp, Stringp, Zerop, Plusp, Minusp, Evenp, Oddp, Eql, Equal}
+use Rattle.lisp_prims.specs.declared.predicates.Predicate.TheVariants.{Value, Integer, Eql, Equal}
+use Rattle.lisp_prims.specs.declared.predicates.ValueTest.{ValueTest}
+use Rattle.lisp_prims.specs.declared.predicates.ValueTest.TheVariants.{Null, Atom, Consp, Listp, Symbolp, Integerp, Stringp}
+use Rattle.lisp_prims.specs.declared.predicates.IntegerTest.{IntegerTest}
+use Rattle.lisp_prims.specs.declared.predicates.IntegerTest.TheVariants.{Zerop, Plusp, Minusp, Evenp, Oddp}
 
 abbrev pub is_nil : Val → Bool
 is_nil (list nil) = true
@@ -49,19 +53,26 @@ of_integer test args = given (one_of integer_of args) (λ n. Ok (test n))
 abbrev pub eql_of : Val × Val → Result Bool Condition
 eql_of p = if is_by_object p.0 p.1 then Err unsupported else Ok (same_value p.0 p.1)
 
--- the functions that test values of any type, and integers
+-- ---- the functions
+
+abbrev pub holds_of : ValueTest → Val → Bool
+holds_of Null v = is_nil v
+holds_of Atom v = not (is_cons v)
+holds_of Consp v = is_cons v
+holds_of Listp v = is_list v
+holds_of Symbolp v = is_symbol v
+holds_of Integerp v = is_integer v
+holds_of Stringp v = is_string v
+
+abbrev pub holds_of_integer : IntegerTest → ℤ → Bool
+holds_of_integer Zerop n = int_eq n (pos 0)
+holds_of_integer Plusp n = int_lt (pos 0) n
+holds_of_integer Minusp n = int_lt n (pos 0)
+holds_of_integer Evenp n = is_even n
+holds_of_integer Oddp n = not (is_even n)
+
 abbrev pub truth_of : Predicate → List Val → Result Bool Condition
-truth_of Null args = of_value is_nil args
-truth_of Atom args = of_value (λ v. not (is_cons v)) args
-truth_of Consp args = of_value is_cons args
-truth_of Listp args = of_value is_list args
-truth_of Symbolp args = of_value is_symbol args
-truth_of Integerp args = of_value is_integer args
-truth_of Stringp args = of_value is_string args
-truth_of Zerop args = of_integer (λ n. int_eq n (pos 0)) args
-truth_of Plusp args = of_integer (λ n. int_lt (pos 0) n) args
-truth_of Minusp args = of_integer (λ n. int_lt n (pos 0)) args
-truth_of Evenp args = of_integer is_even args
-truth_of Oddp args = of_integer (λ n. not (is_even n)) args
+truth_of (Value t) args = of_value (holds_of t) args
+truth_of (Integer t) args = of_integer (holds_of_integer t) args
 truth_of Eql args = given (two_of any any args) eql_of
 truth_of Equal args = given (two_of any any args) (λ p. Ok (same_value p.0 p.1))

@@ -13,7 +13,9 @@ use Rattle.lisp_prims.specs.declared.primitive.Primitive.{Primitive}
 use Rattle.lisp_prims.specs.declared.primitive.Primitive.TheVariants.{Number, Order, Test, Length, Listed}
 use Rattle.lisp_prims.specs.declared.arithmetic.Arithmetic.TheVariants.{Sum, Product, Difference, Greatest, Least, Increment, Decrement, Absolute, Floor, Truncate, Modulus, Remainder}
 use Rattle.lisp_prims.specs.declared.comparison.Comparison.TheVariants.{Same, Less, Greater, AtMost, AtLeast}
-use Rattle.lisp_prims.specs.declared.predicates.Predicate.TheVariants.{Null, Atom, Consp, Listp, Symbolp, Integerp, Stringp, Zerop, Plusp, Minusp, Evenp, Oddp, Eql, Equal}
+use Rattle.lisp_prims.specs.declared.predicates.Predicate.TheVariants.{Value, Integer, Eql, Equal}
+use Rattle.lisp_prims.specs.declared.predicates.ValueTest.TheVariants.{Null, Atom, Consp, Listp, Symbolp, Integerp, Stringp}
+use Rattle.lisp_prims.specs.declared.predicates.IntegerTest.TheVariants.{Zerop, Plusp, Minusp, Evenp, Oddp}
 use Rattle.lisp_prims.specs.declared.lists.ListFunction.TheVariants.{Car, Cdr, Second, Third, Nth, Cons, List as Listing, ListStar, Append, Reverse}
 
 -- true is the symbol T, false is NIL
@@ -51,11 +53,11 @@ names =
     ∷ entry (codes "1+") (Number Increment)
     ∷ entry (codes "1-") (Number Decrement)
     ∷ entry (codes "ABS") (Number Absolute)
-    ∷ entry (codes "ZEROP") (Test Zerop)
-    ∷ entry (codes "PLUSP") (Test Plusp)
-    ∷ entry (codes "MINUSP") (Test Minusp)
-    ∷ entry (codes "EVENP") (Test Evenp)
-    ∷ entry (codes "ODDP") (Test Oddp)
+    ∷ entry (codes "ZEROP") (Test (Integer Zerop))
+    ∷ entry (codes "PLUSP") (Test (Integer Plusp))
+    ∷ entry (codes "MINUSP") (Test (Integer Minusp))
+    ∷ entry (codes "EVENP") (Test (Integer Evenp))
+    ∷ entry (codes "ODDP") (Test (Integer Oddp))
     ∷ entry (codes "FLOOR") (Number Floor)
     ∷ entry (codes "TRUNCATE") (Number Truncate)
     ∷ entry (codes "MOD") (Number Modulus)
@@ -65,17 +67,17 @@ names =
     ∷ entry (codes ">") (Order Greater)
     ∷ entry (codes "<=") (Order AtMost)
     ∷ entry (codes ">=") (Order AtLeast)
-    ∷ entry (codes "NOT") (Test Null)
-    ∷ entry (codes "NULL") (Test Null)
+    ∷ entry (codes "NOT") (Test (Value Null))
+    ∷ entry (codes "NULL") (Test (Value Null))
     ∷ entry (codes "EQ") (Test Eql)
     ∷ entry (codes "EQL") (Test Eql)
     ∷ entry (codes "EQUAL") (Test Equal)
-    ∷ entry (codes "ATOM") (Test Atom)
-    ∷ entry (codes "CONSP") (Test Consp)
-    ∷ entry (codes "LISTP") (Test Listp)
-    ∷ entry (codes "SYMBOLP") (Test Symbolp)
-    ∷ entry (codes "INTEGERP") (Test Integerp)
-    ∷ entry (codes "STRINGP") (Test Stringp)
+    ∷ entry (codes "ATOM") (Test (Value Atom))
+    ∷ entry (codes "CONSP") (Test (Value Consp))
+    ∷ entry (codes "LISTP") (Test (Value Listp))
+    ∷ entry (codes "SYMBOLP") (Test (Value Symbolp))
+    ∷ entry (codes "INTEGERP") (Test (Value Integerp))
+    ∷ entry (codes "STRINGP") (Test (Value Stringp))
     ∷ entry (codes "CAR") (Listed Car)
     ∷ entry (codes "CDR") (Listed Cdr)
     ∷ entry (codes "FIRST") (Listed Car)

@@ -2,16 +2,16 @@
 ghost use Rattle.std.specs.Prelude.{◌≡◌, map};
 ghost use Rattle.lisp_data.specs.ValueView.{value_of};
 ghost use Rattle.lisp_prims.specs.Fault.{Answers};
-ghost use Rattle.lisp_prims.specs.Predicates.{eql_of, is_cons, is_even, is_nil, is_symbol, truth_of};
+ghost use Rattle.lisp_prims.specs.Predicates.{eql_of, holds_of, holds_of_integer, is_cons, is_even, is_nil, is_symbol, truth_of};
 
 use crate::arguments::{one, one_integer, two};
 use crate::fault::PrimFault;
 use crate::width::Integer;
 use lisp_data::{Value, eql, equal};
 
-/// The functions that test values.
+/// The functions that test one value of any type.
 #[derive(Clone, Copy, Debug, Drop, PartialEq, Eq)]
-pub enum Predicate {
+pub enum ValueTest {
     Null,
     Atom,
     Consp,
@@ -19,12 +19,28 @@ pub enum Predicate {
     Symbolp,
     Integerp,
     Stringp,
+}
+
+/// The functions that test one integer.
+#[derive(Clone, Copy, Debug, Drop, PartialEq, Eq)]
+pub enum IntegerTest {
     Zerop,
     Plusp,
     Minusp,
     Evenp,
     Oddp,
+}
+
+/// The functions that test values.
+#[derive(Clone, Copy, Debug, Drop, PartialEq, Eq)]
+pub enum Predicate {
+    /// It tests one value.
+    Value(ValueTest),
+    /// It tests one integer.
+    Integer(IntegerTest),
+    /// Whether two values are one object.
     Eql,
+    /// Whether two values are alike.
     Equal,
 }
 
@@ -34,18 +50,14 @@ impl Predicate {
         ensures { Answers result (truth_of self (map value_of args.now)) }
     {
         match self {
-            Predicate::Null => Ok(is_nil(one(args)?)),
-            Predicate::Atom => Ok(!is_cons(one(args)?)),
-            Predicate::Consp => Ok(is_cons(one(args)?)),
-            Predicate::Listp => Ok(matches!(one(args)?, Value::List(_))),
-            Predicate::Symbolp => Ok(is_symbol(one(args)?)),
-            Predicate::Integerp => Ok(matches!(one(args)?, Value::Int(_))),
-            Predicate::Stringp => Ok(matches!(one(args)?, Value::Str(_))),
-            Predicate::Zerop => Ok(one_integer(args)? == 0),
-            Predicate::Plusp => Ok(one_integer(args)? > 0),
-            Predicate::Minusp => Ok(one_integer(args)? < 0),
-            Predicate::Evenp => Ok(is_even(one_integer(args)?)),
-            Predicate::Oddp => Ok(!is_even(one_integer(args)?)),
+            Predicate::Value(test) => {
+                let value = one(args)?;
+                Ok(test.holds_of(value))
+            }
+            Predicate::Integer(test) => {
+                let number = one_integer(args)?;
+                Ok(test.holds_of(number))
+            }
             Predicate::Eql => {
                 let (left, right) = two(args)?;
                 same_object(left, right)
@@ -54,6 +66,36 @@ impl Predicate {
                 let (left, right) = two(args)?;
                 Ok(left == right)
             }
+        }
+    }
+}
+
+impl ValueTest {
+    fn holds_of(self, value: &Value) -> bool
+        ensures { result ≡ holds_of self (value_of value.now) }
+    {
+        match self {
+            ValueTest::Null => is_nil(value),
+            ValueTest::Atom => !is_cons(value),
+            ValueTest::Consp => is_cons(value),
+            ValueTest::Listp => matches!(value, Value::List(_)),
+            ValueTest::Symbolp => is_symbol(value),
+            ValueTest::Integerp => matches!(value, Value::Int(_)),
+            ValueTest::Stringp => matches!(value, Value::Str(_)),
+        }
+    }
+}
+
+impl IntegerTest {
+    fn holds_of(self, number: Integer) -> bool
+        ensures { result ≡ holds_of_integer self number }
+    {
+        match self {
+            IntegerTest::Zerop => number == 0,
+            IntegerTest::Plusp => number > 0,
+            IntegerTest::Minusp => number < 0,
+            IntegerTest::Evenp => is_even(number),
+            IntegerTest::Oddp => !is_even(number),
         }
     }
 }

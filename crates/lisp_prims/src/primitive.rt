@@ -8,7 +8,7 @@ use crate::arithmetic::Arithmetic;
 use crate::comparison::Comparison;
 use crate::fault::PrimFault;
 use crate::lists::{ListFunction, length};
-use crate::predicates::Predicate;
+use crate::predicates::{IntegerTest, Predicate, ValueTest};
 use lisp_data::{Items, Name, Value};
 use std::alloc::Global;
 
@@ -37,11 +37,26 @@ const NAMES: [(&str, Primitive); 47] = [
     ("1+", Primitive::Number(Arithmetic::Increment)),
     ("1-", Primitive::Number(Arithmetic::Decrement)),
     ("ABS", Primitive::Number(Arithmetic::Absolute)),
-    ("ZEROP", Primitive::Test(Predicate::Zerop)),
-    ("PLUSP", Primitive::Test(Predicate::Plusp)),
-    ("MINUSP", Primitive::Test(Predicate::Minusp)),
-    ("EVENP", Primitive::Test(Predicate::Evenp)),
-    ("ODDP", Primitive::Test(Predicate::Oddp)),
+    (
+        "ZEROP",
+        Primitive::Test(Predicate::Integer(IntegerTest::Zerop)),
+    ),
+    (
+        "PLUSP",
+        Primitive::Test(Predicate::Integer(IntegerTest::Plusp)),
+    ),
+    (
+        "MINUSP",
+        Primitive::Test(Predicate::Integer(IntegerTest::Minusp)),
+    ),
+    (
+        "EVENP",
+        Primitive::Test(Predicate::Integer(IntegerTest::Evenp)),
+    ),
+    (
+        "ODDP",
+        Primitive::Test(Predicate::Integer(IntegerTest::Oddp)),
+    ),
     ("FLOOR", Primitive::Number(Arithmetic::Floor)),
     ("TRUNCATE", Primitive::Number(Arithmetic::Truncate)),
     ("MOD", Primitive::Number(Arithmetic::Modulus)),
@@ -51,17 +66,26 @@ const NAMES: [(&str, Primitive); 47] = [
     (">", Primitive::Order(Comparison::Greater)),
     ("<=", Primitive::Order(Comparison::AtMost)),
     (">=", Primitive::Order(Comparison::AtLeast)),
-    ("NOT", Primitive::Test(Predicate::Null)),
-    ("NULL", Primitive::Test(Predicate::Null)),
+    ("NOT", Primitive::Test(Predicate::Value(ValueTest::Null))),
+    ("NULL", Primitive::Test(Predicate::Value(ValueTest::Null))),
     ("EQ", Primitive::Test(Predicate::Eql)),
     ("EQL", Primitive::Test(Predicate::Eql)),
     ("EQUAL", Primitive::Test(Predicate::Equal)),
-    ("ATOM", Primitive::Test(Predicate::Atom)),
-    ("CONSP", Primitive::Test(Predicate::Consp)),
-    ("LISTP", Primitive::Test(Predicate::Listp)),
-    ("SYMBOLP", Primitive::Test(Predicate::Symbolp)),
-    ("INTEGERP", Primitive::Test(Predicate::Integerp)),
-    ("STRINGP", Primitive::Test(Predicate::Stringp)),
+    ("ATOM", Primitive::Test(Predicate::Value(ValueTest::Atom))),
+    ("CONSP", Primitive::Test(Predicate::Value(ValueTest::Consp))),
+    ("LISTP", Primitive::Test(Predicate::Value(ValueTest::Listp))),
+    (
+        "SYMBOLP",
+        Primitive::Test(Predicate::Value(ValueTest::Symbolp)),
+    ),
+    (
+        "INTEGERP",
+        Primitive::Test(Predicate::Value(ValueTest::Integerp)),
+    ),
+    (
+        "STRINGP",
+        Primitive::Test(Predicate::Value(ValueTest::Stringp)),
+    ),
     ("CAR", Primitive::Listed(ListFunction::Car)),
     ("CDR", Primitive::Listed(ListFunction::Cdr)),
     ("FIRST", Primitive::Listed(ListFunction::Car)),
