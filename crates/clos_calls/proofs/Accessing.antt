@@ -11,18 +11,18 @@ use Rattle.clos_lambda.specs.declared.lambda_list.LambdaList.{LambdaList}
 use Rattle.clos_machine.specs.clos_world.clos_store.Store.{slot_found}
 use Rattle.clos_machine.specs.clos_world.World.{State}
 use Rattle.clos_machine.specs.clos_world.declared.condition.Condition.{Condition}
-use Rattle.clos_machine.specs.Accessors.{read_by, read_of, written_by, written_of}
+use Rattle.clos_machine.specs.clos_meaning.Accessors.{read_by, read_of, written_by, written_of}
 use Rattle.clos_machine.specs.clos_world.declared.condition.ConditionKind.TheVariants.{ProgramError}
 use Rattle.clos_machine.specs.clos_world.declared.condition.Stop.{Stop}
-use Rattle.clos_machine.specs.Bodies.{body_run}
-use Rattle.clos_machine.specs.Calls.{keys_are_even, method_body_run}
+use Rattle.clos_machine.specs.clos_meaning.Bodies.{body_run}
+use Rattle.clos_machine.specs.clos_meaning.Calls.{keys_are_even, method_body_run}
 use Rattle.clos_machine.specs.Machine.{Leads, at, inside, resume}
-use Rattle.clos_machine.specs.Meaning.{closed, meaning}
-use Rattle.clos_machine.specs.Outcome.{Eval, Run, stopped}
-use Rattle.clos_machine.specs.Parameters.{sources}
-use Rattle.clos_machine.specs.Slots.{instance_in, slot_changed, slot_read}
-use Rattle.clos_machine.specs.SystemMethods.{system_method_run}
-use Rattle.clos_machine.specs.declared.arguments.Context.{Context}
+use Rattle.clos_machine.specs.clos_meaning.Meaning.{closed, meaning}
+use Rattle.clos_machine.specs.clos_meaning.Outcome.{Eval, Run, stopped}
+use Rattle.clos_machine.specs.clos_meaning.Parameters.{sources}
+use Rattle.clos_machine.specs.clos_meaning.Slots.{instance_in, slot_changed, slot_read}
+use Rattle.clos_machine.specs.clos_meaning.SystemMethods.{system_method_run}
+use Rattle.clos_machine.specs.clos_meaning.declared.arguments.Context.{Context}
 use Rattle.clos_machine.specs.declared.machine.Action.TheVariants.{Write}
 use Rattle.clos_machine.specs.declared.machine.Doing.{Doing}
 use Rattle.clos_machine.specs.declared.machine.Doing.TheVariants.{Act}

@@ -13,12 +13,12 @@ use Rattle.clos_machine.specs.clos_world.declared.condition.Condition.{Condition
 use Rattle.clos_machine.specs.clos_world.declared.condition.ConditionKind.TheVariants.{InvalidMethod, ProgramError}
 use Rattle.clos_machine.specs.clos_world.declared.condition.Stop.{Stop}
 use Rattle.clos_machine.specs.clos_world.declared.condition.Stop.TheVariants.{Refused, Storage}
-use Rattle.clos_machine.specs.GenericCalls.{after_positional, called_generic, combined_run, keywords_fit, matched, matched_or, unmatched, unmatched_by}
-use Rattle.clos_machine.specs.Contexts.{in_call}
+use Rattle.clos_machine.specs.clos_meaning.GenericCalls.{after_positional, called_generic, combined_run, keywords_fit, matched, matched_or, unmatched, unmatched_by}
+use Rattle.clos_machine.specs.clos_meaning.Contexts.{in_call}
 use Rattle.clos_machine.specs.Machine.{Leads, at, inside, resume}
-use Rattle.clos_machine.specs.Meaning.{closed}
-use Rattle.clos_machine.specs.Outcome.{Eval, Run, Stopped, stopped}
-use Rattle.clos_machine.specs.declared.arguments.Context.{Context}
+use Rattle.clos_machine.specs.clos_meaning.Meaning.{closed}
+use Rattle.clos_machine.specs.clos_meaning.Outcome.{Eval, Run, Stopped, stopped}
+use Rattle.clos_machine.specs.clos_meaning.declared.arguments.Context.{Context}
 use Rattle.clos_machine.specs.declared.machine.Doing.{Doing}
 use Rattle.clos_machine.specs.declared.machine.Machine.{Machine}
 use Rattle.clos_machine.proofs.Turns.{leads_same, stopped_through}

@@ -13,15 +13,15 @@ use Rattle.clos_machine.specs.clos_world.declared.condition.Condition.{Condition
 use Rattle.clos_machine.specs.clos_world.declared.condition.ConditionKind.TheVariants.{NextArguments, ProgramError}
 use Rattle.clos_machine.specs.clos_world.declared.condition.Stop.{Stop}
 use Rattle.clos_machine.specs.clos_world.declared.condition.Stop.TheVariants.{Refused, Storage}
-use Rattle.clos_machine.specs.Calls.{made_run, method_called, method_run}
-use Rattle.clos_machine.specs.Contexts.{running, with_arguments}
-use Rattle.clos_machine.specs.Dispatch.{Dispatch}
-use Rattle.clos_machine.specs.Machine.{Leads, at, inside, resume}
-use Rattle.clos_machine.specs.Meaning.{acted, closed, collect, meaning, next_method}
-use Rattle.clos_machine.specs.NextMethods.{next_by, next_called, next_given, next_in, next_run, none_next}
-use Rattle.clos_machine.specs.Outcome.{Eval, Out, Run, Stopped, stopped}
-use Rattle.clos_machine.specs.declared.arguments.Context.{Context}
-use Rattle.clos_machine.specs.declared.arguments.Running.{Running}
+use Rattle.clos_machine.specs.clos_meaning.Calls.{made_run, method_called, method_run}
+use Rattle.clos_machine.specs.clos_meaning.Contexts.{running, with_arguments}
+use Rattle.clos_machine.specs.clos_meaning.Dispatch.{Dispatch}
+use Rattle.clos_machine.specs.Machine.{Leads, at, inside, resume, acted}
+use Rattle.clos_machine.specs.clos_meaning.Meaning.{closed, collect, meaning, next_method}
+use Rattle.clos_machine.specs.clos_meaning.NextMethods.{next_by, next_called, next_given, next_in, next_run, none_next}
+use Rattle.clos_machine.specs.clos_meaning.Outcome.{Eval, Out, Run, Stopped, stopped}
+use Rattle.clos_machine.specs.clos_meaning.declared.arguments.Context.{Context}
+use Rattle.clos_machine.specs.clos_meaning.declared.arguments.Running.{Running}
 use Rattle.clos_machine.specs.declared.machine.Action.TheVariants.{CallNext}
 use Rattle.clos_machine.specs.declared.machine.Doing.{Doing}
 use Rattle.clos_machine.specs.declared.machine.Machine.{Machine}

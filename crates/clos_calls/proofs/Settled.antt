@@ -15,14 +15,14 @@ use Rattle.clos_machine.specs.clos_world.declared.condition.Condition.{Condition
 use Rattle.clos_machine.specs.clos_world.declared.condition.ConditionKind.TheVariants.{Unsupported}
 use Rattle.clos_machine.specs.clos_world.declared.condition.Stop.{Stop}
 use Rattle.clos_machine.specs.clos_world.declared.condition.Stop.TheVariants.{Refused, Storage}
-use Rattle.clos_machine.specs.Bodies.{body_run, parameters_run, restoring, scoped}
-use Rattle.clos_machine.specs.Control.{sequence}
+use Rattle.clos_machine.specs.clos_meaning.Bodies.{body_run, parameters_run, restoring, scoped}
+use Rattle.clos_machine.specs.clos_meaning.Control.{sequence}
 use Rattle.clos_machine.specs.Machine.{Binds, Leads, Settles, at, given_to, inside, resume, settled, under}
-use Rattle.clos_machine.specs.Meaning.{closed, meaning}
-use Rattle.clos_machine.specs.Outcome.{Out, Gave, Stopped, Run, Eval, then_do, stopped}
-use Rattle.clos_machine.specs.Parameters.{Sources, argument, refused, init, is_empty, key_sources, optional_sources, required_sources, requires_only, rest_sources, sources}
-use Rattle.clos_machine.specs.Variables.{inner}
-use Rattle.clos_machine.specs.declared.arguments.Context.{Context}
+use Rattle.clos_machine.specs.clos_meaning.Meaning.{closed, meaning}
+use Rattle.clos_machine.specs.clos_meaning.Outcome.{Out, Gave, Stopped, Run, Eval, then_do, stopped}
+use Rattle.clos_machine.specs.clos_meaning.Parameters.{Sources, argument, refused, init, is_empty, key_sources, optional_sources, required_sources, requires_only, rest_sources, sources}
+use Rattle.clos_machine.specs.clos_meaning.Variables.{inner}
+use Rattle.clos_machine.specs.clos_meaning.declared.arguments.Context.{Context}
 use Rattle.clos_machine.specs.declared.machine.Doing.{Doing}
 use Rattle.clos_machine.specs.declared.machine.Frame.TheVariants.{Bind}
 use Rattle.clos_machine.specs.declared.machine.Level.{Level}

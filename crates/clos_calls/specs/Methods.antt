@@ -3,11 +3,11 @@ use Rattle.std.specs.Prelude.{[], if◌then◌else◌}
 use Rattle.clos_forms.specs.Form.{Frms}
 use Rattle.clos_lambda.specs.declared.lambda_list.LambdaList.{LambdaList}
 use Rattle.clos_machine.specs.clos_world.declared.condition.ConditionKind.TheVariants.{ProgramError}
-use Rattle.clos_machine.specs.Bodies.{body_run}
-use Rattle.clos_machine.specs.Calls.{keys_are_even}
-use Rattle.clos_machine.specs.Outcome.{Run, Eval, stopped}
-use Rattle.clos_machine.specs.Parameters.{sources}
-use Rattle.clos_machine.specs.declared.arguments.Context.{Context}
+use Rattle.clos_machine.specs.clos_meaning.Bodies.{body_run}
+use Rattle.clos_machine.specs.clos_meaning.Calls.{keys_are_even}
+use Rattle.clos_machine.specs.clos_meaning.Outcome.{Run, Eval, stopped}
+use Rattle.clos_machine.specs.clos_meaning.Parameters.{sources}
+use Rattle.clos_machine.specs.clos_meaning.declared.arguments.Context.{Context}
 
 -- the forms of a method, with the parameters of this lambda list
 abbrev pub forms_run : Eval → Context → LambdaList → Frms → Run

@@ -8,8 +8,8 @@ use Rattle.clos_machine.specs.clos_world.declared.condition.Condition.{Condition
 use Rattle.clos_machine.specs.clos_world.declared.condition.ConditionKind.TheVariants.{NextArguments, ProgramError}
 use Rattle.clos_machine.specs.clos_world.declared.condition.Stop.{Stop}
 use Rattle.clos_machine.specs.clos_world.declared.condition.Stop.TheVariants.{Refused, Storage}
-use Rattle.clos_machine.specs.Dispatch.{Dispatch}
-use Rattle.clos_machine.specs.declared.arguments.Running.{Running}
+use Rattle.clos_machine.specs.clos_meaning.Dispatch.{Dispatch}
+use Rattle.clos_machine.specs.clos_meaning.declared.arguments.Running.{Running}
 use Rattle.clos_calls.specs.GenericCalls.{takes_in}
 
 abbrev wrong : Option Condition

@@ -3,23 +3,22 @@ ghost use Rattle.std.specs.Prelude.{◌≡◌, ℕ, map};
 ghost use Rattle.lisp_data.specs.Value.{list, nil};
 ghost use Rattle.lisp_data.specs.ValueView.{value_of};
 ghost use Rattle.clos_machine.specs.clos_world.World.{State, seen, bound_as};
-ghost use Rattle.clos_machine.specs.Bodies.{restoring, scoped, parameters_run, body_run};
-ghost use Rattle.clos_machine.specs.Control.{sequence};
+ghost use Rattle.clos_machine.specs.clos_meaning.Bodies.{restoring, scoped, parameters_run, body_run};
+ghost use Rattle.clos_machine.specs.clos_meaning.Control.{sequence};
 ghost use Rattle.clos_machine.specs.Machine.{Leads, Grows, at, inside, given_to, under};
-ghost use Rattle.clos_machine.specs.Meaning.{meaning};
-ghost use Rattle.clos_machine.specs.Outcome.{Run, then_do};
-ghost use Rattle.clos_machine.specs.Parameters.{required_sources, sources};
+ghost use Rattle.clos_machine.specs.clos_meaning.Meaning.{meaning};
+ghost use Rattle.clos_machine.specs.clos_meaning.Outcome.{Run, then_do};
+ghost use Rattle.clos_machine.specs.clos_meaning.Parameters.{required_sources, sources};
 ghost use Rattle.clos_machine.specs.declared.machine.Frame.TheVariants.{Bind, Body};
 
 use clos_forms::{Form, Forms};
 use clos_lambda::LambdaList;
-use clos_machine::arguments::Context;
 use clos_machine::locals::{Locals, bind, settle};
 use clos_machine::machine::{Doing, Frame, Level, Machine};
 use clos_machine::moves::{done, split};
 use clos_machine::parameters::{ParameterPlan, plan_for, requires_only};
 use clos_machine::truth::nil;
-use clos_machine::{ConditionKind, Stop, World, plain};
+use clos_machine::{ConditionKind, Context, Stop, World, plain};
 use lisp_data::{Name, Value};
 use std::alloc::{AllocError, Global};
 use std::mem;
@@ -146,7 +145,11 @@ fn run_scoped(
 }
 
 /// The machine's context and variables are now these; the others come back.
-fn enter(machine: &mut Machine, context: Context, locals: Locals) -> (Context, Locals)
+pub(crate) fn enter(
+    machine: &mut Machine,
+    context: Context,
+    locals: Locals,
+) -> (Context, Locals)
     ensures left { (result.0 ≡ machine.old.context) × (result.1 ≡ machine.old.locals) }
     ensures entered { machine.new ≡ record machine.old { context = context; locals = locals } }
 {

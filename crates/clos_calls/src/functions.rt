@@ -9,24 +9,24 @@ ghost use Rattle.clos_machine.specs.clos_world.clos_generic.Table.{named};
 ghost use Rattle.clos_machine.specs.clos_world.FunctionName.{setter_value};
 ghost use Rattle.clos_machine.specs.clos_world.Functions.{function_in};
 ghost use Rattle.clos_machine.specs.clos_world.World.{State, seen};
-ghost use Rattle.clos_machine.specs.Calls.{applied_to, called_defined, called_function, called_setter};
-ghost use Rattle.clos_machine.specs.Fault.{answered};
-ghost use Rattle.clos_machine.specs.Functions.{place_set};
-ghost use Rattle.clos_machine.specs.Machine.{Leads, Grows, at, inside, lift};
-ghost use Rattle.clos_machine.specs.Meaning.{meaning, alone, acted, collect, collected, function_value, is_plain_function, other_function};
-ghost use Rattle.clos_machine.specs.Outcome.{Run};
+ghost use Rattle.clos_machine.specs.clos_meaning.Calls.{applied_to, called_defined, called_function, called_setter};
+ghost use Rattle.clos_machine.specs.clos_meaning.Fault.{answered};
+ghost use Rattle.clos_machine.specs.clos_meaning.Functions.{place_set};
+ghost use Rattle.clos_machine.specs.Machine.{access_of, Leads, Grows, at, inside, lift, acted, collected};
+ghost use Rattle.clos_machine.specs.clos_meaning.Meaning.{meaning, alone, collect, function_value, is_plain_function, other_function};
+ghost use Rattle.clos_machine.specs.clos_meaning.Outcome.{Run};
 ghost use Rattle.clos_machine.specs.declared.machine.Action.TheVariants.{Call};
 
 use crate::bodies::run_body;
 use crate::generic_calls::call_generic;
 use clos_forms::{Form, Forms, FunctionName, is_function, value_named};
-use clos_machine::arguments::{Arguments, Context};
 use clos_machine::fault::of_function;
 use clos_machine::machine::{Action, Doing, Frame, Machine, Target};
 use clos_machine::moves::{begin, collect_next, give_up};
 use clos_machine::parameters::fits;
 use clos_machine::{
-    ConditionKind, Function, Stop, Values, World, about, about_name, plain, setter_value,
+    Arguments, ConditionKind, Context, Function, Stop, Values, World, about, about_name, plain,
+    setter_value,
 };
 use lisp_data::{Name, Value};
 use lisp_prims::Primitive;
@@ -76,7 +76,7 @@ pub fn new_value(
     values: Values,
 ) -> Result<Doing, Stop>
     ensures leads { (run : Run) (w : State)
-        → ((t : ℕ) → collect (meaning machine.old.room) machine.old.context (alone form.now) values (λ vs u k. place_set (meaning machine.old.room) machine.old.context target vs u k) (at machine.old w) t ≡ run (at machine.old w) t)
+        → ((t : ℕ) → collect (meaning machine.old.room) machine.old.context (alone form.now) values (λ vs u k. place_set (meaning machine.old.room) machine.old.context (access_of target) vs u k) (at machine.old w) t ≡ run (at machine.old w) t)
         → Leads (inside machine.old run) w result machine.new }
     ensures small { Grows 4 machine.old.levels result machine.new }
 {

@@ -1,28 +1,30 @@
 //! Calls of generic functions (HyperSpec 7.6.5, 7.6.6).
-ghost use Rattle.std.specs.Prelude.{◌≡◌, ℕ, IfOk, Some, slice_get};
+ghost use Rattle.std.specs.Prelude.{◌≡◌, ℕ, [], IfOk, Some, slice_get};
 ghost use Rattle.clos_comb.specs.OutcomeView.{combined_of};
 ghost use Rattle.clos_machine.specs.clos_world.clos_generic.Table.{Function};
 ghost use Rattle.clos_machine.specs.clos_world.World.{State, seen};
-ghost use Rattle.clos_machine.specs.Contexts.{in_call};
-ghost use Rattle.clos_machine.specs.GenericCalls.{called_generic, combined_run, invoked, matched, unmatched};
+ghost use Rattle.clos_machine.specs.clos_meaning.Bodies.{scoped};
+ghost use Rattle.clos_machine.specs.clos_meaning.Contexts.{in_call};
+ghost use Rattle.clos_machine.specs.clos_meaning.GenericCalls.{called_generic, combined_run, invoked, matched, unmatched};
 ghost use Rattle.clos_machine.specs.Machine.{Leads, Grows, at, inside};
-ghost use Rattle.clos_machine.specs.Meaning.{meaning};
-ghost use Rattle.clos_machine.specs.Outcome.{Run};
+ghost use Rattle.clos_machine.specs.clos_meaning.Meaning.{meaning};
+ghost use Rattle.clos_machine.specs.clos_meaning.Outcome.{Run};
 ghost use Rattle.clos_objects.specs.Objects.{TellsCondition};
 ghost use Rattle.clos_calls.specs.GenericCalls.{empty_group, takes_in};
 
+use crate::bodies::enter;
 use crate::keywords::keywords_fit;
 use clos_comb::Outcome;
-use clos_forms::Form;
+use clos_forms::{Form, Forms};
 use clos_generic_core::{MethodIds, SystemFunction};
-use clos_machine::arguments::{Arguments, Context, Dispatch};
+use clos_machine::locals::Locals;
 use clos_machine::machine::{Doing, Frame, Level, Machine};
 use clos_machine::{
-    Condition, ConditionKind, Stop, Values, World, about, about_both, called_value, plain,
+    Arguments, Condition, ConditionKind, Context, Dispatch, Stop, Values, World, about, about_both,
+    called_value, plain,
 };
 use lisp_data::{GenericId, Name, Value};
 use std::alloc::{AllocError, Global};
-use std::mem;
 
 /// A call of the generic function of this number.
 pub fn call_generic(
@@ -127,7 +129,7 @@ fn run_combined(
     match outcome {
         Outcome::Effective(form) => {
             let call = Dispatch::new(alloc, id, methods)?;
-            enter_effect(machine, Context::of_call(call, arguments), form)
+            enter_effect(alloc, machine, Context::of_call(call, arguments), form)
         }
         Outcome::InvalidMethod(method) => {
             let condition = about(alloc, ConditionKind::InvalidMethod, Value::Method(method))?;
@@ -183,17 +185,22 @@ pub fn invoke(
     call_generic(alloc, machine, world, function.id(), values)
 }
 
-/// Evaluates this next in a context of its own; the machine's comes back after it.
+/// Evaluates this next in a context of its own and with no variables; the machine's come back after it.
 #[tactic(auto, using(clos_machine::proofs::Turns::stopped_through, clos_machine::proofs::Turns::then_gave))]
-pub fn enter_effect(machine: &mut Machine, context: Context, next: Form) -> Result<Doing, Stop>
+pub fn enter_effect(
+    alloc: Global,
+    machine: &mut Machine,
+    context: Context,
+    next: Form,
+) -> Result<Doing, Stop>
     ensures leads { (run : Run) (w : State)
-        → ((t : ℕ) → meaning machine.old.room context next (at machine.old w) t ≡ run (at machine.old w) t)
+        → ((t : ℕ) → scoped (meaning machine.old.room context next) [] (at machine.old w) t ≡ run (at machine.old w) t)
         → Leads (inside machine.old run) w result machine.new }
     ensures small { Grows 2 machine.old.levels result machine.new }
 {
+    let (saved, outer) = enter(machine, context, Locals::new(alloc));
     let room = machine.room;
-    let saved = mem::replace(&mut machine.context, context);
-    let frame = Frame::Known(saved);
+    let frame = Frame::Body(Forms::new(), saved, outer);
     let Ok(()) = machine.levels.push(Level { frame, room }) else {
         drop(next);
         return Err(Stop::Storage);

@@ -4,8 +4,8 @@ ghost use Rattle.lisp_data.specs.ValueView.{value_of};
 ghost use Rattle.clos_machine.specs.clos_world.clos_generic.Table.{Function};
 ghost use Rattle.clos_generic_core.specs.MethodIds.{method_numbers};
 ghost use Rattle.clos_machine.specs.clos_world.World.{seen};
-ghost use Rattle.clos_machine.specs.ClassFunctions.{symbol_in};
-ghost use Rattle.clos_machine.specs.GenericCalls.{after_positional, are_accepted, is_accepted, keys_fit, keywords_fit};
+ghost use Rattle.clos_machine.specs.clos_meaning.ClassFunctions.{symbol_in};
+ghost use Rattle.clos_machine.specs.clos_meaning.GenericCalls.{after_positional, are_accepted, is_accepted, keys_fit, keywords_fit};
 
 use clos_generic_core::Shape;
 use clos_machine::World;

@@ -2,21 +2,21 @@
 ghost use Rattle.std.specs.Prelude.{◌≡◌, IfOk, slice_get};
 ghost use Rattle.clos_forms.specs.CallMethodView.{callable};
 ghost use Rattle.clos_machine.specs.clos_world.World.{seen};
-ghost use Rattle.clos_machine.specs.Calls.{made_run, method_body_run, method_called, method_run};
-ghost use Rattle.clos_machine.specs.Contexts.{running, with_arguments};
+ghost use Rattle.clos_machine.specs.clos_meaning.Calls.{made_run, method_body_run, method_called, method_run};
+ghost use Rattle.clos_machine.specs.clos_meaning.Contexts.{running, with_arguments};
 ghost use Rattle.clos_machine.specs.Machine.{Leads, Grows, inside};
-ghost use Rattle.clos_machine.specs.Meaning.{meaning};
+ghost use Rattle.clos_machine.specs.clos_meaning.Meaning.{meaning};
 ghost use Rattle.clos_calls.specs.Methods.{forms_run};
 
 use crate::bodies::run_body;
+use crate::generic_calls::enter_effect;
 use clos_forms::{CalledMethod, Forms, NextMethods};
 use clos_generic_core::MethodBody;
 use clos_lambda::LambdaList;
-use clos_machine::arguments::{Arguments, Context, Running};
-use clos_machine::machine::{Action, Doing, Frame, Machine};
-use clos_machine::moves::{begin, split};
+use clos_machine::machine::{Action, Doing, Machine};
+use clos_machine::moves::split;
 use clos_machine::parameters::keys_are_even;
-use clos_machine::{ConditionKind, Stop, World, plain};
+use clos_machine::{Arguments, ConditionKind, Context, Running, Stop, World, plain};
 use clos_objects::system_methods::run_system_method;
 use clos_objects_core::slots::call_reader;
 use lisp_data::MethodId;
@@ -59,7 +59,10 @@ fn run_made(
     let _ = world;
     match split(forms)? {
         None => Err(Stop::Refused(plain(alloc, ConditionKind::ProgramError))),
-        Some((first, _)) => begin(machine, first, Frame::Passing),
+        Some((first, _)) => {
+            let context = machine.context.copy()?;
+            enter_effect(alloc, machine, context, first)
+        }
     }
 }
 

@@ -5,23 +5,22 @@ ghost use Rattle.lisp_data.specs.Value.{generic, method};
 ghost use Rattle.lisp_data.specs.ValueView.{value_of};
 ghost use Rattle.clos_generic_core.specs.MethodIds.{method_numbers};
 ghost use Rattle.clos_machine.specs.clos_world.World.{State, seen};
-ghost use Rattle.clos_machine.specs.Calls.{made_run};
-ghost use Rattle.clos_machine.specs.Contexts.{with_arguments};
+ghost use Rattle.clos_machine.specs.clos_meaning.Calls.{made_run};
+ghost use Rattle.clos_machine.specs.clos_meaning.Contexts.{with_arguments};
 ghost use Rattle.clos_machine.specs.Machine.{Leads, Grows, at, inside};
-ghost use Rattle.clos_machine.specs.Meaning.{meaning};
-ghost use Rattle.clos_machine.specs.NextMethods.{has_next, next_called, next_given, none_next};
+ghost use Rattle.clos_machine.specs.clos_meaning.Meaning.{meaning};
+ghost use Rattle.clos_machine.specs.clos_meaning.NextMethods.{has_next, next_called, next_given, none_next};
 ghost use Rattle.clos_calls.specs.NextMethods.{Refuses, refusal_for, refusal_of};
-ghost use Rattle.clos_machine.specs.Meaning.{next_method};
-ghost use Rattle.clos_machine.specs.Outcome.{Run};
+ghost use Rattle.clos_machine.specs.clos_meaning.Meaning.{next_method};
+ghost use Rattle.clos_machine.specs.clos_meaning.Outcome.{Run};
 
 use crate::generic_calls::{enter_effect, takes};
 use crate::methods::run_method;
 use clos_forms::{CalledMethod, Forms};
 use clos_generic_core::SystemFunction;
-use clos_machine::arguments::{Arguments, Dispatch};
 use clos_machine::machine::{Action, Doing, Machine};
 use clos_machine::moves::{collect_next, split};
-use clos_machine::{ConditionKind, Stop, Values, World, about, plain};
+use clos_machine::{Arguments, ConditionKind, Dispatch, Stop, Values, World, about, plain};
 use lisp_data::{MethodId, Value};
 use std::alloc::{AllocError, Global};
 
@@ -175,7 +174,7 @@ fn run_made_with(
         None => Err(Stop::Refused(plain(alloc, ConditionKind::ProgramError))),
         Some((first, _)) => {
             let context = machine.context.with_arguments(arguments)?;
-            enter_effect(machine, context, first)
+            enter_effect(alloc, machine, context, first)
         }
     }
 }

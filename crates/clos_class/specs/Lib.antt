@@ -5,3 +5,4 @@ pub mod Laws
 pub mod Table
 pub mod Keeping
 pub mod Examples
+pub use Rattle.clos_syntax.specs as clos_syntax

@@ -8,10 +8,10 @@ use Rattle.clos_machine.specs.clos_world.declared.condition.Condition.{Condition
 use Rattle.clos_machine.specs.clos_world.declared.condition.ConditionKind.TheVariants.{UnboundVariable}
 use Rattle.clos_machine.specs.clos_world.declared.condition.Stop.TheVariants.{Refused}
 use Rattle.clos_machine.specs.Machine.{Leads, at, inside, resume}
-use Rattle.clos_machine.specs.Meaning.{closed, meaning}
-use Rattle.clos_machine.specs.Outcome.{Out, Run, Stopped}
-use Rattle.clos_machine.specs.SlotNames.{name_read, place_denoted}
-use Rattle.clos_machine.specs.Variables.{found_value, variable_value}
+use Rattle.clos_machine.specs.clos_meaning.Meaning.{closed, meaning}
+use Rattle.clos_machine.specs.clos_meaning.Outcome.{Out, Run, Stopped}
+use Rattle.clos_machine.specs.clos_meaning.SlotNames.{name_read, place_denoted}
+use Rattle.clos_machine.specs.clos_meaning.Variables.{found_value, variable_value}
 use Rattle.clos_machine.specs.declared.machine.Action.TheVariants.{Read}
 use Rattle.clos_machine.specs.declared.machine.Doing.TheVariants.{Act}
 use Rattle.clos_machine.specs.declared.machine.Machine.{Machine}

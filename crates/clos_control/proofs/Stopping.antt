@@ -5,8 +5,8 @@ use Rattle.clos_machine.specs.clos_world.World.{State}
 use Rattle.clos_machine.specs.clos_world.declared.condition.Stop.{Stop}
 use Rattle.clos_machine.specs.clos_world.declared.condition.Stop.TheVariants.{Refused, Storage}
 use Rattle.clos_machine.specs.Machine.{Becomes, Leads, at, inside, resume}
-use Rattle.clos_machine.specs.Meaning.{closed}
-use Rattle.clos_machine.specs.Outcome.{Run, then_do}
+use Rattle.clos_machine.specs.clos_meaning.Meaning.{closed}
+use Rattle.clos_machine.specs.clos_meaning.Outcome.{Run, then_do}
 use Rattle.clos_machine.specs.declared.machine.Machine.{Machine}
 use Rattle.clos_machine.proofs.Turns.{stopped_through}
 

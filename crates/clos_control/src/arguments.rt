@@ -3,9 +3,9 @@ ghost use Rattle.std.specs.Prelude.{◌≡◌, ℕ, ◌+◌, ◌≤◌, IfOk, op
 ghost use Rattle.lisp_data.specs.ValueView.{value_of};
 ghost use Rattle.clos_forms.specs.OperatorView.{operator_of};
 ghost use Rattle.clos_machine.specs.clos_world.World.{State, seen};
-ghost use Rattle.clos_machine.specs.Machine.{Leads, Turns, Took, Grows, at, at_once, inside, lift};
-ghost use Rattle.clos_machine.specs.Meaning.{acted, collect, meaning};
-ghost use Rattle.clos_machine.specs.Outcome.{Run};
+ghost use Rattle.clos_machine.specs.Machine.{Leads, Turns, Took, Grows, at, at_once, inside, lift, acted};
+ghost use Rattle.clos_machine.specs.clos_meaning.Meaning.{collect, meaning};
+ghost use Rattle.clos_machine.specs.clos_meaning.Outcome.{Run};
 
 use crate::binding::value_of_variable;
 use clos_forms::{Forms, Operator};

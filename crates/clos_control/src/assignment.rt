@@ -7,11 +7,11 @@ ghost use Rattle.clos_forms.specs.Form.{operator_in, parts_in, cons, nil};
 ghost use Rattle.clos_forms.specs.OperatorView.{operator_of, place_of};
 ghost use Rattle.clos_machine.specs.clos_world.Values.{only_value};
 ghost use Rattle.clos_machine.specs.clos_world.World.{State, seen};
-ghost use Rattle.clos_machine.specs.Assignment.{stored, stored_globally, stored_only, made_of, changed, changed_only};
-ghost use Rattle.clos_machine.specs.Fault.{answered};
-ghost use Rattle.clos_machine.specs.Machine.{Leads, Turns, Grows, Becomes, at, inside, lift, targets};
-ghost use Rattle.clos_machine.specs.Meaning.{meaning, acted, alone, collect, collected, setq, setf, assigned, with_amount, changed_from, set_place, changing, changed_by, place_in};
-ghost use Rattle.clos_machine.specs.Outcome.{Run, then_do};
+ghost use Rattle.clos_machine.specs.clos_meaning.Assignment.{stored, stored_globally, stored_only, made_of, changed, changed_only};
+ghost use Rattle.clos_machine.specs.clos_meaning.Fault.{answered};
+ghost use Rattle.clos_machine.specs.Machine.{access_of, Leads, Turns, Grows, Becomes, at, inside, lift, targets, acted, collected};
+ghost use Rattle.clos_machine.specs.clos_meaning.Meaning.{meaning, alone, collect, setq, setf, assigned, with_amount, changed_from, set_place, changing, changed_by, place_in};
+ghost use Rattle.clos_machine.specs.clos_meaning.Outcome.{Run, then_do};
 ghost use Rattle.clos_machine.specs.declared.machine.Action.TheVariants.{Amount, NewValue, Store};
 
 use crate::binding::value_of_variable;
@@ -404,7 +404,7 @@ pub fn change_from(
     amount: Value,
     old: Value,
 ) -> Result<Doing, Stop>
-    ensures leads { (w : State) → Leads (inside machine.old (changed_from (meaning machine.old.room) machine.old.context primitive target values (value_of amount) (value_of old))) w result machine.new }
+    ensures leads { (w : State) → Leads (inside machine.old (changed_from (meaning machine.old.room) machine.old.context primitive (access_of target) values (value_of amount) (value_of old))) w result machine.new }
     ensures small { Grows 10 machine.old.levels result machine.new }
 {
     let made = combine(alloc, primitive, &old, &amount);
@@ -423,7 +423,7 @@ fn set_changed(
     mut values: Values,
     value: Value,
 ) -> Result<Doing, Stop>
-    ensures leads { (w : State) → Leads (inside machine.old (set_place (meaning machine.old.room) machine.old.context target values (value_of value))) w result machine.new }
+    ensures leads { (w : State) → Leads (inside machine.old (set_place (meaning machine.old.room) machine.old.context (access_of target) values (value_of value))) w result machine.new }
     ensures small { Grows 10 machine.old.levels result machine.new }
 {
     let given = value.copy()?;

@@ -3,11 +3,11 @@ ghost use Rattle.std.specs.Prelude.{◌≡◌, ◌∷◌, ◌++◌, [], ℕ, ◌
 ghost use Rattle.lisp_data.specs.Value.{list, nil};
 ghost use Rattle.lisp_data.specs.ValueView.{value_of};
 ghost use Rattle.clos_machine.specs.clos_world.World.{State, seen, held, bound_as};
-ghost use Rattle.clos_machine.specs.Control.{sequence};
+ghost use Rattle.clos_machine.specs.clos_meaning.Control.{sequence};
 ghost use Rattle.clos_machine.specs.Machine.{Leads, Turns, Grows, Shrinks, at, with_next, inside, loop_of};
-ghost use Rattle.clos_machine.specs.Meaning.{meaning};
-ghost use Rattle.clos_machine.specs.Outcome.{Run, Gave, then_do};
-ghost use Rattle.clos_machine.specs.Variables.{found_value, in_order, binding, within, leaving, aside, together, dotimes, repeated, turns, result_value, body_of, counted, with_count};
+ghost use Rattle.clos_machine.specs.clos_meaning.Meaning.{meaning};
+ghost use Rattle.clos_machine.specs.clos_meaning.Outcome.{Run, Gave, then_do};
+ghost use Rattle.clos_machine.specs.clos_meaning.Variables.{found_value, in_order, binding, within, leaving, aside, together, dotimes, repeated, turns, result_value, body_of, counted, with_count};
 
 use clos_forms::{Bindings, Forms};
 use clos_machine::counter::Counter;

@@ -2,10 +2,10 @@
 ghost use Rattle.std.specs.Prelude.{◌≡◌, ℕ};
 ghost use Rattle.lisp_data.specs.ValueView.{value_of};
 ghost use Rattle.clos_machine.specs.clos_world.World.{State};
-ghost use Rattle.clos_machine.specs.Control.{going, followed, branch, keeping, clauses, clause, tested};
-ghost use Rattle.clos_machine.specs.Machine.{Leads, Grows, at, inside};
-ghost use Rattle.clos_machine.specs.Meaning.{meaning};
-ghost use Rattle.clos_machine.specs.Outcome.{Run};
+ghost use Rattle.clos_machine.specs.clos_meaning.Control.{branch, keeping, clauses, clause, tested};
+ghost use Rattle.clos_machine.specs.Machine.{Leads, Grows, at, inside, followed, going};
+ghost use Rattle.clos_machine.specs.clos_meaning.Meaning.{meaning};
+ghost use Rattle.clos_machine.specs.clos_meaning.Outcome.{Run};
 
 use clos_forms::Forms;
 use clos_machine::Stop;

@@ -6,10 +6,10 @@ ghost use Rattle.clos_forms.specs.Form.{operator_in};
 ghost use Rattle.clos_forms.specs.Quotation.{name_value};
 ghost use Rattle.clos_machine.specs.clos_world.World.{State, seen};
 ghost use Rattle.clos_machine.specs.Machine.{Grows, Leads, at, inside, slot_names};
-ghost use Rattle.clos_machine.specs.Meaning.{meaning};
-ghost use Rattle.clos_machine.specs.Outcome.{Run};
-ghost use Rattle.clos_machine.specs.SlotNames.{name_read, place_denoted, with_slots, within_slots};
-ghost use Rattle.clos_machine.specs.Variables.{found_value};
+ghost use Rattle.clos_machine.specs.clos_meaning.Meaning.{meaning};
+ghost use Rattle.clos_machine.specs.clos_meaning.Outcome.{Run};
+ghost use Rattle.clos_machine.specs.clos_meaning.SlotNames.{name_read, place_denoted, with_slots, within_slots};
+ghost use Rattle.clos_machine.specs.clos_meaning.Variables.{found_value};
 
 use crate::binding::{run_beside, value_of_variable};
 use clos_forms::{Form, Forms, Operator, SlotBinding, value_named};

@@ -243,6 +243,21 @@ fn refuse_accessor(
     Ok(())
 }
 
+/// The method of an accessor, of its function as it is after these definitions of new ones.
+fn method_for(
+    alloc: Global,
+    generics: &Generics,
+    class: ClassId,
+    definitions: &[Definition],
+    accessor: &SlotAccessor,
+) -> Result<Method, AllocError>
+    ensures { IfOk result (λ r. r ≡ accessor_method class.0 (number_after generics.now definitions.now (function_of accessor.now)) accessor.now) }
+{
+    let name = function_of(accessor)?;
+    let id = number_after(generics, definitions, &name)?;
+    accessor_method(alloc, class, id, accessor)
+}
+
 /// Whether an accessor is congruent with its function, as it is after these definitions.
 fn fits(
     alloc: Global,
@@ -253,9 +268,7 @@ fn fits(
 ) -> Result<bool, AllocError>
     ensures { IfOk result (λ b. b ≡ fits class.0 generics.now definitions.now accessor.now) }
 {
-    let name = function_of(accessor)?;
-    let id = number_after(generics, definitions, &name)?;
-    let method = accessor_method(alloc, class, id, accessor)?;
+    let method = method_for(alloc, generics, class, definitions, accessor)?;
     let addition = addition_of(alloc, &method)?;
     Ok(generics.addition_fits(definitions, &addition))
 }
@@ -274,9 +287,9 @@ pub fn with_accessors(
     let mut effect = Effect::new(alloc, functions);
     let mut left = accessors;
     while let Some((accessor, others)) = left.split_first() {
-        let name = function_of(accessor)?;
-        let id = number_after(generics, effect.changes.definitions(), &name)?;
-        effect.add(alloc, accessor_method(alloc, class, id, accessor)?)?;
+        let definitions = effect.changes.definitions();
+        let method = method_for(alloc, generics, class, definitions, accessor)?;
+        effect.add(alloc, method)?;
         left = others;
     }
     Ok(effect)

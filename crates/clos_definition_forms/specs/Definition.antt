@@ -15,7 +15,7 @@ use Rattle.clos_definition.specs.Class.{cells_needed, class_number, class_refusa
 use Rattle.clos_definition.specs.Generic.{eql_forms, generic_refusal, with_defined_generic}
 use Rattle.clos_definition.specs.Method.{eql_form, method_refusal, with_defined_method}
 use Rattle.clos_definition.specs.Removal.{removable, with_removed}
-use Rattle.clos_machine.specs.Outcome.{Gave, Run, Stopped, step_then, stopped}
+use Rattle.clos_machine.specs.clos_meaning.Outcome.{Gave, Run, Stopped, step_then, stopped}
 use Rattle.clos_definition_forms.specs.Forms.{forms_evaluated}
 
 -- it goes on where nothing is wrong

@@ -10,7 +10,7 @@ use Rattle.clos_machine.specs.clos_world.Functions.{function_in, with_function}
 use Rattle.clos_machine.specs.clos_world.World.{State}
 use Rattle.clos_machine.specs.clos_world.declared.condition.ConditionKind.TheVariants.{ProgramError, TableLimit}
 use Rattle.clos_machine.specs.clos_world.declared.functions.Function.{Function}
-use Rattle.clos_machine.specs.Outcome.{Gave, Run, stopped, step_then}
+use Rattle.clos_machine.specs.clos_meaning.Outcome.{Gave, Run, stopped, step_then}
 
 -- one more function may be defined
 abbrev pub has_room : State → Bool

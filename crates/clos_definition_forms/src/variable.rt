@@ -5,8 +5,8 @@ ghost use Rattle.lisp_data.specs.ValueView.{value_of};
 ghost use Rattle.clos_forms.specs.Quotation.{name_value};
 ghost use Rattle.clos_machine.specs.clos_world.World.{State, seen};
 ghost use Rattle.clos_machine.specs.Machine.{Answers};
-ghost use Rattle.clos_machine.specs.Meaning.{evaluation};
-ghost use Rattle.clos_machine.specs.Outcome.{Run, Gave, step_then, then_do};
+ghost use Rattle.clos_machine.specs.clos_meaning.Meaning.{evaluation};
+ghost use Rattle.clos_machine.specs.clos_meaning.Outcome.{Run, Gave, step_then, then_do};
 ghost use Rattle.clos_definition_forms.specs.Variable.{variable_defined, keeps_value, declared, given_value, value_given, room_below};
 
 use clos_eval::evaluate;

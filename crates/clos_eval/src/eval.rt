@@ -5,10 +5,10 @@ ghost use Rattle.clos_forms.specs.Form.{operator_in};
 ghost use Rattle.clos_forms.specs.OperatorView.{operator_of};
 ghost use Rattle.clos_machine.specs.clos_world.Values.{last_first};
 ghost use Rattle.clos_machine.specs.clos_world.World.{seen};
-ghost use Rattle.clos_machine.specs.Functions.{called, place_read, place_set};
-ghost use Rattle.clos_machine.specs.Machine.{Answers, Grows, Leads, Shrinks, Takes, Turns, denote, given_to, inside, lift, weight_of};
-ghost use Rattle.clos_machine.specs.Meaning.{acted, body, changed_place, evaluation, meaning, name_changed, operated};
-ghost use Rattle.clos_machine.specs.SlotNames.{name_set, place_denoted};
+ghost use Rattle.clos_machine.specs.clos_meaning.Functions.{called, place_read, place_set};
+ghost use Rattle.clos_machine.specs.Machine.{access_of, Answers, Grows, Leads, Shrinks, Takes, Turns, denote, given_to, inside, lift, weight_of, acted};
+ghost use Rattle.clos_machine.specs.clos_meaning.Meaning.{body, changed_place, evaluation, meaning, name_changed, operated};
+ghost use Rattle.clos_machine.specs.clos_meaning.SlotNames.{name_set, place_denoted};
 ghost use Rattle.clos_machine.specs.declared.machine.Doing.TheVariants.{Start};
 
 use crate::output::{end_line, print};
@@ -30,12 +30,13 @@ use clos_control::binding::{
 use clos_control::control::{clause_tested, follow, go_on, keep, next_clause};
 use clos_control::slot_names::{bind_slots, place_denoted, read_name, start_slots};
 use clos_forms::{Form, Forms, Operator};
-use clos_machine::arguments::{Arguments, Context};
-use clos_machine::callee::{Callee, SlotFunction, callee_named};
 use clos_machine::locals::Locals;
 use clos_machine::machine::{Action, Control, Doing, Frame, Level, Levels, Machine, Target};
 use clos_machine::truth::{is_true, nil, t};
-use clos_machine::{ConditionKind, Stop, Values, World, plain};
+use clos_machine::{
+    Arguments, Callee, ConditionKind, Context, SlotFunction, Stop, Values, World, callee_named,
+    plain,
+};
 use clos_objects::creation::{allocate, make_instance, next_default};
 use clos_objects::filling::{fill, fill_with};
 use clos_objects_core::class_functions::{call_class_function, truth};
@@ -153,7 +154,7 @@ fn set_place(
     values: Values,
     steps: &mut u64,
 ) -> Result<Doing, Stop>
-    ensures turns { Turns (inside machine.old (place_set (meaning machine.old.room) machine.old.context target.now values)) (seen world.old) steps.old result machine.new (seen world.new) steps.new }
+    ensures turns { Turns (inside machine.old (place_set (meaning machine.old.room) machine.old.context (access_of target.now) values)) (seen world.old) steps.old result machine.new (seen world.new) steps.new }
     ensures small { Grows 6 machine.old.levels result machine.new }
     ensures fewer { steps.new ≤ steps.old }
 {
@@ -172,7 +173,7 @@ fn read_place(
     values: Values,
     steps: &mut u64,
 ) -> Result<Doing, Stop>
-    ensures turns { Turns (inside machine.old (place_read (meaning machine.old.room) machine.old.context target.now values)) (seen world.old) steps.old result machine.new (seen world.new) steps.new }
+    ensures turns { Turns (inside machine.old (place_read (meaning machine.old.room) machine.old.context (access_of target.now) values)) (seen world.old) steps.old result machine.new (seen world.new) steps.new }
     ensures small { Grows 6 machine.old.levels result machine.new }
     ensures fewer { steps.new ≤ steps.old }
 {
@@ -211,7 +212,7 @@ fn change_place(
     mut values: Values,
     steps: &mut u64,
 ) -> Result<Doing, Stop>
-    ensures turns { Turns (inside machine.old (changed_place (meaning machine.old.room) machine.old.context primitive target (last_first values))) (seen world.old) steps.old result machine.new (seen world.new) steps.new }
+    ensures turns { Turns (inside machine.old (changed_place (meaning machine.old.room) machine.old.context primitive (access_of target) (last_first values))) (seen world.old) steps.old result machine.new (seen world.new) steps.new }
     ensures small { Grows 12 machine.old.levels result machine.new }
     ensures fewer { steps.new ≤ steps.old }
 {
@@ -234,7 +235,7 @@ fn change_by(
     amount: Value,
     steps: &mut u64,
 ) -> Result<Doing, Stop>
-    ensures turns { Turns (inside machine.old (changed_place (meaning machine.old.room) machine.old.context primitive target (value_of amount ∷ values))) (seen world.old) steps.old result machine.new (seen world.new) steps.new }
+    ensures turns { Turns (inside machine.old (changed_place (meaning machine.old.room) machine.old.context primitive (access_of target) (value_of amount ∷ values))) (seen world.old) steps.old result machine.new (seen world.new) steps.new }
     ensures small { Grows 12 machine.old.levels result machine.new }
     ensures fewer { steps.new ≤ steps.old }
 {
@@ -306,7 +307,7 @@ fn change_name(
 }
 
 /// An action is done with its values.
-#[tactic(auto, using(clos_machine::proofs::Running::turns_of_leads, crate::proofs::Shrinking::grows_2, crate::proofs::Shrinking::grows_4, crate::proofs::Shrinking::grows_5, crate::proofs::Shrinking::grows_6, crate::proofs::Shrinking::grows_9, crate::proofs::Shrinking::grows_12, crate::proofs::Shrinking::grows_14))]
+#[tactic(auto, using(clos_machine::proofs::Runs::turns_of_leads, crate::proofs::Shrinking::grows_2, crate::proofs::Shrinking::grows_4, crate::proofs::Shrinking::grows_5, crate::proofs::Shrinking::grows_6, crate::proofs::Shrinking::grows_9, crate::proofs::Shrinking::grows_12, crate::proofs::Shrinking::grows_14))]
 fn act(
     alloc: Global,
     machine: &mut Machine,
@@ -402,11 +403,6 @@ fn give(
             Values::new(alloc),
         )),
         Frame::Truth => Ok(Doing::Give(truth(is_true(&value)))),
-        Frame::Known(saved) => {
-            machine.context = saved;
-            Ok(Doing::Give(value))
-        }
-        Frame::Passing => Ok(Doing::Give(value)),
         Frame::Slots(form, body) => bind_slots(alloc, machine, &form, &body, &value),
     }
 }

@@ -5,13 +5,12 @@ ghost use Rattle.lisp_data.specs.ValueView.{value_of};
 ghost use Rattle.clos_machine.specs.clos_world.Values.{only_value};
 ghost use Rattle.clos_machine.specs.clos_world.World.{Local, seen, bound_as, names_of};
 ghost use Rattle.clos_machine.specs.Machine.{Changes, Grows, Turns, inside};
-ghost use Rattle.clos_machine.specs.Outcome.{step_then};
-ghost use Rattle.clos_machine.specs.Output.{written, text_by, output_of, line_ended};
+ghost use Rattle.clos_machine.specs.clos_meaning.Outcome.{step_then};
+ghost use Rattle.clos_machine.specs.clos_meaning.Output.{written, text_by, output_of, line_ended};
 
-use clos_machine::callee::Output;
 use clos_machine::machine::{Doing, Machine};
 use clos_machine::truth::nil;
-use clos_machine::{ConditionKind, Stop, Values, World, plain};
+use clos_machine::{ConditionKind, Output, Stop, Values, World, plain};
 use lisp_data::{Value, prin1, princ};
 use std::alloc::{AllocError, Global};
 

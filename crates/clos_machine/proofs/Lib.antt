@@ -1,5 +1,5 @@
 pub mod Lists
 pub mod Turns
 pub mod Quiet
-pub mod Running
-pub mod Kept
+pub mod Runs
+pub use Rattle.clos_meaning.proofs as clos_meaning

@@ -7,8 +7,8 @@ use Rattle.lisp_data.specs.Name.{Nam, same_name}
 use Rattle.lisp_data.specs.Value.{Val}
 use Rattle.lisp_data.specs.ValueView.{value_of}
 use Rattle.lisp_data.specs.declared.value.Value.{Value}
-use Rattle.clos_world.specs.World.{Denoted, held, local_named}
-use Rattle.clos_machine.specs.Assignment.{with_local}
+use Rattle.clos_meaning.specs.clos_world.World.{Denoted, held, local_named}
+use Rattle.clos_meaning.specs.Assignment.{with_local}
 use Rattle.clos_machine.specs.LocalsView.{denoted_of, local_of}
 use Rattle.clos_machine.specs.declared.locals.Denotation.TheVariants.{Held}
 use Rattle.clos_machine.specs.declared.locals.Local.{Local}

@@ -2,18 +2,18 @@
 use Rattle.std.proofs.Common.{◌≡◌, ℕ, ◌<◌, ◌≤◌, arith, Result, Ok, Err, List, [], ◌∷◌, Option, Some, None, refl, ap, sym, subst, ◌∙◌}
 use Rattle.lisp_data.specs.Value.{Val}
 use Rattle.clos_forms.specs.Form.{Frms, nil, cons}
-use Rattle.clos_world.specs.World.{State, Local, bound_as, unbound}
-use Rattle.clos_world.specs.declared.condition.Condition.{Condition}
-use Rattle.clos_world.specs.declared.condition.ConditionKind.TheVariants.{ProgramError}
-use Rattle.clos_world.specs.declared.condition.Stop.{Stop}
-use Rattle.clos_world.specs.declared.condition.Stop.TheVariants.{Refused, Storage}
-use Rattle.clos_world.specs.clos_generic_core.declared.method.Method.{Method}
-use Rattle.clos_machine.specs.Calls.{method_run}
-use Rattle.clos_machine.specs.Control.{sequence, while_true, until_true, going}
-use Rattle.clos_machine.specs.Machine.{at, below, resume, inside, Grows, Leads, Shrinks}
-use Rattle.clos_machine.specs.Meaning.{closed}
-use Rattle.clos_machine.specs.Outcome.{Out, Run, Eval, Gave, Stopped, then_do, gave}
-use Rattle.clos_machine.specs.declared.arguments.Context.{Context}
+use Rattle.clos_meaning.specs.clos_world.World.{State, Local, bound_as, unbound}
+use Rattle.clos_meaning.specs.clos_world.declared.condition.Condition.{Condition}
+use Rattle.clos_meaning.specs.clos_world.declared.condition.ConditionKind.TheVariants.{ProgramError}
+use Rattle.clos_meaning.specs.clos_world.declared.condition.Stop.{Stop}
+use Rattle.clos_meaning.specs.clos_world.declared.condition.Stop.TheVariants.{Refused, Storage}
+use Rattle.clos_meaning.specs.clos_world.clos_generic_core.declared.method.Method.{Method}
+use Rattle.clos_meaning.specs.Calls.{method_run}
+use Rattle.clos_meaning.specs.Control.{sequence, while_true, until_true}
+use Rattle.clos_machine.specs.Machine.{at, below, resume, inside, Grows, Leads, Shrinks, going}
+use Rattle.clos_meaning.specs.Meaning.{closed}
+use Rattle.clos_meaning.specs.Outcome.{Out, Run, Eval, Gave, Stopped, then_do, gave}
+use Rattle.clos_meaning.specs.declared.arguments.Context.{Context}
 use Rattle.clos_machine.specs.declared.machine.Control.TheVariants.{Progn, And, Or}
 use Rattle.clos_machine.specs.declared.machine.Doing.{Doing}
 use Rattle.clos_machine.specs.declared.machine.Level.{Level}

@@ -1,31 +1,8 @@
-pub mod Callee
 pub mod LocalsCode
 pub mod LocalsView
-pub mod Outcome
 pub mod Fault
-pub mod Control
-pub mod Variables
-pub mod Assignment
-pub mod Objects
-pub mod Output
-pub mod ClassFunctions
-pub mod Parameters
 pub mod ParametersCode
 pub mod ParametersView
-pub mod Dispatch
-pub mod Contexts
-pub mod GenericCalls
-pub mod Bodies
-pub mod Slots
-pub mod Filling
-pub mod Initialization
-pub mod Accessors
-pub mod SystemMethods
-pub mod Calls
-pub mod NextMethods
-pub mod FindMethod
-pub mod Functions
-pub mod SlotNames
-pub mod Meaning
 pub mod Machine
-pub use Rattle.clos_world.specs as clos_world
+pub use Rattle.clos_meaning.specs as clos_meaning
+pub use Rattle.clos_meaning.specs.clos_world as clos_world

@@ -6,7 +6,7 @@ use Rattle.lisp_data.specs.Name.{Nam}
 use Rattle.lisp_data.specs.NameCode.{name_code}
 use Rattle.lisp_data.specs.Value.{Val}
 use Rattle.lisp_data.specs.ValueCode.{value_code}
-use Rattle.clos_world.specs.World.{Denoted, held, in_slot, Local}
+use Rattle.clos_meaning.specs.clos_world.World.{Denoted, held, in_slot, Local}
 
 abbrev denoted_to : Denoted → Val ⊎ (Nam × Val)
 denoted_to (held v) = inl v

@@ -1,6 +1,6 @@
 -- The lexical name that a `Local` stands for.
 use Rattle.lisp_data.specs.ValueView.{value_of}
-use Rattle.clos_world.specs.World as world
+use Rattle.clos_meaning.specs.clos_world.World as world
 use Rattle.clos_machine.specs.declared.locals.Denotation.{Denotation}
 use Rattle.clos_machine.specs.declared.locals.Denotation.TheVariants.{Held, InSlot}
 use Rattle.clos_machine.specs.declared.locals.Local.{Local}

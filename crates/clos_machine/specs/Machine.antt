@@ -1,8 +1,9 @@
 -- What a state of the machine stands for: the rest of the definition.
-use Rattle.std.specs.Prelude.{◌≡◌, ℕ, suc, ◌+◌, ◌*◌, ◌≤◌, ◌<◌, List, [], ◌∷◌, ◌++◌, Result, Ok, Err, Option, Some, None, drop, true, if◌then◌else◌}
+use Rattle.std.specs.Prelude.{◌≡◌, ℕ, suc, ◌+◌, ◌*◌, ◌≤◌, ◌<◌, List, [], ◌∷◌, ◌++◌, Result, Ok, Err, Option, Some, None, drop, slice_get, true, if◌then◌else◌}
 use Rattle.lisp_data.specs.Name.{Nam}
 use Rattle.lisp_data.specs.Value.{Val, list, nil}
 use Rattle.lisp_data.specs.ValueView.{value_of}
+use Rattle.std.specs.Option.{option_map_or}
 use Rattle.lisp_data.specs.declared.ids.ClassId.{ClassId}
 use Rattle.lisp_data.specs.declared.ids.InstanceId.{InstanceId}
 use Rattle.lisp_data.specs.declared.value.Value.{Value}
@@ -10,33 +11,102 @@ use Rattle.lisp_prims.specs.Primitive.{truth}
 use Rattle.clos_forms.specs.Form.{Frm, Frms, operator_in}
 use Rattle.clos_forms.specs.Operator as of
 use Rattle.clos_forms.specs.Operator.{Opr, Bound, BoundSlot}
-use Rattle.clos_world.specs.Globals.{Variables, is_global}
-use Rattle.clos_world.specs.World.{State, held, Local, bound_as, unbound}
-use Rattle.clos_world.specs.declared.condition.Condition.{Condition}
-use Rattle.clos_world.specs.declared.condition.ConditionKind.TheVariants.{Unsupported}
-use Rattle.clos_world.specs.declared.condition.Stop.{Stop}
-use Rattle.clos_world.specs.declared.condition.Stop.TheVariants.{Refused, Storage}
-use Rattle.clos_machine.specs.Bodies.{restoring, parameters_run}
-use Rattle.clos_machine.specs.Control.{followed, keeping, tested, clauses, sequence}
-use Rattle.clos_machine.specs.Filling.{fill_with, slots_left, subject_of}
-use Rattle.clos_machine.specs.GenericCalls.{invoked}
-use Rattle.clos_machine.specs.Initialization.{default_given}
-use Rattle.clos_machine.specs.Meaning.{acted, changed_from, collect, setq, setf, meaning, closed}
-use Rattle.clos_machine.specs.Outcome.{Out, Gave, Stopped, Run, Eval, then_do, step_then, gave, is_true}
-use Rattle.clos_machine.specs.Parameters.{Sources, argument, refused, init}
-use Rattle.clos_machine.specs.SlotNames.{within_slots}
-use Rattle.clos_machine.specs.Variables.{Loop, found_value, in_order, binding, within, aside, repeated, turns}
-use Rattle.clos_machine.specs.declared.arguments.Context.{Context}
+use Rattle.clos_meaning.specs.clos_world.Globals.{Variables, is_global}
+use Rattle.clos_meaning.specs.clos_world.Values.{last_first}
+use Rattle.clos_meaning.specs.clos_world.clos_class.declared.effective_slots.EffectiveSlot.{EffectiveSlot}
+use Rattle.clos_meaning.specs.clos_world.World.{State, held, Local, bound_as, unbound}
+use Rattle.clos_meaning.specs.clos_world.declared.condition.Condition.{Condition}
+use Rattle.clos_meaning.specs.clos_world.declared.condition.ConditionKind.TheVariants.{Unsupported}
+use Rattle.clos_meaning.specs.clos_world.declared.condition.Stop.{Stop}
+use Rattle.clos_meaning.specs.clos_world.declared.condition.Stop.TheVariants.{Refused, Storage}
+use Rattle.clos_meaning.specs.Accessors.{written_by}
+use Rattle.clos_meaning.specs.Bodies.{restoring, parameters_run}
+use Rattle.clos_meaning.specs.Control.{and_then, branch_by, clauses, first_then, keeping, or_then, sequence, tested, where_false, where_true}
+use Rattle.clos_meaning.specs.Filling.{Subject, fill, fill_with}
+use Rattle.clos_meaning.specs.GenericCalls.{invoked}
+use Rattle.clos_meaning.specs.Initialization.{allocate, default_given}
+use Rattle.clos_meaning.specs.Functions.{Access, call_access, called, place_read, place_set, slot_access}
+use Rattle.clos_meaning.specs.Meaning.{changed_from, changed_place, collect, setq, setf, meaning, closed, name_changed_by, place_changed_by, place_set_to}
+use Rattle.clos_meaning.specs.NextMethods.{next_with}
+use Rattle.clos_meaning.specs.Outcome.{Out, Gave, Stopped, Run, Eval, then_do, step_then, gave, is_true, leaves}
+use Rattle.clos_meaning.specs.Parameters.{Sources, argument, refused, init}
+use Rattle.clos_meaning.specs.SlotNames.{name_stored, within_slots}
+use Rattle.clos_meaning.specs.Variables.{Loop, found_value, in_order, binding, within, aside, repeated, turns}
+use Rattle.clos_meaning.specs.declared.arguments.Context.{Context}
 use Rattle.clos_machine.specs.declared.machine.Action.{Action}
 use Rattle.clos_machine.specs.declared.machine.Action.TheVariants.{Call, Set, Store, Change, NewValue, Amount, ChangePlace, Allocate, Fill, FillWith, Write, Read, CallNext}
+use Rattle.clos_machine.specs.declared.machine.Control.{Control}
+use Rattle.clos_machine.specs.declared.machine.Control.TheVariants.{Progn, Prog1, If, When, Unless, And, Or}
 use Rattle.clos_machine.specs.declared.machine.Doing.{Doing}
 use Rattle.clos_machine.specs.declared.machine.Doing.TheVariants.{Start, Act, Invoke, Give}
 use Rattle.clos_machine.specs.declared.machine.Doing.TheVariants as doing
+use Rattle.clos_machine.specs.declared.machine.Filling.{Filling}
 use Rattle.clos_machine.specs.declared.machine.Frame.{Frame}
-use Rattle.clos_machine.specs.declared.machine.Frame.TheVariants.{Rest, Keep, Clause, Collect, Body, Bind, Scope, InOrder, Aside, Count, Turn, Setq, Setf, Changed, Default, Filled, Truth, Known, Passing, Slots}
+use Rattle.clos_machine.specs.declared.machine.Frame.TheVariants.{Rest, Keep, Clause, Collect, Body, Bind, Scope, InOrder, Aside, Count, Turn, Setq, Setf, Changed, Default, Filled, Truth, Slots}
 use Rattle.clos_machine.specs.declared.machine.Level.{Level}
 use Rattle.clos_machine.specs.declared.machine.Machine.{Machine}
 use Rattle.clos_machine.specs.declared.machine.Repetition.{Repetition}
+use Rattle.clos_machine.specs.declared.machine.Target.{Target}
+use Rattle.clos_machine.specs.declared.machine.Target.TheVariants as target
+
+-- ---- what actions do, in the words of the meaning
+
+-- how a place is accessed
+abbrev pub access_of : Target → Access
+access_of (target.Call name) = call_access name
+access_of target.SlotValue = slot_access
+
+-- the arguments of shared-initialize after the instance: the names of the slots, and the initargs
+abbrev pub names_in : List Val → Val
+names_in vs = option_map_or (λ v. v) (slice_get vs 1) (list nil)
+
+abbrev pub initargs_in : List Val → List Val
+initargs_in vs = drop 2 vs
+
+abbrev pub subject_of : Filling → Subject
+subject_of f = record { instance = f.instance.0; class = f.class.0; names = names_in f.arguments; initargs = initargs_in f.arguments }
+
+-- the slots that come next
+abbrev pub slots_left : Filling → List EffectiveSlot
+slots_left f = drop f.place f.effective.slots
+
+-- what is done with the values
+abbrev pub acted : Eval → Context → Action → List Val → Run
+acted ev env (Call name) = called ev env name
+acted ev env (Set t) = place_set ev env (access_of t)
+acted ev env (Store name) = name_stored ev env name
+acted ev env (Change p name) = name_changed_by ev env p name
+acted ev env (NewValue t f) = place_set_to ev env (access_of t) f
+acted ev env (Amount p t fs) = place_changed_by ev env p (access_of t) fs
+acted ev env (ChangePlace p t) = λ vs. changed_place ev env p (access_of t) (last_first vs)
+acted ev env (Allocate c e) = allocate ev env c.0 e
+acted ev env (Fill f) = λ vs. fill ev env (subject_of f) (slots_left f)
+acted ev env (FillWith f v) = λ vs. fill_with ev env (subject_of f) (slots_left f) (value_of v)
+acted ev env (Write slot) = written_by ev env slot
+acted ev env (Read t) = place_read ev env (access_of t)
+acted ev env CallNext = next_with ev env
+
+-- these forms, and then what is done with their values
+abbrev pub collected : Eval → Context → Frms → Action → Run
+collected ev env fs action w s = collect ev env fs [] (acted ev env action) w s
+
+-- ---- how forms follow one another
+
+-- what follows a value, with these forms left
+abbrev pub followed : Eval → Context → Control → Frms → Val → Run
+followed ev env Progn = sequence ev env
+followed ev env Prog1 = keeping ev env
+followed ev env If = branch_by ev env
+followed ev env When = where_true ev env
+followed ev env Unless = where_false ev env
+followed ev env And = and_then ev env
+followed ev env Or = or_then ev env
+
+-- the first of these forms, and what follows its value; or this value where there is none
+abbrev pub going : Eval → Context → Control → Frms → Val → Run
+going ev env c fs v w s = first_then ev env fs (followed ev env c) v w s
+
+-- ---- frames
 
 -- these variables, after one of this name that has an init form
 abbrev pub with_next : Option Nam → List Bound → List Bound
@@ -75,8 +145,6 @@ below env (Changed p t vs amount) = env
 below env (Default c e place vs) = env
 below env (Filled f) = env
 below env Truth = env
-below env (Known saved) = saved
-below env Passing = env
 below env (Slots f rest) = env
 
 -- what a frame does with the value that it waits for
@@ -94,12 +162,10 @@ after ev env (Count l) = λ v. repeated ev env (loop_of l) v
 after ev env (Turn l counter rest) = λ v w s. then_do (sequence ev env rest v w s) (λ u. turns ev env (loop_of l) counter.0 counter.1)
 after ev env (Setq f place rest) = λ v. setq ev env (drop place (targets (operator_in f))) rest v
 after ev env (Setf rest) = λ v. setf ev env rest v
-after ev env (Changed p t vs amount) = λ old. changed_from ev env p t vs (value_of amount) old
+after ev env (Changed p t vs amount) = λ old. changed_from ev env p (access_of t) vs (value_of amount) old
 after ev env (Default c e place vs) = λ v. default_given ev env c.0 e (drop place e.defaults) vs v
 after ev env (Filled f) = λ v. fill_with ev env (subject_of f) (slots_left f) v
 after ev env Truth = λ v. gave (truth (is_true v))
-after ev env (Known saved) = gave
-after ev env Passing = gave
 after ev env (Slots f rest) = λ v. within_slots ev env (slot_names (operator_in f)) rest v
 
 -- what the levels do with an outcome, the top one first
@@ -144,11 +210,6 @@ abbrev pub Turns : Run → State → ℕ → Result Doing Stop → Machine → S
 Turns run w s (Ok d) m w' s' = (k : ℕ) × (s ≡ k + s') × ((t : ℕ) → denote m d w' t ≡ run w (k + t))
 Turns run w s (Err (Refused c)) m w' s' = run w s ≡ Stopped c (unbound w') s'
 Turns run w s (Err Storage) m w' s' = (unbound w' ≡ unbound w) × (s' ≡ s)
-
--- where an outcome leaves the state and the steps
-abbrev pub leaves : Out → State → ℕ → Type 0
-leaves (Gave v w s) w' s' = (w ≡ w') × (s ≡ s')
-leaves (Stopped c w s) w' s' = (w ≡ w') × (s ≡ s')
 
 -- The answer is the run's; where memory was refused, the state is that of the run with the steps taken as its budget.
 abbrev pub Answers : Run → State → ℕ → Result Value Stop → State → ℕ → Type 0
@@ -196,8 +257,6 @@ weight_of (Changed p t vs amount) = 6
 weight_of (Default c e place vs) = 5
 weight_of (Filled f) = 4
 weight_of Truth = 2
-weight_of (Known saved) = 2
-weight_of Passing = 2
 weight_of (Slots f rest) = 2
 
 abbrev pub load : List Level → ℕ

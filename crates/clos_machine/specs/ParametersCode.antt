@@ -7,9 +7,9 @@ use Rattle.lisp_data.specs.Value.{Val}
 use Rattle.lisp_data.specs.ValueCode.{value_code}
 use Rattle.clos_forms.specs.Form.{Frm}
 use Rattle.clos_forms.specs.FormCode.{form_code}
-use Rattle.clos_world.specs.declared.condition.Condition.{Condition}
-use Rattle.clos_world.specs.contracts.condition.Condition as condition
-use Rattle.clos_machine.specs.Parameters.{Source, Sources, argument, refused, init}
+use Rattle.clos_meaning.specs.clos_world.declared.condition.Condition.{Condition}
+use Rattle.clos_meaning.specs.clos_world.contracts.condition.Condition as condition
+use Rattle.clos_meaning.specs.Parameters.{Source, Sources, argument, refused, init}
 
 abbrev source_to : Source → Val ⊎ (Condition ⊎ Frm)
 source_to (argument v) = inl v

@@ -1,7 +1,7 @@
 -- The parameters that the code's stand for.
 use Rattle.lisp_data.specs.Name.{Nam}
 use Rattle.lisp_data.specs.ValueView.{value_of}
-use Rattle.clos_machine.specs.Parameters.{Source, argument, refused, init}
+use Rattle.clos_meaning.specs.Parameters.{Source, argument, refused, init}
 use Rattle.clos_machine.specs.declared.parameters.Parameter.{Parameter}
 use Rattle.clos_machine.specs.declared.parameters.Origin.{Origin}
 use Rattle.clos_machine.specs.declared.parameters.Origin.TheVariants as origin

@@ -1,6 +1,6 @@
 //! Turns of loops.
 ghost use Rattle.std.specs.Prelude.{◌≡◌, suc, pos, MatchOption};
-ghost use Rattle.clos_machine.specs.Variables.{turns_in};
+ghost use Rattle.clos_meaning.specs.Variables.{turns_in};
 
 use std::marker::Model;
 

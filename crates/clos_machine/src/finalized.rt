@@ -1,10 +1,10 @@
 //! What a complete class has by its class precedence list, as the making of an instance keeps it.
 ghost use Rattle.std.specs.Prelude.{◌≡◌, IfOk};
-ghost use Rattle.clos_world.specs.Class.{effective};
-ghost use Rattle.clos_world.specs.World.{seen};
+ghost use Rattle.clos_meaning.specs.clos_world.Class.{effective};
+ghost use Rattle.clos_meaning.specs.clos_world.World.{seen};
 
+use clos_meaning::{Effective, EffectiveSlot, Layout, World};
 use clos_syntax::DefaultInitarg;
-use clos_world::{Effective, EffectiveSlot, Layout, World};
 use lisp_data::ClassId;
 use std::alloc::AllocError;
 use std::marker::Model;
@@ -19,8 +19,8 @@ pub struct Finalized {
 
 impl Model for Finalized {
     ghost use Rattle.std.specs.Coded.{codes};
-    ghost use Rattle.clos_world.specs.clos_class.contracts.effective.Effective as effective;
-    ghost use Rattle.clos_world.specs.clos_class.Slots.{Effective as Whole};
+    ghost use Rattle.clos_meaning.specs.clos_world.clos_class.contracts.effective.Effective as effective;
+    ghost use Rattle.clos_meaning.specs.clos_world.clos_class.Slots.{Effective as Whole};
 
     ghost Value = { Whole };
 

@@ -1,8 +1,6 @@
-//! What forms mean, and the states of the machine that evaluates them.
+//! The machine that evaluates forms, and what its states stand for.
 #![tactic(auto)]
 
-pub mod arguments;
-pub mod callee;
 pub mod counter;
 pub mod fault;
 pub mod finalized;
@@ -12,7 +10,8 @@ pub mod moves;
 pub mod parameters;
 pub mod truth;
 
-pub use clos_world::{
-    Condition, ConditionKind, Function, Limits, Stop, Values, World, about, about_both, about_name,
-    called_value, plain, setter_value,
+pub use clos_meaning::{
+    Arguments, Callee, ClassFunction, Condition, ConditionKind, Context, Dispatch, Function,
+    Limits, Output, Running, SlotFunction, Stop, Values, World, about, about_both, about_name,
+    called_value, callee_named, plain, setter_value,
 };

@@ -2,19 +2,19 @@
 ghost use Rattle.std.specs.Prelude.{◌≡◌, ◌∷◌, ◌++◌, [], IfOk, OnOk, MatchOption, map, option_map, length, is_some, true, false};
 ghost use Rattle.lisp_data.specs.ValueView.{value_of};
 ghost use Rattle.clos_forms.specs.BoundView.{bound, bound_slot};
-ghost use Rattle.clos_world.specs.Globals.{any_global};
-ghost use Rattle.clos_world.specs.World.{seen, held, in_slot, local_named, outermost};
-ghost use Rattle.clos_machine.specs.Assignment.{with_local};
+ghost use Rattle.clos_meaning.specs.clos_world.Globals.{any_global};
+ghost use Rattle.clos_meaning.specs.clos_world.World.{seen, held, in_slot, local_named, outermost};
+ghost use Rattle.clos_meaning.specs.Assignment.{with_local};
 ghost use Rattle.clos_machine.specs.LocalsView.{denoted_of};
 ghost use Rattle.clos_machine.specs.Machine.{Binds, Settles, Skips, settled, unset, unset_aside, with_next};
-ghost use Rattle.clos_machine.specs.Parameters.{required_sources};
-ghost use Rattle.clos_machine.specs.SlotNames.{slot_locals};
-ghost use Rattle.clos_machine.specs.Variables.{name_in};
+ghost use Rattle.clos_meaning.specs.Parameters.{required_sources};
+ghost use Rattle.clos_meaning.specs.SlotNames.{slot_locals};
+ghost use Rattle.clos_meaning.specs.Variables.{name_in};
 
 use crate::parameters::{Origin, Parameter, ParameterPlan};
 use crate::truth::nil;
 use clos_forms::{Binding, Form, SlotBinding};
-use clos_world::{ConditionKind, Stop, World, plain};
+use clos_meaning::{ConditionKind, Stop, World, plain};
 use lisp_data::{Name, Value};
 use std::alloc::{AllocError, Global};
 use std::marker::Model;
@@ -43,7 +43,7 @@ pub struct Locals {
 
 impl Model for Locals {
     ghost use Rattle.std.specs.Prelude.{List, map, reverse};
-    ghost use Rattle.clos_world.specs.World as world;
+    ghost use Rattle.clos_meaning.specs.clos_world.World as world;
     ghost use Rattle.clos_machine.specs.LocalsCode.{locals_code};
 
     ghost Value = { List world.Local };

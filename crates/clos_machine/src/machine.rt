@@ -1,13 +1,12 @@
 //! The machine that evaluates forms without recursion: what comes next, and the levels that wait for values.
 ghost use Rattle.std.specs.Prelude.{◌≡◌, ◌∷◌, [], ℕ, ◌<◌, ◌≤◌, length, OnOk, OnErr, IfOk, MatchOption};
 
-use crate::arguments::{Arguments, Context};
 use crate::counter::Counter;
 use crate::finalized::Finalized;
 use crate::locals::{Locals, Plan};
 use crate::parameters::ParameterPlan;
 use clos_forms::{Form, Forms};
-use clos_world::{SystemFunction, Values};
+use clos_meaning::{Arguments, Context, SystemFunction, Values};
 use lisp_data::{ClassId, InstanceId, Name, Value};
 use lisp_prims::Primitive;
 use std::alloc::{AllocError, Global};
@@ -121,7 +120,8 @@ pub enum Frame {
     Clause(Forms, Forms),
     /// It is the next of the values that the action is done with; these forms give the others.
     Collect(Action, Forms, Values),
-    /// The rest of a method's body follows; the context and the variables go back to the caller's.
+    /// The rest of a body follows, of a function, a method or an effective form; the context and the variables go back to the
+    /// caller's.
     Body(Forms, Context, Locals),
     /// It is the value of the parameter of this name, before these and the body; the context and the variables go back to
     /// the caller's.
@@ -149,10 +149,6 @@ pub enum Frame {
     Filled(Filling),
     /// T is given for it if it is true, and else NIL.
     Truth,
-    /// The context goes back to the caller's.
-    Known(Context),
-    /// Nothing.
-    Passing,
     /// It is the object for whose slots the names of this `with-slots` form stand, before these forms.
     Slots(Form, Forms),
 }

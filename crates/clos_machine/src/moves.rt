@@ -2,17 +2,17 @@
 ghost use Rattle.std.specs.Prelude.{◌≡◌, ℕ, ◌+◌, ◌∷◌, IfOk, OnOk, Ok, MatchOption};
 ghost use Rattle.lisp_data.specs.ValueView.{value_of};
 ghost use Rattle.clos_forms.specs.Form.{cons, nil};
-ghost use Rattle.clos_world.specs.World.{State};
-ghost use Rattle.clos_world.specs.declared.condition.Stop.TheVariants.{Storage};
-ghost use Rattle.clos_machine.specs.GenericCalls.{invoked};
-ghost use Rattle.clos_machine.specs.Machine.{Leads, Grows, at, inside, below, after, given, lift, weight_of};
-ghost use Rattle.clos_machine.specs.Meaning.{acted, collect, meaning};
-ghost use Rattle.clos_machine.specs.Outcome.{Run, Gave, then_do};
+ghost use Rattle.clos_meaning.specs.clos_world.World.{State};
+ghost use Rattle.clos_meaning.specs.clos_world.declared.condition.Stop.TheVariants.{Storage};
+ghost use Rattle.clos_meaning.specs.GenericCalls.{invoked};
+ghost use Rattle.clos_machine.specs.Machine.{Leads, Grows, at, inside, below, after, given, lift, weight_of, acted};
+ghost use Rattle.clos_meaning.specs.Meaning.{collect, meaning};
+ghost use Rattle.clos_meaning.specs.Outcome.{Run, Gave, then_do};
 ghost use Rattle.clos_machine.specs.declared.machine.Doing.TheVariants.{Act};
 
 use crate::machine::{Action, Doing, Frame, Level, Levels, Machine};
 use clos_forms::{Form, Forms};
-use clos_world::{Stop, SystemFunction, Values};
+use clos_meaning::{Stop, SystemFunction, Values};
 use lisp_data::Value;
 use std::alloc::AllocError;
 

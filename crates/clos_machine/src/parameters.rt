@@ -6,15 +6,15 @@ ghost use Rattle.lisp_prims.specs.Predicates.{is_symbol};
 ghost use Rattle.lisp_prims.specs.Primitive.{answer, truth};
 ghost use Rattle.lisp_prims.specs.declared.lists.ListFunction.TheVariants.{List};
 ghost use Rattle.lisp_prims.specs.declared.primitive.Primitive.TheVariants.{Listed};
-ghost use Rattle.clos_machine.specs.Calls.{keys_are_even};
-ghost use Rattle.clos_machine.specs.Parameters.{are_even, are_pairs, is_symbol_named, argument_named, is_allow_other_keys, is_allowing, is_accepted, are_accepted, keys_fit, after_required, after_optional, count_fits, fits, argument, required_sources, init_source, given_source, first_and_others, listed, variable_sources, optional_sources, rest_sources, entry_sources, key_sources, sources, requires_only};
+ghost use Rattle.clos_meaning.specs.Calls.{keys_are_even};
+ghost use Rattle.clos_meaning.specs.Parameters.{are_even, are_pairs, is_symbol_named, argument_named, is_allow_other_keys, is_allowing, is_accepted, are_accepted, keys_fit, after_required, after_optional, count_fits, fits, argument, required_sources, init_source, given_source, first_and_others, listed, variable_sources, optional_sources, rest_sources, entry_sources, key_sources, sources, requires_only};
 ghost use Rattle.clos_machine.specs.ParametersView.{source_of, parameter_of};
 
 use crate::fault::of_function;
 use crate::truth::{is_true, nil, t};
 use clos_forms::{Form, is_the};
 use clos_lambda::{Key, Keys, LambdaList, Optional};
-use clos_world::{Condition, Stop};
+use clos_meaning::{Condition, Stop};
 use lisp_data::{Name, Value};
 use lisp_prims::Primitive;
 use lisp_prims::lists::ListFunction;
@@ -48,7 +48,7 @@ pub struct ParameterPlan {
 
 impl Model for ParameterPlan {
     ghost use Rattle.std.specs.Prelude.{map};
-    ghost use Rattle.clos_machine.specs.Parameters.{Sources};
+    ghost use Rattle.clos_meaning.specs.Parameters.{Sources};
     ghost use Rattle.clos_machine.specs.ParametersCode.{sources_code};
     ghost use Rattle.clos_machine.specs.ParametersView.{parameter_of};
 

@@ -3,7 +3,7 @@ ghost use Rattle.std.specs.Prelude.{◌≡◌, true};
 ghost use Rattle.lisp_data.specs.Value.{list, nil};
 ghost use Rattle.lisp_data.specs.ValueView.{value_of};
 ghost use Rattle.lisp_prims.specs.Primitive.{truth};
-ghost use Rattle.clos_machine.specs.Outcome.{is_true};
+ghost use Rattle.clos_meaning.specs.Outcome.{is_true};
 
 use lisp_data::{Items, Name, Value};
 

@@ -8,7 +8,7 @@ use Rattle.clos_machine.specs.clos_world.Condition.{nil_name}
 use Rattle.clos_machine.specs.clos_world.World.{State}
 use Rattle.clos_machine.specs.clos_world.declared.condition.Stop.{Stop}
 use Rattle.clos_machine.specs.Machine.{Designates}
-use Rattle.clos_machine.specs.Objects.{class_found, designated}
+use Rattle.clos_machine.specs.clos_meaning.Objects.{class_found, designated}
 
 pub nil_designates : (w : State) (l : Vals) (n : Nam) (r : Result ClassId Stop) → l ≡ nil → n ≡ nil_name → Designates (class_found w.classes n (named w.classes n)) r
     → Designates (designated w.classes (list l)) r

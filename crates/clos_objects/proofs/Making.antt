@@ -16,19 +16,19 @@ use Rattle.clos_machine.specs.clos_world.declared.condition.Condition.{Condition
 use Rattle.clos_machine.specs.clos_world.declared.condition.ConditionKind.TheVariants.{ProgramError, TableLimit, StepLimit}
 use Rattle.clos_machine.specs.clos_world.declared.condition.Stop.{Stop}
 use Rattle.clos_machine.specs.clos_world.declared.condition.Stop.TheVariants.{Refused, Storage}
-use Rattle.clos_machine.specs.Bodies.{restoring}
-use Rattle.clos_machine.specs.Contexts.{known}
-use Rattle.clos_machine.specs.Initialization.{allocate, default_given, defaulted, instance_made, making, initialized, invalid_for, invalid_initarg, is_given, made, making_of}
+use Rattle.clos_machine.specs.clos_meaning.Bodies.{restoring}
+use Rattle.clos_machine.specs.clos_meaning.Contexts.{known}
+use Rattle.clos_machine.specs.clos_meaning.Initialization.{allocate, default_given, defaulted, instance_made, making, initialized, invalid_for, invalid_initarg, is_given, made, making_of}
 use Rattle.clos_machine.specs.Machine.{Designates, Leads, Turns, at, inside, resume}
-use Rattle.clos_machine.specs.Meaning.{closed, meaning}
-use Rattle.clos_machine.specs.Objects.{designated}
-use Rattle.clos_machine.specs.Parameters.{are_pairs}
-use Rattle.clos_machine.specs.Outcome.{Run, Eval, Stopped, then_do, step_then, stopped}
-use Rattle.clos_machine.specs.declared.arguments.Context.{Context}
+use Rattle.clos_machine.specs.clos_meaning.Meaning.{closed, meaning}
+use Rattle.clos_machine.specs.clos_meaning.Objects.{designated}
+use Rattle.clos_machine.specs.clos_meaning.Parameters.{are_pairs}
+use Rattle.clos_machine.specs.clos_meaning.Outcome.{Run, Eval, Stopped, then_do, step_then, stopped}
+use Rattle.clos_machine.specs.clos_meaning.declared.arguments.Context.{Context}
 use Rattle.clos_machine.specs.declared.machine.Doing.{Doing}
 use Rattle.clos_machine.specs.declared.machine.Frame.TheVariants.{Body}
 use Rattle.clos_machine.specs.declared.machine.Machine.{Machine}
-use Rattle.clos_machine.proofs.Running.{turns_of_leads, stops_at_once, turns_same}
+use Rattle.clos_machine.proofs.Runs.{turns_of_leads, stops_at_once, turns_same}
 use Rattle.clos_machine.proofs.Turns.{leads_same, stopped_through}
 use Rattle.clos_objects.specs.Objects.{Enters, TellsCondition, default_first, ungiven}
 use Rattle.clos_objects.specs.Reached.{invalid_for_new, reached_by_new}

@@ -5,7 +5,7 @@ use Rattle.lisp_data.specs.Value.{Val, list, nil}
 use Rattle.clos_class.specs.Slots.{Effective}
 use Rattle.clos_class.specs.declared.effective_slots.EffectiveSlot.{EffectiveSlot}
 use Rattle.clos_generic_core.specs.declared.method.Method.{Method}
-use Rattle.clos_machine.specs.Parameters.{are_even}
+use Rattle.clos_machine.specs.clos_meaning.Parameters.{are_even}
 use Rattle.clos_machine.specs.clos_world.Class.{class_name}
 use Rattle.clos_machine.specs.clos_world.World.{State}
 use Rattle.clos_machine.specs.clos_world.declared.condition.Condition.{Condition}
@@ -14,14 +14,14 @@ use Rattle.clos_machine.specs.clos_world.declared.condition.Stop.{Stop}
 use Rattle.clos_machine.specs.clos_world.declared.condition.Stop.TheVariants.{Refused, Storage}
 use Rattle.clos_generic_core.specs.declared.system.SystemFunction.{SystemFunction}
 use Rattle.clos_generic_core.specs.declared.system.SystemFunction.TheVariants.{InitializeInstance, ReinitializeInstance, SharedInitialize, UpdateInstanceForRedefinedClass, UpdateInstanceForDifferentClass, SlotUnbound, SlotMissing, NoApplicableMethod, NoNextMethod}
-use Rattle.clos_machine.specs.ClassFunctions.{wrong_type}
-use Rattle.clos_machine.specs.Filling.{are_slot_names, initargs_in, names_in}
-use Rattle.clos_machine.specs.Initialization.{invalid_for, invalid_initarg, methods_reached}
+use Rattle.clos_machine.specs.clos_meaning.ClassFunctions.{wrong_type}
+use Rattle.clos_machine.specs.clos_meaning.Filling.{are_slot_names, initargs_in, names_in}
+use Rattle.clos_machine.specs.clos_meaning.Initialization.{invalid_for, invalid_initarg, methods_reached}
 use Rattle.clos_machine.specs.Machine.{DesignatesInstance, Leads, at, inside, resume}
-use Rattle.clos_machine.specs.Meaning.{closed}
-use Rattle.clos_machine.specs.Outcome.{Eval, Run, Stopped, stopped}
-use Rattle.clos_machine.specs.Slots.{instance_in}
-use Rattle.clos_machine.specs.SystemMethods.{class_in, filled_as, if_valid, initialize_slots, reinitialize_as, shared_initialize, shared_initialized, system_method_run}
+use Rattle.clos_machine.specs.clos_meaning.Meaning.{closed}
+use Rattle.clos_machine.specs.clos_meaning.Outcome.{Eval, Run, Stopped, stopped}
+use Rattle.clos_machine.specs.clos_meaning.Slots.{instance_in}
+use Rattle.clos_machine.specs.clos_meaning.SystemMethods.{class_in, filled_as, if_valid, initialize_slots, reinitialize_as, shared_initialize, shared_initialized, system_method_run}
 use Rattle.clos_machine.specs.declared.machine.Doing.{Doing}
 use Rattle.clos_machine.specs.declared.machine.Machine.{Machine}
 use Rattle.clos_machine.proofs.Turns.{leads_same, stopped_through}

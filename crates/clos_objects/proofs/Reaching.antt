@@ -13,7 +13,7 @@ use Rattle.clos_machine.specs.clos_world.clos_generic.Calls as calls
 use Rattle.clos_generic_core.specs.Arguments.{arguments_of}
 use Rattle.clos_generic_core.specs.System.{system_number}
 use Rattle.clos_generic_core.specs.declared.system.SystemFunction.TheVariants.{InitializeInstance, SharedInitialize}
-use Rattle.clos_machine.specs.Initialization.{methods_reached}
+use Rattle.clos_machine.specs.clos_meaning.Initialization.{methods_reached}
 use Rattle.clos_machine.specs.clos_world.clos_store.Store.{Object, allocated, with_instance}
 use Rattle.clos_machine.specs.clos_world.Dispatch.{ordered, required_by, required_in}
 use Rattle.clos_machine.specs.clos_world.World.{State, class_of}

@@ -8,16 +8,16 @@ use Rattle.clos_machine.specs.clos_world.World.{State}
 use Rattle.clos_machine.specs.clos_world.declared.condition.Condition.{Condition}
 use Rattle.clos_machine.specs.clos_world.declared.condition.Stop.{Stop}
 use Rattle.clos_machine.specs.clos_world.declared.condition.Stop.TheVariants.{Refused, Storage}
-use Rattle.clos_machine.specs.Filling.{Filler, Subject, fill, filled, filler, nothing, value, initform}
+use Rattle.clos_machine.specs.clos_meaning.Filling.{Filler, Subject, fill, filled, filler, nothing, value, initform}
 use Rattle.clos_class.specs.Slots.{Effective}
 use Rattle.clos_forms.specs.Form.{Frm, nil}
-use Rattle.clos_machine.specs.Contexts.{known}
-use Rattle.clos_machine.specs.Initialization.{default_given, is_given}
-use Rattle.clos_machine.specs.Outcome.{Gave, Run, Eval, then_do, stopped}
+use Rattle.clos_machine.specs.clos_meaning.Contexts.{known}
+use Rattle.clos_machine.specs.clos_meaning.Initialization.{default_given, is_given}
+use Rattle.clos_machine.specs.clos_meaning.Outcome.{Gave, Run, Eval, then_do, stopped}
 use Rattle.clos_machine.specs.declared.machine.Frame.TheVariants.{Body}
 use Rattle.clos_machine.specs.declared.machine.Machine.{Machine}
 use Rattle.clos_machine.specs.clos_world.declared.condition.ConditionKind.TheVariants.{NoNextMethod, ProgramError}
-use Rattle.clos_machine.specs.declared.arguments.Context.{Context}
+use Rattle.clos_machine.specs.clos_meaning.declared.arguments.Context.{Context}
 use Rattle.clos_objects.specs.declared.filling.Found.{Found}
 use Rattle.clos_objects.specs.declared.filling.Found.TheVariants as found
 

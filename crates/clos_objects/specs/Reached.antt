@@ -8,7 +8,7 @@ use Rattle.clos_machine.specs.clos_world.clos_generic.Calls as calls
 use Rattle.clos_generic_core.specs.Arguments.{arguments_of}
 use Rattle.clos_generic_core.specs.System.{system_number}
 use Rattle.clos_generic_core.specs.declared.system.SystemFunction.TheVariants.{InitializeInstance, SharedInitialize}
-use Rattle.clos_machine.specs.Initialization.{invalid_initarg}
+use Rattle.clos_machine.specs.clos_meaning.Initialization.{invalid_initarg}
 use Rattle.clos_machine.specs.clos_world.Dispatch.{required_by}
 use Rattle.clos_machine.specs.clos_world.World.{State, class_of}
 

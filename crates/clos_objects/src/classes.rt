@@ -5,7 +5,7 @@ ghost use Rattle.lisp_data.specs.ValueView.{value_of};
 ghost use Rattle.clos_machine.specs.clos_world.Class.{named};
 ghost use Rattle.clos_machine.specs.clos_world.World.{seen};
 ghost use Rattle.clos_machine.specs.Machine.{Designates};
-ghost use Rattle.clos_machine.specs.Objects.{class_found, designated, instantiable};
+ghost use Rattle.clos_machine.specs.clos_meaning.Objects.{class_found, designated, instantiable};
 
 use clos_machine::fault::incomplete_class;
 use clos_machine::{ConditionKind, Stop, World, about, about_name, plain};

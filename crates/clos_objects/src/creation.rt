@@ -4,10 +4,10 @@ ghost use Rattle.lisp_data.specs.ValueView.{value_of};
 ghost use Rattle.clos_machine.specs.clos_world.clos_store.Store.{allocated, has_room, with_instance};
 ghost use Rattle.clos_machine.specs.clos_world.Class.{class_name, effective};
 ghost use Rattle.clos_machine.specs.clos_world.World.{State, seen};
-ghost use Rattle.clos_machine.specs.Initialization.{allocate, default_given, defaulted, initialized, instance_made, invalid_for, making_of};
+ghost use Rattle.clos_machine.specs.clos_meaning.Initialization.{allocate, default_given, defaulted, initialized, instance_made, invalid_for, making_of};
 ghost use Rattle.clos_machine.specs.Machine.{Grows, Leads, Turns, at, inside};
-ghost use Rattle.clos_machine.specs.Meaning.{meaning};
-ghost use Rattle.clos_machine.specs.Outcome.{Run};
+ghost use Rattle.clos_machine.specs.clos_meaning.Meaning.{meaning};
+ghost use Rattle.clos_machine.specs.clos_meaning.Outcome.{Run};
 ghost use Rattle.clos_objects.specs.Objects.{Enters, TellsCondition, default_first, ungiven};
 ghost use Rattle.clos_objects.specs.Reached.{invalid_for_new};
 
@@ -16,13 +16,14 @@ use crate::initargs::{invalid_initarg, is_given};
 use crate::reached::reached_by_new;
 use clos_forms::{Forms, value_named};
 use clos_generic_core::SystemFunction;
-use clos_machine::arguments::{Arguments, Context};
 use clos_machine::finalized::Finalized;
 use clos_machine::locals::Locals;
 use clos_machine::machine::{Action, Doing, Frame, Level, Machine};
 use clos_machine::moves::{begin, invoke_under};
 use clos_machine::parameters::are_pairs;
-use clos_machine::{Condition, ConditionKind, Stop, Values, World, about, about_both, plain};
+use clos_machine::{
+    Arguments, Condition, ConditionKind, Context, Stop, Values, World, about, about_both, plain,
+};
 use clos_syntax::DefaultInitarg;
 use lisp_data::{ClassId, InstanceId, Value};
 use std::alloc::{AllocError, Global};

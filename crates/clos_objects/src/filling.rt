@@ -5,9 +5,9 @@ ghost use Rattle.lisp_data.specs.Value.{list, nil};
 ghost use Rattle.lisp_data.specs.ValueView.{value_of};
 ghost use Rattle.clos_machine.specs.clos_world.clos_store.Store.{slot_found};
 ghost use Rattle.clos_machine.specs.clos_world.World.{class_of_instance, seen};
-ghost use Rattle.clos_machine.specs.Filling.{is_named, fill, fill_with, filler, is_the_class, slots_left, subject_of, unbound_filler};
-ghost use Rattle.clos_machine.specs.Machine.{Grows, Leads, Shrinks, Turns, inside};
-ghost use Rattle.clos_machine.specs.Meaning.{meaning};
+ghost use Rattle.clos_machine.specs.clos_meaning.Filling.{is_named, fill, fill_with, filler, is_the_class, unbound_filler};
+ghost use Rattle.clos_machine.specs.Machine.{Grows, Leads, Shrinks, Turns, inside, slots_left, subject_of};
+ghost use Rattle.clos_machine.specs.clos_meaning.Meaning.{meaning};
 ghost use Rattle.clos_machine.specs.declared.machine.Filling.{Filling};
 ghost use Rattle.clos_objects.specs.Objects.{Finds, filler_found, filler_of_form, first_filled};
 

@@ -2,10 +2,10 @@
 ghost use Rattle.std.specs.Prelude.{◌≡◌, ◌∷◌, option_map, map};
 ghost use Rattle.std.specs.List.{list_any};
 ghost use Rattle.lisp_data.specs.ValueView.{value_of};
-ghost use Rattle.clos_machine.specs.Filling.{initarg_for};
-ghost use Rattle.clos_machine.specs.ClassFunctions.{symbol_in};
-ghost use Rattle.clos_machine.specs.Initialization.{fills, first_invalid, invalid_initarg, is_given, is_keyword_of, is_valid};
-ghost use Rattle.clos_machine.specs.Parameters.{is_symbol_named};
+ghost use Rattle.clos_machine.specs.clos_meaning.Filling.{initarg_for};
+ghost use Rattle.clos_machine.specs.clos_meaning.ClassFunctions.{symbol_in};
+ghost use Rattle.clos_machine.specs.clos_meaning.Initialization.{fills, first_invalid, invalid_initarg, is_given, is_keyword_of, is_valid};
+ghost use Rattle.clos_machine.specs.clos_meaning.Parameters.{is_symbol_named};
 
 use crate::reached::Reached;
 use clos_class::EffectiveSlot;

@@ -5,7 +5,7 @@ ghost use Rattle.lisp_data.specs.ValueView.{value_of};
 ghost use Rattle.clos_generic_core.specs.Keywords.{method_allows, method_names};
 ghost use Rattle.clos_machine.specs.clos_world.clos_precedence.PrecedenceView.{numbers};
 ghost use Rattle.clos_machine.specs.clos_world.World.{seen};
-ghost use Rattle.clos_machine.specs.Initialization.{methods_reached};
+ghost use Rattle.clos_machine.specs.clos_meaning.Initialization.{methods_reached};
 ghost use Rattle.clos_objects.specs.Reached.{ordered_as, reached_by_new, required_of};
 
 use clos_generic_core::{Arguments, Method, MethodIds, SystemFunction, any_allows, any_names};

@@ -4,10 +4,10 @@ ghost use Rattle.lisp_data.specs.Value.{instance};
 ghost use Rattle.lisp_data.specs.ValueView.{value_of};
 ghost use Rattle.clos_machine.specs.clos_world.World.{seen};
 ghost use Rattle.clos_machine.specs.Machine.{Grows, Leads, inside};
-ghost use Rattle.clos_machine.specs.Meaning.{meaning};
-ghost use Rattle.clos_machine.specs.Slots.{instance_in};
-ghost use Rattle.clos_machine.specs.SystemMethods.{class_in, initialize, initialize_slots, filled_as, reinitialize, reinitialize_as, shared_initialized, slot_condition, system_method_run, told};
-ghost use Rattle.clos_machine.specs.Filling.{initargs_in, names_in};
+ghost use Rattle.clos_machine.specs.clos_meaning.Meaning.{meaning};
+ghost use Rattle.clos_machine.specs.clos_meaning.Slots.{instance_in};
+ghost use Rattle.clos_machine.specs.clos_meaning.SystemMethods.{class_in, initialize, initialize_slots, filled_as, reinitialize, reinitialize_as, shared_initialized, slot_condition, system_method_run, told};
+ghost use Rattle.clos_machine.specs.clos_meaning.Filling.{initargs_in, names_in};
 ghost use Rattle.clos_objects.specs.Objects.{TellsCondition, next_condition};
 ghost use Rattle.clos_machine.specs.clos_world.declared.condition.ConditionKind.TheVariants.{NoApplicableMethod};
 ghost use Rattle.clos_generic_core.specs.declared.system.SystemFunction.TheVariants.{SharedInitialize};
@@ -18,7 +18,6 @@ use crate::reached::methods_reached;
 use crate::slot_names::are_slot_names;
 use clos_forms::Forms;
 use clos_generic_core::SystemFunction;
-use clos_machine::arguments::Arguments;
 use clos_machine::fault::{instance_in, wrong_type};
 use clos_machine::finalized::Finalized;
 use clos_machine::machine::{Action, Doing, Filling, Frame, Machine};
@@ -26,7 +25,8 @@ use clos_machine::moves::invoke_under;
 use clos_machine::parameters::are_even;
 use clos_machine::truth::{nil, t};
 use clos_machine::{
-    Condition, ConditionKind, Stop, Values, World, about, about_both, called_value, plain,
+    Arguments, Condition, ConditionKind, Stop, Values, World, about, about_both, called_value,
+    plain,
 };
 use lisp_data::{ClassId, InstanceId, Value};
 use std::alloc::{AllocError, Global};

@@ -10,17 +10,17 @@ use Rattle.clos_machine.specs.clos_world.declared.condition.Condition.{Condition
 use Rattle.clos_machine.specs.clos_world.declared.condition.ConditionKind.TheVariants.{ProgramError}
 use Rattle.clos_machine.specs.clos_world.declared.condition.Stop.{Stop}
 use Rattle.clos_machine.specs.clos_world.declared.condition.Stop.TheVariants.{Refused, Storage}
-use Rattle.clos_machine.specs.Accessors.{read_by, read_of, written_by, written_of}
+use Rattle.clos_machine.specs.clos_meaning.Accessors.{read_by, read_of, written_by, written_of}
 use Rattle.clos_machine.specs.Machine.{DesignatesInstance, Leads, Turns, at, inside, resume}
-use Rattle.clos_machine.specs.Meaning.{closed}
-use Rattle.clos_machine.specs.Outcome.{Eval, Stopped, stopped}
-use Rattle.clos_machine.specs.Slots.{instance_in, slot_read}
-use Rattle.clos_machine.specs.declared.arguments.Context.{Context}
+use Rattle.clos_machine.specs.clos_meaning.Meaning.{closed}
+use Rattle.clos_machine.specs.clos_meaning.Outcome.{Eval, Stopped, stopped}
+use Rattle.clos_machine.specs.clos_meaning.Slots.{instance_in, slot_read}
+use Rattle.clos_machine.specs.clos_meaning.declared.arguments.Context.{Context}
 use Rattle.clos_machine.specs.declared.machine.Doing.{Doing}
 use Rattle.clos_machine.specs.declared.machine.Machine.{Machine}
 use Rattle.clos_machine.proofs.Turns.{leads_same, stopped_through}
 use Rattle.clos_objects_core.specs.Slots.{two_of}
-use Rattle.clos_machine.proofs.Running.{stops_at_once}
+use Rattle.clos_machine.proofs.Runs.{stops_at_once}
 
 module _ (ev : Eval) (env : Context) (slot : Nam) where
   -- ---- a reader

@@ -7,10 +7,10 @@ use Rattle.clos_machine.specs.clos_world.World.{State}
 use Rattle.clos_machine.specs.clos_world.declared.condition.Condition.{Condition}
 use Rattle.clos_machine.specs.clos_world.declared.condition.Stop.{Stop}
 use Rattle.clos_machine.specs.clos_world.declared.condition.Stop.TheVariants.{Refused, Storage}
-use Rattle.clos_machine.specs.ClassFunctions.{Tells, comes_to}
-use Rattle.clos_machine.specs.FindMethod.{Designator, and_more, followed_by, method_answer}
+use Rattle.clos_machine.specs.clos_meaning.ClassFunctions.{Tells, comes_to}
+use Rattle.clos_machine.specs.clos_meaning.FindMethod.{Designator, and_more, followed_by, method_answer}
 use Rattle.clos_machine.specs.Machine.{Leads, at, inside, resume}
-use Rattle.clos_machine.specs.Meaning.{closed}
+use Rattle.clos_machine.specs.clos_meaning.Meaning.{closed}
 use Rattle.clos_machine.specs.declared.machine.Machine.{Machine}
 use Rattle.clos_machine.proofs.Turns.{stopped_through}
 

@@ -13,15 +13,15 @@ use Rattle.clos_machine.specs.clos_world.declared.condition.ConditionKind.TheVar
 use Rattle.clos_machine.specs.clos_world.declared.condition.Stop.{Stop}
 use Rattle.clos_machine.specs.clos_world.declared.condition.Stop.TheVariants.{Refused, Storage}
 use Rattle.clos_machine.specs.Machine.{Leads, Turns, at, denote, inside, resume}
-use Rattle.clos_machine.specs.Meaning.{closed, meaning}
-use Rattle.clos_machine.specs.Outcome.{Run, Eval, Stopped, step_then, stopped}
-use Rattle.clos_machine.specs.Slots.{slot_answer, slot_applied, slot_called, slot_changed, slot_designated, slot_given, slot_set, slot_stored}
-use Rattle.clos_machine.specs.declared.arguments.Context.{Context}
-use Rattle.clos_machine.specs.declared.callee.SlotFunction.{SlotFunction}
+use Rattle.clos_machine.specs.clos_meaning.Meaning.{closed, meaning}
+use Rattle.clos_machine.specs.clos_meaning.Outcome.{Run, Eval, Stopped, step_then, stopped}
+use Rattle.clos_machine.specs.clos_meaning.Slots.{slot_answer, slot_applied, slot_called, slot_changed, slot_designated, slot_given, slot_set, slot_stored}
+use Rattle.clos_machine.specs.clos_meaning.declared.arguments.Context.{Context}
+use Rattle.clos_machine.specs.clos_meaning.declared.callee.SlotFunction.{SlotFunction}
 use Rattle.clos_machine.specs.declared.machine.Doing.{Doing}
 use Rattle.clos_machine.specs.declared.machine.Doing.TheVariants.{Give}
 use Rattle.clos_machine.specs.declared.machine.Machine.{Machine}
-use Rattle.clos_machine.proofs.Running.{stops_at_once, turns_of_leads, turns_same}
+use Rattle.clos_machine.proofs.Runs.{stops_at_once, turns_of_leads, turns_same}
 use Rattle.clos_machine.proofs.Turns.{leads_same, stopped_through}
 use Rattle.clos_objects_core.specs.Slots.{DesignatesSlot, three_of, two_of}
 

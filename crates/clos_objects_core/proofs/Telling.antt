@@ -14,12 +14,12 @@ use Rattle.clos_machine.specs.clos_world.Condition.{nil_name}
 use Rattle.clos_machine.specs.clos_world.World.{State, class_of}
 use Rattle.clos_machine.specs.clos_world.declared.condition.Stop.{Stop}
 use Rattle.clos_machine.specs.clos_world.declared.condition.Stop.TheVariants.{Refused, Storage}
-use Rattle.clos_machine.specs.ClassFunctions.{Tells, class_answer, comes_to, in_words_of_conditions}
+use Rattle.clos_machine.specs.clos_meaning.ClassFunctions.{Tells, class_answer, comes_to, in_words_of_conditions}
 use Rattle.clos_machine.specs.Fault.{Signals}
 use Rattle.clos_machine.specs.Machine.{Designates, Leads, at, inside, resume}
-use Rattle.clos_machine.specs.Meaning.{closed}
-use Rattle.clos_machine.specs.Objects.{class_found, designated}
-use Rattle.clos_machine.specs.declared.callee.ClassFunction.{ClassFunction}
+use Rattle.clos_machine.specs.clos_meaning.Meaning.{closed}
+use Rattle.clos_machine.specs.clos_meaning.Objects.{class_found, designated}
+use Rattle.clos_machine.specs.clos_meaning.declared.callee.ClassFunction.{ClassFunction}
 use Rattle.clos_machine.specs.declared.machine.Machine.{Machine}
 use Rattle.clos_machine.proofs.Turns.{stopped_through}
 

@@ -7,7 +7,7 @@ use Rattle.clos_generic_core.specs.declared.specializer.Specializer as code
 use Rattle.clos_machine.specs.clos_world.declared.condition.Condition.{Condition}
 use Rattle.clos_machine.specs.clos_world.declared.condition.Stop.{Stop}
 use Rattle.clos_machine.specs.clos_world.declared.condition.Stop.TheVariants.{Refused, Storage}
-use Rattle.clos_machine.specs.FindMethod as find
+use Rattle.clos_machine.specs.clos_meaning.FindMethod as find
 use Rattle.clos_objects_core.specs.declared.find_method.Designator.{Designator}
 use Rattle.clos_objects_core.specs.declared.find_method.Designator.TheVariants.{Class, Named, Eql}
 

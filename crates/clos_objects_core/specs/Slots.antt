@@ -8,7 +8,7 @@ use Rattle.clos_machine.specs.clos_world.World.{State}
 use Rattle.clos_machine.specs.clos_world.declared.condition.Condition.{Condition}
 use Rattle.clos_machine.specs.clos_world.declared.condition.Stop.{Stop}
 use Rattle.clos_machine.specs.clos_world.declared.condition.Stop.TheVariants.{Refused, Storage}
-use Rattle.clos_machine.specs.Slots.{class_value, operation_name}
+use Rattle.clos_machine.specs.clos_meaning.Slots.{class_value, operation_name}
 
 -- ---- arguments by their number
 

@@ -6,15 +6,16 @@ ghost use Rattle.lisp_prims.specs.Primitive.{truth};
 ghost use Rattle.clos_machine.specs.clos_world.clos_precedence.PrecedenceView.{numbers};
 ghost use Rattle.clos_machine.specs.clos_world.Class.{named, class_name, precedence};
 ghost use Rattle.clos_machine.specs.clos_world.World.{class_of, seen};
-ghost use Rattle.clos_machine.specs.ClassFunctions.{Tells, class_answer, class_by_symbol, class_designated, class_name_of, class_of_value, classes_listed, comes_to, found_class, incomplete_class, is_subclass, listed_if_complete, missing, name_of_class, named_by, of_class, of_type, precedence_list_of, precedence_of_class, symbol_in, undefined_class, wrong_number, wrong_type};
+ghost use Rattle.clos_machine.specs.clos_meaning.ClassFunctions.{Tells, class_answer, class_by_symbol, class_designated, class_name_of, class_of_value, classes_listed, comes_to, found_class, incomplete_class, is_subclass, listed_if_complete, missing, name_of_class, named_by, of_class, of_type, precedence_list_of, precedence_of_class, symbol_in, undefined_class, wrong_number, wrong_type};
 ghost use Rattle.clos_machine.specs.Machine.{Designates, Grows, Leads, inside};
 
 use clos_forms::value_named;
-use clos_machine::callee::ClassFunction;
 use clos_machine::fault::{incomplete_class, of_function, wrong_type};
 use clos_machine::machine::{Doing, Machine};
 use clos_machine::truth::{is_true, nil, t};
-use clos_machine::{Condition, ConditionKind, Stop, Values, World, about, about_name, plain};
+use clos_machine::{
+    ClassFunction, Condition, ConditionKind, Stop, Values, World, about, about_name, plain,
+};
 use lisp_data::{ClassId, Name, Naming, Value};
 use lisp_prims::Primitive;
 use lisp_prims::lists::ListFunction;

@@ -4,8 +4,8 @@ ghost use Rattle.lisp_data.specs.Value.{generic};
 ghost use Rattle.lisp_data.specs.ValueView.{value_of};
 ghost use Rattle.clos_generic_core.specs.Specializer.{specializer_of};
 ghost use Rattle.clos_machine.specs.clos_world.World.{seen};
-ghost use Rattle.clos_machine.specs.ClassFunctions.{Tells, comes_to};
-ghost use Rattle.clos_machine.specs.FindMethod.{designator, designators, eql_designator, found_method, is_eql_symbol, method_answer, method_designated, method_with, no_such_method, qualifiers_given, specializer_for, specializers_for, specializers_given, values_of};
+ghost use Rattle.clos_machine.specs.clos_meaning.ClassFunctions.{Tells, comes_to};
+ghost use Rattle.clos_machine.specs.clos_meaning.FindMethod.{designator, designators, eql_designator, found_method, is_eql_symbol, method_answer, method_designated, method_with, no_such_method, qualifiers_given, specializer_for, specializers_for, specializers_given, values_of};
 ghost use Rattle.clos_machine.specs.Machine.{Grows, Leads, inside};
 ghost use Rattle.clos_objects_core.specs.Designators.{Specializes, SpecializesAll, designator_of, designators_of};
 

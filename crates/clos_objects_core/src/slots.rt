@@ -8,21 +8,20 @@ ghost use Rattle.clos_forms.specs.Quotation.{name_value};
 ghost use Rattle.clos_machine.specs.clos_world.clos_store.Store.{slot_found};
 ghost use Rattle.clos_machine.specs.clos_world.Values.{only_value};
 ghost use Rattle.clos_machine.specs.clos_world.World.{State, class_of_instance, seen};
-ghost use Rattle.clos_machine.specs.Accessors.{read_by, written_by};
+ghost use Rattle.clos_machine.specs.clos_meaning.Accessors.{read_by, written_by};
 ghost use Rattle.clos_machine.specs.Machine.{Grows, Leads, Turns, at, inside};
-ghost use Rattle.clos_machine.specs.Meaning.{meaning};
-ghost use Rattle.clos_machine.specs.Outcome.{Gave, Run};
-ghost use Rattle.clos_machine.specs.Slots.{class_value, operation_name, has_slot, instance_in, slot_answer, slot_called, slot_changed, slot_designated, slot_read, slot_set, slot_tested};
+ghost use Rattle.clos_machine.specs.clos_meaning.Meaning.{meaning};
+ghost use Rattle.clos_machine.specs.clos_meaning.Outcome.{Gave, Run};
+ghost use Rattle.clos_machine.specs.clos_meaning.Slots.{class_value, operation_name, has_slot, instance_in, slot_answer, slot_called, slot_changed, slot_designated, slot_read, slot_set, slot_tested};
 ghost use Rattle.clos_objects_core.specs.Slots.{DesignatesSlot, changed_arguments, three_of, two_of};
 
 use crate::class_functions::{symbol_in, truth};
 use clos_forms::{Forms, value_named};
 use clos_generic_core::SystemFunction;
-use clos_machine::callee::SlotFunction;
 use clos_machine::fault::{instance_in, wrong_type};
 use clos_machine::machine::{Doing, Frame, Machine};
 use clos_machine::moves::invoke_under;
-use clos_machine::{ConditionKind, Stop, Values, World, plain};
+use clos_machine::{ConditionKind, SlotFunction, Stop, Values, World, plain};
 use lisp_data::{InstanceId, Name, Value};
 use std::alloc::{AllocError, Global};
 
@@ -177,7 +176,7 @@ pub fn call_slot_function(
     }
 }
 
-#[tactic(auto, using(clos_machine::proofs::Running::turns_of_leads))]
+#[tactic(auto, using(clos_machine::proofs::Runs::turns_of_leads))]
 fn answer(
     alloc: Global,
     machine: &mut Machine,

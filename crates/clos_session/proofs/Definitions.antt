@@ -27,9 +27,9 @@ use Rattle.clos_definition_forms.specs.clos_definition.Class.{cells_needed, clas
 use Rattle.clos_definition_forms.specs.clos_definition.Generic.{eql_forms, generic_refusal, with_defined_generic}
 use Rattle.clos_definition_forms.specs.clos_definition.Method.{eql_form, method_refusal, with_defined_method}
 use Rattle.clos_definition_forms.specs.clos_definition.Removal.{removable, with_removed}
-use Rattle.clos_definition_forms.specs.clos_machine.Meaning.{evaluation}
-use Rattle.clos_definition_forms.specs.clos_machine.Outcome.{Out, Gave, Stopped, Run, then_do, step_then, stopped}
-use Rattle.clos_definition_forms.proofs.clos_machine.Kept.{same, same_then, Kept, evaluation_kept}
+use Rattle.clos_definition_forms.specs.clos_machine.clos_meaning.Meaning.{evaluation}
+use Rattle.clos_definition_forms.specs.clos_machine.clos_meaning.Outcome.{Out, Gave, Stopped, Run, then_do, step_then, stopped}
+use Rattle.clos_definition_forms.proofs.clos_machine.clos_meaning.Kept.{same, same_then, Kept, evaluation_kept}
 use Rattle.clos_definition_forms.specs.Definition.{class_made, define_class, define_generic, define_method, generic_made, method_made, remove_method, removed_if, takes_effect, unless, value_at, values_removed}
 use Rattle.clos_session.specs.Definitions.{DefinesNothing}
 use Rattle.clos_definition_forms.specs.Forms.{form_evaluated, forms_evaluated}

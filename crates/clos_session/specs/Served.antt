@@ -18,9 +18,9 @@ use Rattle.clos_syntax.specs.declared.method.MethodDefinition.{MethodDefinition}
 use Rattle.clos_syntax.specs.declared.top.Top.{Top}
 use Rattle.clos_syntax.specs.declared.top.Top.TheVariants.{DefClass, DefGeneric, DefMethod, Defun, DefVar, RemoveMethod, AddDependent, RemoveDependent, InPackage, Expr}
 use Rattle.clos_definition_forms.specs.clos_definition.Method.{eql_form}
-use Rattle.clos_definition_forms.specs.clos_machine.Callee.{callee_of}
-use Rattle.clos_definition_forms.specs.clos_machine.declared.callee.Callee.{Callee}
-use Rattle.clos_definition_forms.specs.clos_machine.declared.callee.Callee.TheVariants.{Defined}
+use Rattle.clos_definition_forms.specs.clos_machine.clos_meaning.Callee.{callee_of}
+use Rattle.clos_definition_forms.specs.clos_machine.clos_meaning.declared.callee.Callee.{Callee}
+use Rattle.clos_definition_forms.specs.clos_machine.clos_meaning.declared.callee.Callee.TheVariants.{Defined}
 
 -- the system's functions that the program does not call
 abbrev pub is_update : Nam → Bool

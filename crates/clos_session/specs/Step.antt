@@ -8,8 +8,8 @@ use Rattle.clos_syntax.specs.declared.top.Top.TheVariants.{DefClass, DefGeneric,
 use Rattle.clos_definition_forms.specs.clos_world.Class.{named}
 use Rattle.clos_definition_forms.specs.clos_world.World.{State}
 use Rattle.clos_definition_forms.specs.clos_world.declared.condition.ConditionKind.TheVariants.{ProgramError, Unsupported}
-use Rattle.clos_definition_forms.specs.clos_machine.Meaning.{evaluation}
-use Rattle.clos_definition_forms.specs.clos_machine.Outcome.{Gave, Run, stopped}
+use Rattle.clos_definition_forms.specs.clos_machine.clos_meaning.Meaning.{evaluation}
+use Rattle.clos_definition_forms.specs.clos_machine.clos_meaning.Outcome.{Gave, Run, stopped}
 use Rattle.clos_definition_forms.specs.Definition.{define_class, define_generic, define_method, remove_method}
 use Rattle.clos_definition_forms.specs.Function.{define_function}
 use Rattle.clos_session.specs.Served.{is_combination, is_served_top}

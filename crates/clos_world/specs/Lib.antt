@@ -17,3 +17,4 @@ pub use Rattle.clos_store.specs as clos_store
 pub use Rattle.clos_generic_core.specs as clos_generic_core
 pub use Rattle.clos_generic.specs as clos_generic
 pub use Rattle.clos_comb.specs as clos_comb
+pub use Rattle.clos_lambda.specs as clos_lambda

@@ -1,8 +1,8 @@
 use Rattle.std.proofs.Common.{[], ◌∷◌, Ok, ap, subst, ◌∙◌}
 use Rattle.clos_machine.specs.clos_world.World.{seen, bound_as}
 use Rattle.clos_machine.specs.Machine.{Leads, given_to, resume, with_init}
-use Rattle.clos_machine.specs.Meaning.{closed, meaning}
-use Rattle.clos_machine.specs.Parameters.{init}
+use Rattle.clos_machine.specs.clos_meaning.Meaning.{closed, meaning}
+use Rattle.clos_machine.specs.clos_meaning.Parameters.{init}
 use Rattle.clos_machine.specs.declared.machine.Doing.TheVariants.{Start}
 use Rattle.clos_machine.specs.declared.machine.Frame.TheVariants.{Bind, Body}
 use Rattle.clos_calls.proofs.Settled.{settled_stops, settled_goes, init_begins}

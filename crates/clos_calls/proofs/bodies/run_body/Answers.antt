@@ -1,9 +1,9 @@
 use Rattle.std.proofs.Common.{sym, ap, subst, ◌∙◌}
 use Rattle.clos_machine.specs.clos_world.World.{seen}
-use Rattle.clos_machine.specs.Bodies.{body_run}
+use Rattle.clos_machine.specs.clos_meaning.Bodies.{body_run}
 use Rattle.clos_machine.specs.Machine.{Leads, inside}
-use Rattle.clos_machine.specs.Meaning.{meaning}
-use Rattle.clos_machine.specs.Parameters.{required_sources, sources}
+use Rattle.clos_machine.specs.clos_meaning.Meaning.{meaning}
+use Rattle.clos_machine.specs.clos_meaning.Parameters.{required_sources, sources}
 use Rattle.clos_calls.proofs.Settled.{plain_sources}
 use Rattle.clos_calls.proofs.bodies.run_body.Goals as goal
 

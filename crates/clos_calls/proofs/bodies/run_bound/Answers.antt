@@ -2,9 +2,9 @@ use Rattle.std.proofs.Common.{map, refl}
 use Rattle.lisp_data.specs.Value as value
 use Rattle.lisp_data.specs.ValueView.{value_of}
 use Rattle.clos_machine.specs.clos_world.World.{seen}
-use Rattle.clos_machine.specs.Bodies.{scoped}
-use Rattle.clos_machine.specs.Control.{sequence}
-use Rattle.clos_machine.specs.Meaning.{meaning}
+use Rattle.clos_machine.specs.clos_meaning.Bodies.{scoped}
+use Rattle.clos_machine.specs.clos_meaning.Control.{sequence}
+use Rattle.clos_machine.specs.clos_meaning.Meaning.{meaning}
 use Rattle.clos_calls.proofs.Settled.{bound_stops, bound_goes}
 use Rattle.clos_calls.proofs.bodies.run_bound.Goals as goal
 

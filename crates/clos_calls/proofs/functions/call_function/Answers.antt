@@ -1,10 +1,10 @@
 use Rattle.std.proofs.Common.{ap, subst, sym, ◌∙◌}
 use Rattle.clos_machine.specs.clos_world.World.{seen}
-use Rattle.clos_machine.specs.Bodies.{body_run}
+use Rattle.clos_machine.specs.clos_meaning.Bodies.{body_run}
 use Rattle.clos_machine.specs.Machine.{Leads, inside}
-use Rattle.clos_machine.specs.Meaning.{meaning}
-use Rattle.clos_machine.specs.Parameters.{fits, sources}
-use Rattle.clos_machine.proofs.Running.{applied_runs}
+use Rattle.clos_machine.specs.clos_meaning.Meaning.{meaning}
+use Rattle.clos_machine.specs.clos_meaning.Parameters.{fits, sources}
+use Rattle.clos_machine.proofs.Runs.{applied_runs}
 use Rattle.clos_calls.proofs.functions.call_function.Goals as goal
 
 pub returns-clause-leads : goal.returns-clause-leads

@@ -2,9 +2,9 @@ use Rattle.std.proofs.Common.{ap}
 use Rattle.clos_forms.specs.Quotation.{name_value}
 use Rattle.clos_machine.specs.clos_world.Functions.{function_in}
 use Rattle.clos_machine.specs.clos_world.World.{seen}
-use Rattle.clos_machine.specs.Calls.{called_defined, applied_to}
+use Rattle.clos_machine.specs.clos_meaning.Calls.{called_defined, applied_to}
 use Rattle.clos_machine.specs.Machine.{inside}
-use Rattle.clos_machine.specs.Meaning.{meaning}
+use Rattle.clos_machine.specs.clos_meaning.Meaning.{meaning}
 use Rattle.clos_machine.proofs.Turns.{leads_same}
 use Rattle.clos_calls.proofs.functions.call_named.Goals as goal
 

@@ -3,10 +3,10 @@ use Rattle.clos_machine.specs.clos_world.FunctionName.{setter_value}
 use Rattle.clos_machine.specs.clos_world.Functions.{function_in}
 use Rattle.clos_machine.specs.clos_world.Values.{last_first}
 use Rattle.clos_machine.specs.clos_world.World.{seen}
-use Rattle.clos_machine.specs.Calls.{called_defined, called_setter, called_setter_by}
-use Rattle.clos_machine.specs.GenericCalls.{called_generic}
+use Rattle.clos_machine.specs.clos_meaning.Calls.{called_defined, called_setter, called_setter_by}
+use Rattle.clos_machine.specs.clos_meaning.GenericCalls.{called_generic}
 use Rattle.clos_machine.specs.Machine.{inside}
-use Rattle.clos_machine.specs.Meaning.{meaning}
+use Rattle.clos_machine.specs.clos_meaning.Meaning.{meaning}
 use Rattle.clos_machine.proofs.Turns.{leads_same}
 use Rattle.clos_calls.proofs.functions.call_setter.Goals as goal
 

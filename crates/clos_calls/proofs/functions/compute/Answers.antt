@@ -3,7 +3,7 @@ use Rattle.lisp_data.specs.ValueView.{value_of}
 use Rattle.lisp_prims.specs.Fault.{AnswersUnlessMemory}
 use Rattle.lisp_prims.specs.Primitive.{answer}
 use Rattle.clos_machine.specs.clos_world.World.{seen}
-use Rattle.clos_machine.proofs.Running.{not_computed}
+use Rattle.clos_machine.proofs.Runs.{not_computed}
 use Rattle.clos_calls.proofs.functions.compute.Goals as goal
 
 pub returns-in-Err-clause-leads : goal.returns-in-Err-clause-leads

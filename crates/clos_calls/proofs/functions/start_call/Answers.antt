@@ -1,6 +1,6 @@
 use Rattle.std.proofs.Common.{ap, ◌∙◌}
-use Rattle.clos_machine.specs.Machine.{at}
-use Rattle.clos_machine.specs.Meaning.{acted, collect, meaning}
+use Rattle.clos_machine.specs.Machine.{at, acted}
+use Rattle.clos_machine.specs.clos_meaning.Meaning.{collect, meaning}
 use Rattle.clos_machine.specs.declared.machine.Action.TheVariants.{Call}
 use Rattle.clos_calls.proofs.functions.start_call.Goals as goal
 

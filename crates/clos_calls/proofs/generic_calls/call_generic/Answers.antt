@@ -1,7 +1,7 @@
 use Rattle.std.proofs.Common.{ap, sym, ◌∙◌, slice_get}
 use Rattle.clos_machine.specs.clos_world.Dispatch.{ordered}
 use Rattle.clos_machine.specs.clos_world.World.{seen}
-use Rattle.clos_machine.specs.Meaning.{meaning}
+use Rattle.clos_machine.specs.clos_meaning.Meaning.{meaning}
 use Rattle.clos_calls.specs.GenericCalls.{takes_in}
 use Rattle.clos_calls.proofs.Dispatching.{none_called, some_called, wrong_count}
 use Rattle.clos_calls.proofs.generic_calls.call_generic.Goals as goal

@@ -3,8 +3,8 @@ use Rattle.lisp_data.specs.ValueView.{value_of}
 use Rattle.clos_comb.specs.Effective as comb
 use Rattle.clos_comb.specs.OutcomeView.{combined_of}
 use Rattle.clos_machine.specs.clos_world.World.{seen}
-use Rattle.clos_machine.specs.GenericCalls.{after_positional, keywords_fit}
-use Rattle.clos_machine.specs.Meaning.{meaning}
+use Rattle.clos_machine.specs.clos_meaning.GenericCalls.{after_positional, keywords_fit}
+use Rattle.clos_machine.specs.clos_meaning.Meaning.{meaning}
 use Rattle.clos_calls.proofs.Dispatching.{keywords_right, keywords_wrong}
 use Rattle.clos_calls.proofs.generic_calls.call_matched.Goals as goal
 

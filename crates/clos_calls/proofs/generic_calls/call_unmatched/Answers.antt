@@ -5,9 +5,9 @@ use Rattle.clos_generic_core.specs.System.{system_number}
 use Rattle.clos_generic_core.specs.declared.system.SystemFunction.TheVariants.{NoApplicableMethod}
 use Rattle.clos_machine.specs.clos_world.Dispatch.{ordered}
 use Rattle.clos_machine.specs.clos_world.World.{seen}
-use Rattle.clos_machine.specs.GenericCalls.{matched}
+use Rattle.clos_machine.specs.clos_meaning.GenericCalls.{matched}
 use Rattle.clos_machine.specs.Machine.{Leads, inside}
-use Rattle.clos_machine.specs.Meaning.{meaning}
+use Rattle.clos_machine.specs.clos_meaning.Meaning.{meaning}
 use Rattle.clos_calls.proofs.Dispatching.{function_there, nothing_there, none_told, some_told, untold}
 use Rattle.clos_calls.proofs.generic_calls.call_unmatched.Goals as goal
 

@@ -1,8 +1,8 @@
 use Rattle.std.proofs.Common.{slice_get, subst}
 use Rattle.clos_machine.specs.clos_world.World.{seen}
-use Rattle.clos_machine.specs.GenericCalls.{called_generic}
+use Rattle.clos_machine.specs.clos_meaning.GenericCalls.{called_generic}
 use Rattle.clos_machine.specs.Machine.{Leads, inside}
-use Rattle.clos_machine.specs.Meaning.{meaning}
+use Rattle.clos_machine.specs.clos_meaning.Meaning.{meaning}
 use Rattle.clos_calls.proofs.generic_calls.invoke.Goals as goal
 
 pub returns-clause-leads : goal.returns-clause-leads

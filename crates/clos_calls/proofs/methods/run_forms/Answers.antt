@@ -1,6 +1,6 @@
 use Rattle.std.proofs.Common.{ap, sym, ◌∙◌}
 use Rattle.clos_machine.specs.clos_world.World.{seen}
-use Rattle.clos_machine.specs.Calls.{keys_are_even}
+use Rattle.clos_machine.specs.clos_meaning.Calls.{keys_are_even}
 use Rattle.clos_calls.proofs.Accessing.{keys_even}
 use Rattle.clos_calls.proofs.methods.run_forms.Goals as goal
 

@@ -1,9 +1,9 @@
 use Rattle.std.proofs.Common.{slice_get, subst}
 use Rattle.clos_machine.specs.clos_world.World.{seen}
-use Rattle.clos_machine.specs.Calls.{method_run}
-use Rattle.clos_machine.specs.Contexts.{running, with_arguments}
+use Rattle.clos_machine.specs.clos_meaning.Calls.{method_run}
+use Rattle.clos_machine.specs.clos_meaning.Contexts.{running, with_arguments}
 use Rattle.clos_machine.specs.Machine.{Leads, inside}
-use Rattle.clos_machine.specs.Meaning.{meaning}
+use Rattle.clos_machine.specs.clos_meaning.Meaning.{meaning}
 use Rattle.clos_machine.proofs.Turns.{no_method}
 use Rattle.clos_calls.proofs.methods.run_method.Goals as goal
 

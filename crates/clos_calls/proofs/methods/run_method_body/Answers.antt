@@ -1,7 +1,7 @@
 use Rattle.std.proofs.Common.{map}
 use Rattle.lisp_data.specs.ValueView.{value_of}
 use Rattle.clos_machine.specs.clos_world.World.{seen}
-use Rattle.clos_machine.specs.Contexts.{running, with_arguments}
+use Rattle.clos_machine.specs.clos_meaning.Contexts.{running, with_arguments}
 use Rattle.clos_calls.proofs.Accessing.{body_of_forms, body_of_system, body_reads, body_writes}
 use Rattle.clos_calls.proofs.methods.run_method_body.Goals as goal
 

@@ -1,8 +1,8 @@
 use Rattle.std.proofs.Common.{Err, None, subst, ◌≡◌}
 use Rattle.clos_machine.specs.clos_world.World.{seen}
 use Rattle.clos_machine.specs.Machine.{Leads, inside}
-use Rattle.clos_machine.specs.Meaning.{meaning}
-use Rattle.clos_machine.specs.NextMethods.{next_called}
+use Rattle.clos_machine.specs.clos_meaning.Meaning.{meaning}
+use Rattle.clos_machine.specs.clos_meaning.NextMethods.{next_called}
 use Rattle.clos_calls.specs.NextMethods.{Refuses, refusal_of}
 use Rattle.clos_calls.proofs.Nexting.{next_passes, next_refused}
 use Rattle.clos_calls.proofs.next_methods.call_next_given.Goals as goal

@@ -1,6 +1,6 @@
 use Rattle.clos_machine.specs.clos_world.World.{seen}
 use Rattle.clos_machine.specs.Machine.{at}
-use Rattle.clos_machine.specs.Meaning.{meaning, next_method}
+use Rattle.clos_machine.specs.clos_meaning.Meaning.{meaning, next_method}
 use Rattle.clos_calls.proofs.Nexting.{none_given, some_given}
 use Rattle.clos_calls.proofs.next_methods.call_next_method.Goals as goal
 

@@ -1,6 +1,7 @@
+use Rattle.clos_machine.specs.Machine.{acted}
 use Rattle.std.proofs.Common.{refl}
 use Rattle.clos_machine.specs.clos_world.World.{seen}
-use Rattle.clos_machine.specs.Meaning.{acted, collect, meaning}
+use Rattle.clos_machine.specs.clos_meaning.Meaning.{collect, meaning}
 use Rattle.clos_control.proofs.Taken.{turns_of_took}
 use Rattle.clos_control.proofs.arguments.collect_values.Goals as goal
 

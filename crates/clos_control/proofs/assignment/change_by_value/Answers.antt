@@ -1,6 +1,6 @@
 use Rattle.lisp_data.specs.ValueView.{value_of}
 use Rattle.clos_machine.specs.clos_world.World.{seen}
-use Rattle.clos_machine.proofs.Running.{not_changed}
+use Rattle.clos_machine.proofs.Runs.{not_changed}
 use Rattle.clos_control.proofs.assignment.change_by_value.Goals as goal
 
 pub returns-in-Err-clause-turns : goal.returns-in-Err-clause-turns

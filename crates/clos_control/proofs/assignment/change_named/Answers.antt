@@ -1,7 +1,7 @@
 use Rattle.std.proofs.Common.{ap, sym, ◌∙◌, [], Some}
 use Rattle.clos_forms.specs.OperatorView.{place_of}
-use Rattle.clos_machine.specs.Machine.{at}
-use Rattle.clos_machine.specs.Meaning.{acted, changed_by, meaning, with_amount}
+use Rattle.clos_machine.specs.Machine.{at, acted}
+use Rattle.clos_machine.specs.clos_meaning.Meaning.{changed_by, meaning, with_amount}
 use Rattle.clos_machine.specs.declared.machine.Action.TheVariants.{Change}
 use Rattle.clos_control.proofs.assignment.change_named.Goals as goal
 

@@ -1,6 +1,6 @@
 use Rattle.std.proofs.Common.{ap, ◌∙◌, []}
-use Rattle.clos_machine.specs.Machine.{at}
-use Rattle.clos_machine.specs.Meaning.{acted, collect, meaning}
+use Rattle.clos_machine.specs.Machine.{at, acted}
+use Rattle.clos_machine.specs.clos_meaning.Meaning.{collect, meaning}
 use Rattle.clos_machine.specs.declared.machine.Action.TheVariants.{Amount}
 use Rattle.clos_control.proofs.assignment.change_through.Goals as goal
 

@@ -2,7 +2,7 @@ use Rattle.std.proofs.Common.{subst, Err, ◌∷◌, ◌++◌, [], ap, ◌∙◌
 use Rattle.lisp_data.specs.ValueView.{value_of}
 use Rattle.lisp_prims.specs.Fault.{AnswersUnlessMemory}
 use Rattle.lisp_prims.specs.Primitive.{answer}
-use Rattle.clos_machine.proofs.Running.{not_made}
+use Rattle.clos_machine.proofs.Runs.{not_made}
 use Rattle.clos_control.proofs.assignment.combine.Goals as goal
 
 pub returns : goal.returns

@@ -1,7 +1,7 @@
 use Rattle.lisp_data.specs.ValueView.{value_of}
 use Rattle.clos_machine.specs.clos_world.World.{seen}
 use Rattle.clos_machine.specs.Machine.{at}
-use Rattle.clos_machine.proofs.Running.{made_from}
+use Rattle.clos_machine.proofs.Runs.{made_from}
 use Rattle.clos_control.proofs.assignment.new_value_of.Goals as goal
 
 pub returns-in-Some : goal.returns-in-Some

@@ -1,7 +1,7 @@
 use Rattle.std.proofs.Common.{ap, refl, ◌∙◌, ◌++◌, ◌∷◌, []}
-use Rattle.clos_machine.specs.Machine.{at}
-use Rattle.clos_machine.specs.Meaning.{acted, collect, meaning, setf}
-use Rattle.clos_machine.specs.Outcome.{then_do}
+use Rattle.clos_machine.specs.Machine.{at, acted}
+use Rattle.clos_machine.specs.clos_meaning.Meaning.{collect, meaning, setf}
+use Rattle.clos_machine.specs.clos_meaning.Outcome.{then_do}
 use Rattle.clos_machine.specs.declared.machine.Action.TheVariants.{NewValue}
 use Rattle.clos_control.proofs.assignment.set_by.Goals as goal
 

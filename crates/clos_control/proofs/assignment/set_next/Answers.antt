@@ -1,7 +1,7 @@
 use Rattle.std.proofs.Common.{ap, sym, ◌∙◌}
 use Rattle.lisp_data.specs.ValueView.{value_of}
 use Rattle.clos_machine.specs.Machine.{at}
-use Rattle.clos_machine.specs.Meaning.{meaning, setq}
+use Rattle.clos_machine.specs.clos_meaning.Meaning.{meaning, setq}
 use Rattle.clos_control.proofs.assignment.set_next.Goals as goal
 
 pub returns-in-Some-clause-leads : goal.returns-in-Some-clause-leads

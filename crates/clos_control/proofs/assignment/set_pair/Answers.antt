@@ -1,7 +1,7 @@
 use Rattle.std.proofs.Common.{ap, sym, ◌∙◌}
 use Rattle.clos_forms.specs.Form.{cons}
 use Rattle.clos_machine.specs.Machine.{at}
-use Rattle.clos_machine.specs.Meaning.{setf, meaning}
+use Rattle.clos_machine.specs.clos_meaning.Meaning.{setf, meaning}
 use Rattle.clos_control.proofs.assignment.set_pair.Goals as goal
 
 pub returns-in-Some-clause-leads : goal.returns-in-Some-clause-leads

@@ -1,8 +1,8 @@
 use Rattle.std.proofs.Common.{ap, sym, ◌∙◌, Some}
 use Rattle.clos_forms.specs.OperatorView.{place_of}
-use Rattle.clos_machine.specs.Machine.{at}
-use Rattle.clos_machine.specs.Meaning.{assigned, collected, meaning, setf}
-use Rattle.clos_machine.specs.Outcome.{then_do}
+use Rattle.clos_machine.specs.Machine.{at, collected}
+use Rattle.clos_machine.specs.clos_meaning.Meaning.{assigned, meaning, setf}
+use Rattle.clos_machine.specs.clos_meaning.Outcome.{then_do}
 use Rattle.clos_machine.specs.declared.machine.Action.TheVariants.{NewValue}
 use Rattle.clos_machine.specs.declared.machine.Target.TheVariants.{Call}
 use Rattle.clos_control.proofs.assignment.set_to.Goals as goal

@@ -1,7 +1,7 @@
 use Rattle.std.proofs.Common.{◌∙◌, sym}
 use Rattle.lisp_data.specs.ValueView.{value_of}
 use Rattle.clos_machine.specs.clos_world.World.{seen}
-use Rattle.clos_machine.proofs.Running.{global_unbound, global_no_step}
+use Rattle.clos_machine.proofs.Runs.{global_unbound, global_no_step}
 use Rattle.clos_control.proofs.assignment.store_globally.Goals as goal
 
 pub returns-then-not-has-clause-turns : goal.returns-then-not-has-clause-turns

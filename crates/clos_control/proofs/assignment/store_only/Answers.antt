@@ -1,6 +1,6 @@
 use Rattle.clos_machine.specs.clos_world.Values.{only_value}
 use Rattle.clos_machine.specs.clos_world.World.{seen}
-use Rattle.clos_machine.proofs.Running.{nothing_stored}
+use Rattle.clos_machine.proofs.Runs.{nothing_stored}
 use Rattle.clos_control.proofs.assignment.store_only.Goals as goal
 
 pub returns-in-None-clause-turns : goal.returns-in-None-clause-turns

@@ -1,6 +1,6 @@
 use Rattle.std.proofs.Common.{ap, sym, ◌∙◌}
-use Rattle.clos_machine.specs.Machine.{at}
-use Rattle.clos_machine.specs.Meaning.{acted, collect, with_amount, meaning}
+use Rattle.clos_machine.specs.Machine.{at, acted}
+use Rattle.clos_machine.specs.clos_meaning.Meaning.{collect, with_amount, meaning}
 use Rattle.clos_control.proofs.assignment.with_amount.Goals as goal
 
 pub returns-in-Some-clause-leads : goal.returns-in-Some-clause-leads

@@ -1,8 +1,8 @@
-use Rattle.clos_machine.specs.Control.{sequence}
+use Rattle.clos_machine.specs.clos_meaning.Control.{sequence}
 use Rattle.clos_machine.specs.Machine.{at, loop_of}
-use Rattle.clos_machine.specs.Meaning.{meaning}
-use Rattle.clos_machine.specs.Outcome.{Run, then_do}
-use Rattle.clos_machine.specs.Variables.{body_of, turns, with_count}
+use Rattle.clos_machine.specs.clos_meaning.Meaning.{meaning}
+use Rattle.clos_machine.specs.clos_meaning.Outcome.{Run, then_do}
+use Rattle.clos_machine.specs.clos_meaning.Variables.{body_of, turns, with_count}
 use Rattle.lisp_data.specs.Value.{list, nil}
 use Rattle.std.proofs.Common.{ap}
 use Rattle.std.specs.Prelude.{pos}

@@ -1,9 +1,9 @@
 use Rattle.std.proofs.Common.{ap, sym, refl, ◌∙◌}
 use Rattle.clos_machine.specs.clos_world.World.{seen, bound_as}
 use Rattle.clos_machine.specs.Machine.{inside, resume, with_next}
-use Rattle.clos_machine.specs.Meaning.{meaning, closed}
-use Rattle.clos_machine.specs.Outcome.{Run}
-use Rattle.clos_machine.specs.Variables.{in_order}
+use Rattle.clos_machine.specs.clos_meaning.Meaning.{meaning, closed}
+use Rattle.clos_machine.specs.clos_meaning.Outcome.{Run}
+use Rattle.clos_machine.specs.clos_meaning.Variables.{in_order}
 use Rattle.clos_control.proofs.Unset.{skipped, order_skips, not_skipped}
 use Rattle.clos_machine.proofs.Turns.{leads_same}
 use Rattle.clos_control.proofs.binding.bind_in_order.Goals as goal

@@ -1,8 +1,8 @@
 use Rattle.std.proofs.Common.{ap, refl, ◌∙◌}
 use Rattle.clos_machine.specs.clos_world.World.{seen, bound_as}
-use Rattle.clos_machine.specs.Meaning.{meaning, closed}
-use Rattle.clos_machine.specs.Outcome.{Run}
-use Rattle.clos_machine.specs.Variables.{in_order}
+use Rattle.clos_machine.specs.clos_meaning.Meaning.{meaning, closed}
+use Rattle.clos_machine.specs.clos_meaning.Outcome.{Run}
+use Rattle.clos_machine.specs.clos_meaning.Variables.{in_order}
 use Rattle.clos_machine.specs.Machine.{inside, resume}
 use Rattle.clos_machine.proofs.Turns.{leads_same}
 use Rattle.clos_control.proofs.binding.bind_one.Goals as goal

@@ -1,7 +1,7 @@
 use Rattle.clos_machine.specs.Machine.{at, loop_of}
-use Rattle.clos_machine.specs.Meaning.{meaning}
-use Rattle.clos_machine.specs.Outcome.{Run, then_do}
-use Rattle.clos_machine.specs.Variables.{leaving, result_value, with_count}
+use Rattle.clos_machine.specs.clos_meaning.Meaning.{meaning}
+use Rattle.clos_machine.specs.clos_meaning.Outcome.{Run, then_do}
+use Rattle.clos_machine.specs.clos_meaning.Variables.{leaving, result_value, with_count}
 use Rattle.std.proofs.Common.{ap}
 use Rattle.std.specs.Prelude.{pos}
 use Rattle.clos_machine.proofs.Turns.{leads_bound}

@@ -2,9 +2,9 @@ use Rattle.std.proofs.Common.{ap, refl, ◌∙◌}
 use Rattle.lisp_data.specs.Value.{list, nil}
 use Rattle.clos_machine.specs.clos_world.World.{bound_as}
 use Rattle.clos_machine.specs.Machine.{inside, resume}
-use Rattle.clos_machine.specs.Meaning.{meaning, closed}
-use Rattle.clos_machine.specs.Outcome.{Run}
-use Rattle.clos_machine.specs.Variables.{within}
+use Rattle.clos_machine.specs.clos_meaning.Meaning.{meaning, closed}
+use Rattle.clos_machine.specs.clos_meaning.Outcome.{Run}
+use Rattle.clos_machine.specs.clos_meaning.Variables.{within}
 use Rattle.clos_machine.proofs.Turns.{leads_same}
 use Rattle.clos_control.proofs.binding.run_beside.Goals as goal
 

@@ -2,9 +2,9 @@ use Rattle.std.proofs.Common.{arith, ap, ◌∙◌, refl}
 use Rattle.std.specs.Prelude.{pos}
 use Rattle.clos_machine.specs.clos_world.World.{seen}
 use Rattle.clos_machine.specs.Machine.{inside, loop_of, at, resume}
-use Rattle.clos_machine.specs.Meaning.{meaning, closed}
-use Rattle.clos_machine.specs.Variables.{turns}
-use Rattle.clos_machine.proofs.Running.{turns_of_leads, loop_ends, loop_no_step, turn_of, loop_turns}
+use Rattle.clos_machine.specs.clos_meaning.Meaning.{meaning, closed}
+use Rattle.clos_machine.specs.clos_meaning.Variables.{turns}
+use Rattle.clos_machine.proofs.Runs.{turns_of_leads, loop_ends, loop_no_step, turn_of, loop_turns}
 use Rattle.clos_control.proofs.binding.turn.Goals as goal
 
 pub returns-in-None-clause-turns : goal.returns-in-None-clause-turns

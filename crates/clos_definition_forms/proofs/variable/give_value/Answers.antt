@@ -1,7 +1,7 @@
 use Rattle.std.proofs.Common.{◌-◌, ap, ◌∙◌}
 use Rattle.clos_machine.specs.clos_world.World.{seen}
-use Rattle.clos_machine.specs.Meaning.{evaluation}
-use Rattle.clos_machine.specs.Outcome.{step_then, then_do}
+use Rattle.clos_machine.specs.clos_meaning.Meaning.{evaluation}
+use Rattle.clos_machine.specs.clos_meaning.Outcome.{step_then, then_do}
 use Rattle.clos_definition_forms.specs.Variable.{given_value, value_given}
 use Rattle.clos_definition_forms.proofs.Evaluations.{answers_same, changed_after}
 use Rattle.clos_definition_forms.proofs.variable.give_value.Goals as goal

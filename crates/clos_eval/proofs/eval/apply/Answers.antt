@@ -3,14 +3,14 @@ use Rattle.lisp_prims.specs.Primitive.{answer}
 use Rattle.clos_forms.specs.declared.operator.FunctionName.TheVariants.{Symbol}
 use Rattle.clos_machine.specs.clos_world.clos_generic.Table.{named}
 use Rattle.clos_machine.specs.clos_world.World.{class_of, seen}
-use Rattle.clos_machine.specs.Calls.{called_function}
-use Rattle.clos_machine.specs.ClassFunctions.{class_answer, comes_to}
-use Rattle.clos_machine.specs.Fault.{answered}
-use Rattle.clos_machine.specs.FindMethod.{method_answer}
-use Rattle.clos_machine.specs.Functions.{applied}
-use Rattle.clos_machine.specs.Meaning.{meaning}
+use Rattle.clos_machine.specs.clos_meaning.Calls.{called_function}
+use Rattle.clos_machine.specs.clos_meaning.ClassFunctions.{class_answer, comes_to}
+use Rattle.clos_machine.specs.clos_meaning.Fault.{answered}
+use Rattle.clos_machine.specs.clos_meaning.FindMethod.{method_answer}
+use Rattle.clos_machine.specs.clos_meaning.Functions.{applied}
+use Rattle.clos_machine.specs.clos_meaning.Meaning.{meaning}
 use Rattle.clos_machine.specs.Machine.{Turns, inside}
-use Rattle.clos_machine.proofs.Running.{turns_of_leads}
+use Rattle.clos_machine.proofs.Runs.{turns_of_leads}
 use Rattle.clos_eval.proofs.Calling.{turns_of_call}
 use Rattle.clos_eval.proofs.eval.apply.Goals as goal
 

@@ -1,8 +1,8 @@
 use Rattle.std.proofs.Common.{◌-◌, arith, ap, sym, ◌∙◌}
 use Rattle.clos_machine.specs.clos_world.World.{seen}
-use Rattle.clos_machine.specs.Outcome.{Stopped}
+use Rattle.clos_machine.specs.clos_meaning.Outcome.{Stopped}
 use Rattle.clos_machine.specs.Machine.{at}
-use Rattle.clos_machine.proofs.Running.{start_no_step, start_too_deep, start_begins, start_begins_at}
+use Rattle.clos_machine.proofs.Runs.{start_no_step, start_too_deep, start_begins, start_begins_at}
 use Rattle.clos_eval.proofs.eval.begin_form.Goals as goal
 
 pub returns-then-steps-eq0-clause-turns : goal.returns-then-steps-eq0-clause-turns

@@ -1,15 +1,15 @@
 use Rattle.std.proofs.Common.{[], subst, arith, Ok, Err}
 use Rattle.lisp_data.specs.ValueView.{value_of}
 use Rattle.clos_machine.specs.clos_world.World.{seen}
-use Rattle.clos_machine.specs.Contexts.{known}
-use Rattle.clos_machine.specs.Meaning.{evaluation}
-use Rattle.clos_machine.specs.Outcome.{Run}
+use Rattle.clos_machine.specs.clos_meaning.Contexts.{known}
+use Rattle.clos_machine.specs.clos_meaning.Meaning.{evaluation}
+use Rattle.clos_machine.specs.clos_meaning.Outcome.{Run}
 use Rattle.clos_machine.specs.Machine.{at, Reached, denote, given_to, below}
 use Rattle.clos_machine.specs.declared.machine.Doing.TheVariants.{Start, Act, Invoke, Give}
 use Rattle.clos_machine.specs.declared.machine.Doing.TheVariants as doing
 use Rattle.clos_machine.specs.declared.machine.Machine.{Machine}
 use Rattle.clos_machine.proofs.Quiet.{evaluation_quiet, start_quiet, collecting_quiet, act_quiet, invoke_quiet, loop_quiet, frame_quiet}
-use Rattle.clos_machine.proofs.Running.{turns_of_leads, reached_on, reached_same, ended, popped}
+use Rattle.clos_machine.proofs.Runs.{turns_of_leads, reached_on, reached_same, ended, popped}
 use Rattle.clos_eval.proofs.Calling.{turns_of_call}
 use Rattle.clos_eval.proofs.eval.evaluate.Goals as goal
 

@@ -1,5 +1,5 @@
 use Rattle.clos_machine.specs.clos_world.World.{seen}
-use Rattle.clos_machine.specs.Meaning.{evaluation}
+use Rattle.clos_machine.specs.clos_meaning.Meaning.{evaluation}
 use Rattle.clos_machine.specs.Machine.{Reached, denote, weight}
 use Rattle.clos_eval.proofs.eval.evaluate.Given as goal
 

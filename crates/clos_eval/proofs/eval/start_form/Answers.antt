@@ -2,7 +2,7 @@ use Rattle.std.proofs.Common.{subst}
 use Rattle.clos_forms.specs.Form.{parts_in}
 use Rattle.clos_forms.specs.OperatorView.{operator_of}
 use Rattle.clos_machine.specs.clos_world.World.{seen}
-use Rattle.clos_machine.specs.Meaning.{meaning, operated}
+use Rattle.clos_machine.specs.clos_meaning.Meaning.{meaning, operated}
 use Rattle.clos_machine.specs.Machine.{Leads, inside}
 use Rattle.clos_eval.proofs.eval.start_form.Goals as goal
 

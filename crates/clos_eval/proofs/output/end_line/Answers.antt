@@ -1,5 +1,5 @@
 use Rattle.clos_machine.specs.clos_world.World.{seen}
-use Rattle.clos_machine.proofs.Running.{line_refused}
+use Rattle.clos_machine.proofs.Runs.{line_refused}
 use Rattle.clos_eval.proofs.output.end_line.Goals as goal
 
 pub returns-in_default-clause-turns : goal.returns-in_default-clause-turns

@@ -1,6 +1,6 @@
 use Rattle.clos_machine.specs.clos_world.Values.{only_value}
 use Rattle.clos_machine.specs.clos_world.World.{seen}
-use Rattle.clos_machine.proofs.Running.{nothing_printed}
+use Rattle.clos_machine.proofs.Runs.{nothing_printed}
 use Rattle.clos_eval.proofs.output.print.Goals as goal
 
 pub returns-in_default-clause-turns : goal.returns-in_default-clause-turns

@@ -1,6 +1,6 @@
 use Rattle.lisp_data.specs.ValueView.{value_of}
 use Rattle.clos_machine.specs.clos_world.World.{seen}
-use Rattle.clos_machine.proofs.Running.{wrote, not_written}
+use Rattle.clos_machine.proofs.Runs.{wrote, not_written}
 use Rattle.clos_eval.proofs.output.write_giving.Goals as goal
 
 pub returns-in-Ok-clause-turns : goal.returns-in-Ok-clause-turns

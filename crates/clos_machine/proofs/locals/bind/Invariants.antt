@@ -1,8 +1,8 @@
 use Rattle.std.proofs.Common.{◌≡◌, [], length, map}
 use Rattle.lisp_data.specs.ValueView.{value_of}
-use Rattle.clos_world.specs.World.{seen}
+use Rattle.clos_meaning.specs.clos_world.World.{seen}
 use Rattle.clos_machine.specs.Machine.{settled}
-use Rattle.clos_machine.specs.Parameters.{required_sources}
+use Rattle.clos_meaning.specs.Parameters.{required_sources}
 use Rattle.clos_machine.proofs.locals.bind.Given as goal
 
 abbrev pub invariant-loop-name : goal.invariant-loop-name

@@ -1,5 +1,5 @@
 use Rattle.std.proofs.Common.{◌≡◌, length}
-use Rattle.clos_world.specs.World.{seen}
+use Rattle.clos_meaning.specs.clos_world.World.{seen}
 use Rattle.clos_machine.specs.Machine.{unset}
 use Rattle.clos_machine.proofs.locals.bind_unset.Given as goal
 

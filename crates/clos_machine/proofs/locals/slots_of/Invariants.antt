@@ -1,7 +1,7 @@
 use Rattle.std.proofs.Common.{◌≡◌, ◌++◌, length, map}
 use Rattle.lisp_data.specs.ValueView.{value_of}
 use Rattle.clos_forms.specs.BoundView.{bound_slot}
-use Rattle.clos_machine.specs.SlotNames.{slot_locals}
+use Rattle.clos_meaning.specs.SlotNames.{slot_locals}
 use Rattle.clos_machine.proofs.locals.slots_of.Given as goal
 
 abbrev pub invariant-loop-last : goal.invariant-loop-last

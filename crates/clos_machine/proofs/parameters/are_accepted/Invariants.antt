@@ -1,6 +1,6 @@
 use Rattle.std.proofs.Common.{◌≡◌, length, map}
 use Rattle.lisp_data.specs.ValueView.{value_of}
-use Rattle.clos_machine.specs.Parameters.{are_accepted}
+use Rattle.clos_meaning.specs.Parameters.{are_accepted}
 use Rattle.clos_machine.proofs.parameters.are_accepted.Given as goal
 
 abbrev pub invariant-loop-name : goal.invariant-loop-name

@@ -1,6 +1,6 @@
 use Rattle.std.proofs.Common.{◌≡◌, length, map}
 use Rattle.lisp_data.specs.ValueView.{value_of}
-use Rattle.clos_machine.specs.Parameters.{argument_named}
+use Rattle.clos_meaning.specs.Parameters.{argument_named}
 use Rattle.clos_machine.proofs.parameters.argument_named.Given as goal
 
 abbrev pub invariant-loop-key : goal.invariant-loop-key

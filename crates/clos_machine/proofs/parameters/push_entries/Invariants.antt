@@ -1,6 +1,6 @@
 use Rattle.std.proofs.Common.{◌≡◌, ◌++◌, length, map}
 use Rattle.lisp_data.specs.ValueView.{value_of}
-use Rattle.clos_machine.specs.Parameters.{entry_sources}
+use Rattle.clos_meaning.specs.Parameters.{entry_sources}
 use Rattle.clos_machine.proofs.parameters.push_entries.Given as goal
 
 abbrev pub invariant-loop-key : goal.invariant-loop-key

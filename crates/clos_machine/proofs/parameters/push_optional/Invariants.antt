@@ -1,6 +1,6 @@
 use Rattle.std.proofs.Common.{◌≡◌, ◌++◌, length, map}
 use Rattle.lisp_data.specs.ValueView.{value_of}
-use Rattle.clos_machine.specs.Parameters.{optional_sources}
+use Rattle.clos_meaning.specs.Parameters.{optional_sources}
 use Rattle.clos_machine.proofs.parameters.push_optional.Given as goal
 
 abbrev pub invariant-loop-variable : goal.invariant-loop-variable

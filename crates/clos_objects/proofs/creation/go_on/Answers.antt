@@ -1,7 +1,7 @@
 use Rattle.std.proofs.Common.{ap, drop, sym, ◌∙◌}
-use Rattle.clos_machine.specs.Initialization.{defaulted}
+use Rattle.clos_machine.specs.clos_meaning.Initialization.{defaulted}
 use Rattle.clos_machine.specs.Machine.{at, resume}
-use Rattle.clos_machine.specs.Meaning.{closed, meaning}
+use Rattle.clos_machine.specs.clos_meaning.Meaning.{closed, meaning}
 use Rattle.clos_objects.specs.Objects.{ungiven}
 use Rattle.clos_objects.proofs.Making.{defaulted_first, defaulted_none}
 use Rattle.clos_objects.proofs.creation.go_on.Goals as goal

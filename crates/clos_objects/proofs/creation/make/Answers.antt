@@ -1,7 +1,7 @@
 use Rattle.std.proofs.Common.{map}
 use Rattle.lisp_data.specs.ValueView.{value_of}
 use Rattle.clos_machine.specs.clos_world.World.{seen}
-use Rattle.clos_machine.specs.Meaning.{meaning}
+use Rattle.clos_machine.specs.clos_meaning.Meaning.{meaning}
 use Rattle.clos_objects.proofs.Making.{not_pairs, undesignated}
 use Rattle.clos_objects.proofs.creation.make.Goals as goal
 

@@ -1,5 +1,5 @@
 use Rattle.clos_machine.specs.clos_world.World.{seen}
-use Rattle.clos_machine.specs.Meaning.{meaning}
+use Rattle.clos_machine.specs.clos_meaning.Meaning.{meaning}
 use Rattle.clos_objects.proofs.Making.{no_class}
 use Rattle.clos_objects.proofs.creation.make_instance.Goals as goal
 

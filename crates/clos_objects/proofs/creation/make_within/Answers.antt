@@ -1,6 +1,6 @@
 use Rattle.std.proofs.Common.{ap, drop, refl, sym, ◌∙◌}
 use Rattle.clos_machine.specs.clos_world.World.{seen}
-use Rattle.clos_machine.specs.Meaning.{meaning}
+use Rattle.clos_machine.specs.clos_meaning.Meaning.{meaning}
 use Rattle.clos_objects.specs.Objects.{default_first, ungiven}
 use Rattle.clos_objects.proofs.Making.{makes_after, makes_at_once}
 use Rattle.clos_objects.proofs.creation.make_within.Goals as goal

@@ -1,6 +1,6 @@
+use Rattle.clos_machine.specs.Machine.{slots_left, subject_of}
 use Rattle.std.proofs.Common.{ap, sym, subst, ◌∙◌, Some}
 use Rattle.clos_machine.specs.clos_world.World.{seen}
-use Rattle.clos_machine.specs.Filling.{slots_left, subject_of}
 use Rattle.clos_objects.specs.Objects.{Finds, filler_found}
 use Rattle.clos_objects.proofs.Passing.{found_at, passed_over}
 use Rattle.clos_objects.proofs.filling.next_filler.Goals as goal

@@ -1,6 +1,6 @@
+use Rattle.clos_machine.specs.Machine.{slots_left, subject_of}
 use Rattle.std.proofs.Common.{◌≡◌, ◌-◌, drop, length}
 use Rattle.clos_machine.specs.clos_world.World.{seen}
-use Rattle.clos_machine.specs.Filling.{slots_left, subject_of}
 use Rattle.clos_objects.specs.Objects.{pending}
 use Rattle.clos_objects.proofs.filling.next_filler.Given as goal
 

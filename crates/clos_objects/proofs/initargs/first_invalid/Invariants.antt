@@ -1,6 +1,6 @@
 use Rattle.std.proofs.Common.{◌≡◌, length, map}
 use Rattle.lisp_data.specs.ValueView.{value_of}
-use Rattle.clos_machine.specs.Initialization.{first_invalid}
+use Rattle.clos_machine.specs.clos_meaning.Initialization.{first_invalid}
 use Rattle.clos_objects.proofs.initargs.first_invalid.Given as goal
 
 abbrev pub invariant-loop-name : goal.invariant-loop-name

@@ -1,6 +1,6 @@
 use Rattle.std.proofs.Common.{◌≡◌, length, map}
 use Rattle.lisp_data.specs.ValueView.{value_of}
-use Rattle.clos_machine.specs.Filling.{initarg_for}
+use Rattle.clos_machine.specs.clos_meaning.Filling.{initarg_for}
 use Rattle.clos_objects.proofs.initargs.initarg_for.Given as goal
 
 abbrev pub invariant-loop-name : goal.invariant-loop-name

@@ -1,6 +1,6 @@
 use Rattle.std.proofs.Common.{◌≡◌}
 use Rattle.lisp_data.specs.Value.{size_of_values}
-use Rattle.clos_machine.specs.Filling.{are_symbols}
+use Rattle.clos_machine.specs.clos_meaning.Filling.{are_symbols}
 use Rattle.clos_objects.proofs.slot_names.are_symbols.Given as goal
 
 abbrev pub invariant-loop-first : goal.invariant-loop-first

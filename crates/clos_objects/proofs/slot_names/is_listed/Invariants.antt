@@ -1,6 +1,6 @@
 use Rattle.std.proofs.Common.{◌≡◌}
 use Rattle.lisp_data.specs.Value.{size_of_values}
-use Rattle.clos_machine.specs.Filling.{is_listed}
+use Rattle.clos_machine.specs.clos_meaning.Filling.{is_listed}
 use Rattle.clos_objects.proofs.slot_names.is_listed.Given as goal
 
 abbrev pub invariant-loop-first : goal.invariant-loop-first

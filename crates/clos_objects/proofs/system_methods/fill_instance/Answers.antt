@@ -1,9 +1,9 @@
 use Rattle.std.proofs.Common.{◌≡◌, subst}
 use Rattle.std.specs.Prelude.{option_map}
 use Rattle.clos_machine.specs.clos_world.World.{seen}
-use Rattle.clos_machine.specs.Filling.{initargs_in, names_in}
-use Rattle.clos_machine.specs.Meaning.{meaning}
-use Rattle.clos_machine.specs.SystemMethods.{class_in}
+use Rattle.clos_machine.specs.clos_meaning.Filling.{initargs_in, names_in}
+use Rattle.clos_machine.specs.clos_meaning.Meaning.{meaning}
+use Rattle.clos_machine.specs.clos_meaning.SystemMethods.{class_in}
 use Rattle.clos_objects.proofs.Methods.{no_class_to_fill}
 use Rattle.clos_objects.proofs.system_methods.fill_instance.Goals as goal
 

@@ -2,9 +2,9 @@ use Rattle.std.proofs.Common.{map, refl, subst, sym}
 use Rattle.lisp_data.specs.ValueView.{value_of}
 use Rattle.clos_machine.specs.clos_world.World.{seen}
 use Rattle.clos_machine.specs.Machine.{Leads, inside}
-use Rattle.clos_machine.specs.Meaning.{meaning}
-use Rattle.clos_machine.specs.Slots.{instance_in}
-use Rattle.clos_machine.specs.SystemMethods.{initialize, shared_initialized}
+use Rattle.clos_machine.specs.clos_meaning.Meaning.{meaning}
+use Rattle.clos_machine.specs.clos_meaning.Slots.{instance_in}
+use Rattle.clos_machine.specs.clos_meaning.SystemMethods.{initialize, shared_initialized}
 use Rattle.clos_objects.proofs.Methods.{no_instance}
 use Rattle.clos_objects.proofs.system_methods.initialize.Goals as goal
 

@@ -3,12 +3,12 @@ use Rattle.lisp_data.specs.Value.{instance}
 use Rattle.lisp_data.specs.ValueView.{value_of}
 use Rattle.clos_machine.specs.clos_world.World.{seen}
 use Rattle.clos_generic_core.specs.declared.system.SystemFunction.TheVariants.{SharedInitialize}
-use Rattle.clos_machine.specs.Control.{keeping}
-use Rattle.clos_machine.specs.GenericCalls.{invoked}
+use Rattle.clos_machine.specs.clos_meaning.Control.{keeping}
+use Rattle.clos_machine.specs.clos_meaning.GenericCalls.{invoked}
 use Rattle.clos_machine.specs.Machine.{at}
-use Rattle.clos_machine.specs.Meaning.{meaning}
-use Rattle.clos_machine.specs.Outcome.{then_do}
-use Rattle.clos_machine.specs.SystemMethods.{shared_initialized}
+use Rattle.clos_machine.specs.clos_meaning.Meaning.{meaning}
+use Rattle.clos_machine.specs.clos_meaning.Outcome.{then_do}
+use Rattle.clos_machine.specs.clos_meaning.SystemMethods.{shared_initialized}
 use Rattle.clos_machine.specs.declared.machine.Machine.{Machine}
 use Rattle.clos_objects.proofs.system_methods.initialize_shared.Goals as goal
 

@@ -1,7 +1,7 @@
 use Rattle.std.proofs.Common.{map, sym, ◌∙◌}
 use Rattle.lisp_data.specs.ValueView.{value_of}
 use Rattle.clos_machine.specs.clos_world.World.{seen}
-use Rattle.clos_machine.specs.Meaning.{meaning}
+use Rattle.clos_machine.specs.clos_meaning.Meaning.{meaning}
 use Rattle.clos_objects.proofs.Methods.{odd_initargs, no_slot_names, one_argument, slot_names, slots_of_none}
 use Rattle.clos_objects.proofs.system_methods.initialize_slots.Goals as goal
 

@@ -2,8 +2,8 @@ use Rattle.std.proofs.Common.{◌≡◌, map, subst, ◌∙◌}
 use Rattle.std.specs.Prelude.{option_map}
 use Rattle.lisp_data.specs.ValueView.{value_of}
 use Rattle.clos_machine.specs.clos_world.World.{seen}
-use Rattle.clos_machine.specs.Meaning.{meaning}
-use Rattle.clos_machine.specs.SystemMethods.{class_in}
+use Rattle.clos_machine.specs.clos_meaning.Meaning.{meaning}
+use Rattle.clos_machine.specs.clos_meaning.SystemMethods.{class_in}
 use Rattle.clos_objects.proofs.Methods.{invalid_again, no_class_again, valid_again, wrong_given}
 use Rattle.clos_objects.proofs.system_methods.reinitialize_instance.Goals as goal
 

@@ -1,7 +1,7 @@
 use Rattle.std.proofs.Common.{◌≡◌, ◌++◌}
 use Rattle.std.specs.Prelude.{option_map}
 use Rattle.lisp_data.specs.Value.{size_of_values}
-use Rattle.clos_machine.specs.FindMethod.{designators}
+use Rattle.clos_machine.specs.clos_meaning.FindMethod.{designators}
 use Rattle.clos_objects_core.specs.Designators.{designators_of}
 use Rattle.clos_objects_core.proofs.find_method.designators.Given as goal
 

@@ -1,5 +1,5 @@
 use Rattle.std.proofs.Common.{◌≡◌, length}
-use Rattle.clos_machine.specs.FindMethod.{specializers_for}
+use Rattle.clos_machine.specs.clos_meaning.FindMethod.{specializers_for}
 use Rattle.clos_machine.specs.clos_world.World.{seen}
 use Rattle.clos_objects_core.specs.Designators.{designators_of}
 use Rattle.clos_objects_core.proofs.Finding.{after_those}

@@ -1,10 +1,10 @@
 use Rattle.std.proofs.Common.{ap, ◌∙◌}
 use Rattle.clos_machine.specs.clos_world.World.{seen}
 use Rattle.clos_generic_core.specs.declared.system.SystemFunction.TheVariants.{SlotMissing}
-use Rattle.clos_machine.specs.GenericCalls.{invoked}
+use Rattle.clos_machine.specs.clos_meaning.GenericCalls.{invoked}
 use Rattle.clos_machine.specs.Machine.{inside}
-use Rattle.clos_machine.specs.Meaning.{meaning}
-use Rattle.clos_machine.specs.Slots.{slot_read}
+use Rattle.clos_machine.specs.clos_meaning.Meaning.{meaning}
+use Rattle.clos_machine.specs.clos_meaning.Slots.{slot_read}
 use Rattle.clos_objects_core.proofs.slots.read.Goals as goal
 
 pub returns-in_ok-arguments-in-None-clause-leads : goal.returns-in_ok-arguments-in-None-clause-leads

@@ -1,7 +1,7 @@
 use Rattle.std.proofs.Common.{map}
 use Rattle.lisp_data.specs.ValueView.{value_of}
 use Rattle.clos_machine.specs.clos_world.World.{seen}
-use Rattle.clos_machine.specs.Meaning.{meaning}
+use Rattle.clos_machine.specs.clos_meaning.Meaning.{meaning}
 use Rattle.clos_objects_core.proofs.Placing.{not_three, set_stops}
 use Rattle.clos_objects_core.proofs.slots.set_slot_value.Goals as goal
 

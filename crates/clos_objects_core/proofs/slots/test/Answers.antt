@@ -3,11 +3,11 @@ use Rattle.lisp_prims.specs.Primitive.{truth}
 use Rattle.clos_machine.specs.clos_world.clos_store.Store.{slot_found}
 use Rattle.clos_machine.specs.clos_world.World.{seen}
 use Rattle.clos_generic_core.specs.declared.system.SystemFunction.TheVariants.{SlotMissing}
-use Rattle.clos_machine.specs.GenericCalls.{invoked}
+use Rattle.clos_machine.specs.clos_meaning.GenericCalls.{invoked}
 use Rattle.clos_machine.specs.Machine.{at}
-use Rattle.clos_machine.specs.Meaning.{meaning}
-use Rattle.clos_machine.specs.Outcome.{gave, is_true, then_do}
-use Rattle.clos_machine.specs.Slots.{slot_tested}
+use Rattle.clos_machine.specs.clos_meaning.Meaning.{meaning}
+use Rattle.clos_machine.specs.clos_meaning.Outcome.{gave, is_true, then_do}
+use Rattle.clos_machine.specs.clos_meaning.Slots.{slot_tested}
 use Rattle.clos_objects_core.proofs.slots.test.Goals as goal
 
 pub returns-in_ok-arguments-in-None-clause-leads : goal.returns-in_ok-arguments-in-None-clause-leads

@@ -1,8 +1,8 @@
 use Rattle.std.proofs.Common.{◌≡◌, ◌≤◌, take, reverse, length, map}
-use Rattle.clos_world.specs.Globals.{any_global}
-use Rattle.clos_world.specs.World.{seen}
+use Rattle.clos_meaning.specs.clos_world.Globals.{any_global}
+use Rattle.clos_meaning.specs.clos_world.World.{seen}
 use Rattle.clos_machine.specs.LocalsView.{local_of}
-use Rattle.clos_machine.specs.Variables.{name_in}
+use Rattle.clos_meaning.specs.Variables.{name_in}
 use Rattle.clos_machine.proofs.locals.Locals.any_global.Given as goal
 
 abbrev pub invariant-loop-place : goal.invariant-loop-place

@@ -1,5 +1,5 @@
 use Rattle.std.proofs.Common.{◌≡◌, ◌≤◌, take, reverse, length, map}
-use Rattle.clos_world.specs.World.{local_named}
+use Rattle.clos_meaning.specs.clos_world.World.{local_named}
 use Rattle.clos_machine.specs.LocalsView.{local_of}
 use Rattle.clos_machine.proofs.locals.Locals.get.Given as goal
 

@@ -1,8 +1,8 @@
 use Rattle.std.proofs.Common.{◌≡◌, ◌-◌, ◌<◌, suc, drop, get_or, length, arith, sym, subst, ap, ◌∙◌, reverse, map, None, List, ℕ, set, is_some, true}
 use Rattle.lisp_data.specs.Name.{same_name}
 use Rattle.lisp_data.specs.ValueView.{value_of}
-use Rattle.clos_machine.specs.Assignment.{with_local}
-use Rattle.clos_world.specs.World.{local_named}
+use Rattle.clos_meaning.specs.Assignment.{with_local}
+use Rattle.clos_meaning.specs.clos_world.World.{local_named}
 use Rattle.clos_machine.specs.LocalsView.{local_of}
 use Rattle.clos_machine.specs.declared.locals.Denotation.TheVariants.{Held}
 use Rattle.clos_machine.specs.declared.locals.Local.{Local}

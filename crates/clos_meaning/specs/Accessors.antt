@@ -1,0 +1,33 @@
+-- What the methods of readers and writers do (HyperSpec 7.5.2).
+use Rattle.std.specs.Prelude.{ℕ, List, [], ◌∷◌, Some, Result, Ok, Err}
+use Rattle.lisp_data.specs.Name.{Nam}
+use Rattle.lisp_data.specs.Value.{Val}
+use Rattle.clos_world.specs.clos_store.Store.{slot_found}
+use Rattle.clos_world.specs.declared.condition.Condition.{Condition}
+use Rattle.clos_world.specs.declared.condition.ConditionKind.TheVariants.{ProgramError}
+use Rattle.clos_meaning.specs.Outcome.{Stopped, Run, Eval, stopped}
+use Rattle.clos_meaning.specs.Slots.{instance_in, slot_changed, slot_read}
+use Rattle.clos_meaning.specs.declared.arguments.Context.{Context}
+
+-- ---- a reader is called with an instance
+
+abbrev pub read_of : Eval → Context → Nam → Result ℕ Condition → Run
+read_of ev env slot (Err c) w s = Stopped c w s
+read_of ev env slot (Ok i) w s = slot_read ev env i slot (slot_found w.store i slot) w s
+
+abbrev pub read_by : Eval → Context → Nam → List Val → Run
+read_by ev env slot [] w s = stopped ProgramError [] w s
+read_by ev env slot (v ∷ []) w s = read_of ev env slot (instance_in v) w s
+read_by ev env slot (v ∷ (x ∷ vs)) w s = stopped ProgramError [] w s
+
+-- ---- a writer with the new value and an instance
+
+abbrev pub written_of : Eval → Context → Nam → Val → Result ℕ Condition → Run
+written_of ev env slot new (Err c) w s = Stopped c w s
+written_of ev env slot new (Ok i) w s = slot_changed ev env i slot (Some new) new (slot_found w.store i slot) w s
+
+abbrev pub written_by : Eval → Context → Nam → List Val → Run
+written_by ev env slot [] w s = stopped ProgramError [] w s
+written_by ev env slot (new ∷ []) w s = stopped ProgramError [] w s
+written_by ev env slot (new ∷ (v ∷ [])) w s = written_of ev env slot new (instance_in v) w s
+written_by ev env slot (new ∷ (v ∷ (x ∷ vs))) w s = stopped ProgramError [] w s

@@ -1,0 +1,53 @@
+-- What the functions of the language are, by their names (HyperSpec 3.1.2.1.2.3).
+use Rattle.std.specs.Prelude.{Option, Some, None, codes, if◌then◌else◌}
+use Rattle.lisp_data.specs.Name.{Nam}
+use Rattle.lisp_prims.specs.Primitive.{primitive_of}
+use Rattle.lisp_prims.specs.declared.primitive.Primitive as of_values
+use Rattle.clos_forms.specs.Names.{is_called}
+use Rattle.clos_meaning.specs.declared.callee.Callee.{Callee}
+use Rattle.clos_meaning.specs.declared.callee.Callee.TheVariants.{Output, Terpri, Primitive, MakeInstance, FindMethod, ClassFunction, SlotFunction, Defined}
+use Rattle.clos_meaning.specs.declared.callee.ClassFunction as of_classes
+use Rattle.clos_meaning.specs.declared.callee.ClassFunction.TheVariants.{ClassOf, ClassName, ClassPrecedenceList, FindClass, Typep}
+use Rattle.clos_meaning.specs.declared.callee.SlotFunction as of_slots
+use Rattle.clos_meaning.specs.declared.callee.SlotFunction.TheVariants.{SlotValue, SlotBoundp, SlotMakunbound, SlotExistsP}
+use Rattle.clos_meaning.specs.declared.callee.Output.TheVariants.{Princ, Prin1, Print}
+
+abbrev pub value_function : Option of_values.Primitive → Callee
+value_function None = Defined
+value_function (Some p) = Primitive p
+
+abbrev pub class_function_of : Nam → Option of_classes.ClassFunction
+class_function_of name =
+    if is_called (codes "CLASS-OF") name then Some ClassOf
+    else if is_called (codes "CLASS-NAME") name then Some ClassName
+    else if is_called (codes "CLASS-PRECEDENCE-LIST") name then Some ClassPrecedenceList
+    else if is_called (codes "FIND-CLASS") name then Some FindClass
+    else if is_called (codes "TYPEP") name then Some Typep
+    else None
+
+abbrev pub class_function : Option of_classes.ClassFunction → Callee → Callee
+class_function None other = other
+class_function (Some f) other = ClassFunction f
+
+abbrev pub slot_function_of : Nam → Option of_slots.SlotFunction
+slot_function_of name =
+    if is_called (codes "SLOT-VALUE") name then Some SlotValue
+    else if is_called (codes "SLOT-BOUNDP") name then Some SlotBoundp
+    else if is_called (codes "SLOT-MAKUNBOUND") name then Some SlotMakunbound
+    else if is_called (codes "SLOT-EXISTS-P") name then Some SlotExistsP
+    else None
+
+abbrev pub slot_function : Option of_slots.SlotFunction → Nam → Callee
+slot_function None name = value_function (primitive_of name)
+slot_function (Some f) name = SlotFunction f
+
+-- what a call of the name calls
+abbrev pub callee_of : Nam → Callee
+callee_of name =
+    if is_called (codes "PRINC") name then Output Princ
+    else if is_called (codes "PRIN1") name then Output Prin1
+    else if is_called (codes "PRINT") name then Output Print
+    else if is_called (codes "TERPRI") name then Terpri
+    else if is_called (codes "MAKE-INSTANCE") name then MakeInstance
+    else if is_called (codes "FIND-METHOD") name then FindMethod
+    else class_function (class_function_of name) (slot_function (slot_function_of name) name)

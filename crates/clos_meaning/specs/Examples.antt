@@ -1,0 +1,42 @@
+-- Worked examples: what a few forms give and write, and in how many steps.
+use Rattle.std.specs.Fmt.{digits}
+use Rattle.std.specs.Prelude.{◌≡◌, ℕ, pos, false, List, [], ◌++◌, codes, refl}
+use Rattle.lisp_data.specs.Name.{Nam}
+use Rattle.lisp_data.specs.Value.{integer}
+use Rattle.clos_forms.specs.Form.{Frm, Frms, form, nil, cons}
+use Rattle.clos_forms.specs.Operator as of
+use Rattle.clos_world.specs.World.{State, unbound}
+use Rattle.clos_world.specs.declared.condition.ConditionKind.TheVariants.{StepLimit}
+use Rattle.clos_meaning.specs.Meaning.{evaluation}
+use Rattle.clos_meaning.specs.Outcome.{Gave, stopped}
+
+abbrev name : List ℕ → Nam
+name text = record { text = text; keyword = false }
+
+abbrev number : ℕ → Frm
+number n = form (of.constant (integer (pos n))) nil
+
+abbrev alone : Frm → Frms
+alone f = cons f nil
+
+abbrev princ : Frm → Frm
+princ f = form (of.call (name (codes "PRINC"))) (alone f)
+
+-- the state of a session after these bytes were written too
+abbrev wrote : State → List ℕ → State
+wrote w bytes = record w { written = w.written ++ bytes }
+
+-- ---- (progn (princ 1) (princ 2)) takes a step for each of its five forms, and one for each writing
+
+abbrev both : Frm
+both = form of.progn (cons (princ (number 1)) (alone (princ (number 2))))
+
+-- the decimal digits of a number
+abbrev decimal : ℕ → List ℕ
+decimal n = digits 10 false n
+
+both_are_written : (w : State) → evaluation 3 both w 7 ≡ Gave (integer (pos 2)) (wrote (wrote (unbound w) (decimal 1)) (decimal 2)) 0
+both_are_written w = refl
+
+second_is_not : (w : State) → evaluation 3 both w 6 ≡ stopped StepLimit [] (wrote (unbound w) (decimal 1)) 0
+second_is_not w = refl

@@ -1,0 +1,27 @@
+pub mod Callee
+pub mod Outcome
+pub mod Fault
+pub mod Control
+pub mod Variables
+pub mod Assignment
+pub mod Objects
+pub mod Output
+pub mod ClassFunctions
+pub mod Parameters
+pub mod Dispatch
+pub mod Contexts
+pub mod GenericCalls
+pub mod Bodies
+pub mod Slots
+pub mod Filling
+pub mod Initialization
+pub mod Accessors
+pub mod SystemMethods
+pub mod Calls
+pub mod NextMethods
+pub mod FindMethod
+pub mod Functions
+pub mod SlotNames
+pub mod Meaning
+pub mod Examples
+pub use Rattle.clos_world.specs as clos_world

@@ -1,0 +1,48 @@
+-- What an evaluation comes to: a value or a condition, the state after, and the steps left.
+use Rattle.std.specs.Prelude.{◌≡◌, ℕ, zero, suc, Bool, true, false, List, []}
+use Rattle.lisp_data.specs.Value.{Val, list, nil}
+use Rattle.clos_forms.specs.Form.{Frm}
+use Rattle.clos_world.specs.World.{State}
+use Rattle.clos_world.specs.declared.condition.Condition.{Condition}
+use Rattle.clos_world.specs.declared.condition.ConditionKind.{ConditionKind}
+use Rattle.clos_world.specs.declared.condition.ConditionKind.TheVariants.{StepLimit}
+use Rattle.clos_meaning.specs.declared.arguments.Context.{Context}
+
+-- the value or the condition, the state after, and the steps left
+pub data Out : Type 0 where
+  Gave : Val → State → ℕ → Out
+  Stopped : Condition → State → ℕ → Out
+
+-- from a state, with some steps left
+abbrev pub Run : Type 0
+Run = State → ℕ → Out
+
+-- a form's meaning in a context
+abbrev pub Eval : Type 0
+Eval = Context → Frm → Run
+
+-- It goes on where there is a value, and stops where there is a condition.
+abbrev pub then_do : Out → (Val → Run) → Out
+then_do (Gave v w s) go = go v w s
+then_do (Stopped c w s) go = Stopped c w s
+
+abbrev pub gave : Val → Run
+gave v w s = Gave v w s
+
+abbrev pub stopped : ConditionKind → List Val → Run
+stopped kind items w s = Stopped (record { kind = kind; items = items }) w s
+
+-- one step, or the condition in its place
+abbrev pub step_then : Run → Run
+step_then go w zero = stopped StepLimit [] w zero
+step_then go w (suc s) = go w s
+
+-- every value but NIL is true (5.1.3)
+abbrev pub is_true : Val → Bool
+is_true (list nil) = false
+is_true v = true
+
+-- where an outcome leaves the state and the steps
+abbrev pub leaves : Out → State → ℕ → Type 0
+leaves (Gave v w s) w' s' = (w ≡ w') × (s ≡ s')
+leaves (Stopped c w s) w' s' = (w ≡ w') × (s ≡ s')

@@ -1,0 +1,106 @@
+-- What the system's methods do with the arguments of their calls (HyperSpec 7.1.4, 7.3, 7.7).
+use Rattle.std.specs.Prelude.{ℕ, true, List, [], ◌∷◌, Option, Some, None, Result, Ok, Err, if◌then◌else◌, slice_get}
+use Rattle.lisp_data.specs.Value.{Val, generic, instance, list, nil}
+use Rattle.lisp_prims.specs.Primitive.{truth}
+use Rattle.clos_world.specs.clos_class.Slots.{Effective}
+use Rattle.clos_world.specs.Class.{class_name, effective}
+use Rattle.clos_world.specs.FunctionName.{called_value}
+use Rattle.clos_world.specs.World.{State, class_of_instance}
+use Rattle.clos_world.specs.declared.condition.Condition.{Condition}
+use Rattle.clos_world.specs.declared.condition.ConditionKind.{ConditionKind}
+use Rattle.clos_world.specs.declared.condition.ConditionKind.TheVariants.{NoApplicableMethod, NoNextMethod, ProgramError, UnboundSlot, MissingSlot, Unsupported}
+use Rattle.clos_world.specs.clos_generic.Table.{Function}
+use Rattle.clos_world.specs.clos_generic_core.declared.system.SystemFunction.{SystemFunction}
+use Rattle.clos_world.specs.clos_generic_core.declared.system.SystemFunction.TheVariants.{InitializeInstance, ReinitializeInstance, SharedInitialize, UpdateInstanceForRedefinedClass, UpdateInstanceForDifferentClass, SlotUnbound, SlotMissing}
+use Rattle.clos_world.specs.clos_generic_core.declared.system.SystemFunction.TheVariants as of_system
+use Rattle.clos_meaning.specs.Bodies.{scoped}
+use Rattle.clos_meaning.specs.ClassFunctions.{wrong_type}
+use Rattle.clos_meaning.specs.Filling.{are_slot_names, fill}
+use Rattle.clos_meaning.specs.Contexts.{known}
+use Rattle.clos_meaning.specs.GenericCalls.{invoked}
+use Rattle.clos_meaning.specs.Initialization.{invalid_for, invalid_initarg, methods_reached}
+use Rattle.clos_meaning.specs.Outcome.{Stopped, Run, Eval, then_do, gave, stopped}
+use Rattle.clos_meaning.specs.Parameters.{are_even}
+use Rattle.clos_meaning.specs.Slots.{instance_in}
+
+-- ---- the class of an instance, and what the class has
+
+abbrev pub with_effective : ℕ → Option Effective → Option (ℕ × Effective)
+with_effective c None = None
+with_effective c (Some e) = Some (c, e)
+
+abbrev pub class_with : State → Option ℕ → Option (ℕ × Effective)
+class_with w None = None
+class_with w (Some c) = with_effective c (effective w.classes c)
+
+abbrev pub class_in : State → ℕ → Option (ℕ × Effective)
+class_in w i = class_with w (class_of_instance w i)
+
+-- ---- initialize-instance and reinitialize-instance call shared-initialize, and give the instance
+
+-- with these names of slots
+abbrev pub shared_initialized : Eval → ℕ → Val → List Val → Run
+shared_initialized ev i names initargs w s = then_do (invoked ev SharedInitialize (instance i ∷ names ∷ initargs) w s) (λ v. gave (instance i))
+
+abbrev pub initialize : Eval → List Val → Result ℕ Condition → Run
+initialize ev initargs (Err c) w s = Stopped c w s
+initialize ev initargs (Ok i) w s = shared_initialized ev i (truth true) initargs w s
+
+-- unless this initarg is not valid for instances of this class
+abbrev pub if_valid : ℕ → Option Val → Run → Run
+if_valid c None go w s = go w s
+if_valid c (Some k) go w s = Stopped (invalid_for k (class_name w.classes c)) w s
+
+abbrev pub reinitialize_as : Eval → List Val → ℕ → Option (ℕ × Effective) → Run
+reinitialize_as ev initargs i None w s = stopped ProgramError [] w s
+reinitialize_as ev initargs i (Some p) w s = if_valid p.0 (invalid_initarg w.generics.methods (methods_reached w ReinitializeInstance i (list nil)) p.1.slots initargs) (shared_initialized ev i (list nil) initargs) w s
+
+abbrev pub reinitialize : Eval → List Val → Result ℕ Condition → Run
+reinitialize ev initargs (Err c) w s = Stopped c w s
+reinitialize ev initargs (Ok i) w s = reinitialize_as ev initargs i (class_in w i) w s
+
+-- ---- shared-initialize fills the slots; their initforms see no variables
+
+abbrev pub filled_as : Eval → ℕ → Val → List Val → Option (ℕ × Effective) → Run
+filled_as ev i names initargs None w s = stopped ProgramError [] w s
+filled_as ev i names initargs (Some p) w s =
+    scoped (fill ev (known []) (record { instance = i; class = p.0; names = names; initargs = initargs }) p.1.slots) [] w s
+
+abbrev pub initialize_slots : Eval → Val → List Val → Result ℕ Condition → Run
+initialize_slots ev names initargs (Err c) w s = Stopped c w s
+initialize_slots ev names initargs (Ok i) w s =
+    if are_slot_names names then filled_as ev i names initargs (class_in w i) w s else Stopped (wrong_type names) w s
+
+-- A method's call of its next methods may hand on initargs that are not in pairs.
+abbrev pub shared_initialize : Eval → Val → Val → List Val → Run
+shared_initialize ev v names initargs w s = if are_even initargs then initialize_slots ev names initargs (instance_in v) w s else stopped ProgramError [] w s
+
+-- ---- slot-unbound and slot-missing signal that, of the name of a slot and an instance, which follow a class
+
+abbrev pub slot_condition : ConditionKind → List Val → Condition
+slot_condition kind (c ∷ (i ∷ (name ∷ vs))) = record { kind = kind; items = name ∷ i ∷ [] }
+slot_condition kind vs = record { kind = ProgramError; items = [] }
+
+-- ---- no-applicable-method signals that, of a generic function, which is told by its name, and the arguments of its call
+
+abbrev pub name_or : Val → Option Function → Val
+name_or v None = v
+name_or v (Some f) = called_value f.name
+
+abbrev pub told : State → Val → Val
+told w (generic n) = name_or (generic n) (slice_get w.generics.functions n)
+told w v = v
+
+-- ---- any of them
+
+abbrev pub system_method_run : Eval → SystemFunction → List Val → Run
+system_method_run ev InitializeInstance (v ∷ initargs) w s = initialize ev initargs (instance_in v) w s
+system_method_run ev ReinitializeInstance (v ∷ initargs) w s = reinitialize ev initargs (instance_in v) w s
+system_method_run ev SharedInitialize (v ∷ (names ∷ initargs)) w s = shared_initialize ev v names initargs w s
+system_method_run ev SlotUnbound vs w s = Stopped (slot_condition UnboundSlot vs) w s
+system_method_run ev SlotMissing vs w s = Stopped (slot_condition MissingSlot vs) w s
+system_method_run ev of_system.NoApplicableMethod (f ∷ vs) w s = stopped NoApplicableMethod (told w f ∷ vs) w s
+system_method_run ev of_system.NoNextMethod (f ∷ (m ∷ vs)) w s = stopped NoNextMethod (m ∷ []) w s
+system_method_run ev UpdateInstanceForRedefinedClass (v ∷ vs) w s = stopped Unsupported [] w s
+system_method_run ev UpdateInstanceForDifferentClass (v ∷ vs) w s = stopped Unsupported [] w s
+system_method_run ev f vs w s = stopped ProgramError [] w s

@@ -1,0 +1,239 @@
+//! The arguments of calls, and what a running body knows of its own.
+ghost use Rattle.std.specs.Prelude.{◌≡◌, IfOk, Some, map};
+ghost use Rattle.lisp_data.specs.ValueView.{value_of};
+ghost use Rattle.clos_world.specs.clos_generic_core.MethodIds.{method_numbers};
+ghost use Rattle.clos_meaning.specs.Contexts.{in_call, known, with_arguments};
+
+use clos_forms::{Forms, NextMethods};
+use clos_world::{MethodIds, Values};
+use lisp_data::{GenericId, MethodId, Value};
+use std::alloc::{AllocError, Global};
+use std::marker::Model;
+use std::rc::Rc;
+
+/// The arguments of a call, which are copied by sharing them. Contracts see the list.
+#[derive(Drop)]
+pub struct Arguments {
+    shared: Rc<Values>,
+}
+
+impl Model for Arguments {
+    ghost use Rattle.std.specs.Prelude.{List};
+    ghost use Rattle.std.specs.Coded.{coded_list};
+    ghost use Rattle.lisp_data.specs.Value.{Val};
+    ghost use Rattle.lisp_data.specs.ValueCode.{value_code};
+
+    ghost Value = { List Val };
+
+    ghost coded = { coded_list value_code };
+
+    ghost view = { λ a. a.shared.value };
+}
+
+impl Arguments {
+    /// These values as arguments.
+    pub fn new(alloc: Global, values: Values) -> Result<Arguments, AllocError>
+        ensures { IfOk result (λ r. r ≡ values) }
+    {
+        let shared = Rc::new(alloc, values)?;
+        Ok(Arguments { shared })
+    }
+
+    /// The same arguments, in a few steps however many they are.
+    pub fn copy(&self) -> Result<Arguments, AllocError>
+        ensures { IfOk result (λ r. r ≡ self.now) }
+    {
+        let shared = self.shared.clone()?;
+        Ok(Arguments { shared })
+    }
+
+    /// The values.
+    pub fn as_slice(&self) -> &[Value]
+        ensures { map value_of result.now ≡ self.now }
+    {
+        self.shared.as_slice()
+    }
+
+    /// The same values, for who changes them.
+    pub fn to_values(&self, alloc: Global) -> Result<Values, AllocError>
+        ensures { IfOk result (λ r. r ≡ self.now) }
+    {
+        self.shared.copy(alloc)
+    }
+}
+
+/// A call of a generic function: the function, and the methods that were applicable as the call began, the most specific
+/// first. It is copied by sharing it.
+#[derive(Drop)]
+pub struct Dispatch {
+    shared: Rc<Dispatched>,
+}
+
+#[derive(Drop)]
+struct Dispatched {
+    generic: GenericId,
+    methods: MethodIds,
+}
+
+impl Model for Dispatch {
+    ghost use Rattle.clos_meaning.specs.Dispatch.{Dispatch, dispatch_code};
+
+    ghost Value = { Dispatch };
+
+    ghost coded = { dispatch_code };
+
+    ghost view = { λ a. record { generic = a.shared.value.generic.0; methods = a.shared.value.methods } };
+}
+
+impl Dispatch {
+    /// A call of this function, for which these methods are applicable.
+    pub fn new(
+        alloc: Global,
+        generic: GenericId,
+        methods: MethodIds,
+    ) -> Result<Dispatch, AllocError>
+        ensures { IfOk result (λ r. r ≡ record { generic = generic.0; methods = methods }) }
+    {
+        let shared = Rc::new(alloc, Dispatched { generic, methods })?;
+        Ok(Dispatch { shared })
+    }
+
+    /// The same call, in a few steps however many methods it has.
+    pub fn copy(&self) -> Result<Dispatch, AllocError>
+        ensures { IfOk result (λ r. r ≡ self.now) }
+    {
+        let shared = self.shared.clone()?;
+        Ok(Dispatch { shared })
+    }
+
+    /// The function that is called.
+    pub fn generic(&self) -> GenericId
+        ensures { result.0 ≡ self.now.generic }
+    {
+        self.shared.generic
+    }
+
+    /// The methods that were applicable, the most specific first.
+    pub fn methods(&self) -> &[MethodId]
+        ensures { method_numbers result.now ≡ self.now.methods }
+    {
+        self.shared.methods.as_slice()
+    }
+}
+
+/// A method that runs, with its next methods, and the forms of those that are made.
+#[derive(Drop)]
+pub struct Running {
+    pub method: MethodId,
+    pub next: NextMethods,
+    pub forms: Forms,
+}
+
+impl Running {
+    /// The same, in a few steps.
+    pub fn copy(&self) -> Result<Running, AllocError>
+        ensures { IfOk result (λ r. r ≡ self.now) }
+    {
+        let next = self.next.copy()?;
+        Ok(Running {
+            method: self.method,
+            next,
+            forms: self.forms.copy()?,
+        })
+    }
+}
+
+/// What a running body or an effective form knows, and can't change.
+#[derive(Drop)]
+pub struct Context {
+    pub arguments: Arguments,
+    /// The call of a generic function for which it runs.
+    pub call: Option<Dispatch>,
+    /// The method of which it is the body.
+    pub running: Option<Running>,
+}
+
+impl Context {
+    /// That of the body of a function that is no generic function.
+    pub fn of_function(arguments: Arguments) -> Context
+        ensures { result ≡ known arguments }
+    {
+        Context {
+            arguments,
+            call: None,
+            running: None,
+        }
+    }
+
+    /// That of the effective form of a call.
+    pub fn of_call(call: Dispatch, arguments: Arguments) -> Context
+        ensures { result ≡ in_call call arguments }
+    {
+        Context {
+            arguments,
+            call: Some(call),
+            running: None,
+        }
+    }
+
+    /// The same context, in a few steps.
+    pub fn copy(&self) -> Result<Context, AllocError>
+        ensures { IfOk result (λ r. r ≡ self.now) }
+    {
+        let arguments = self.arguments.copy()?;
+        let call = self.call_copied()?;
+        Ok(Context {
+            arguments,
+            call,
+            running: self.running_copied()?,
+        })
+    }
+
+    /// That of the effective form of the same call with other arguments.
+    pub fn with_arguments(&self, arguments: Arguments) -> Result<Context, AllocError>
+        ensures { IfOk result (λ r. r ≡ with_arguments arguments self.now) }
+    {
+        Ok(Context {
+            arguments,
+            call: self.call_copied()?,
+            running: None,
+        })
+    }
+
+    /// That of the body of a method that runs in this one.
+    pub fn with_running(&self, running: Running) -> Result<Context, AllocError>
+        ensures { IfOk result (λ r. r ≡ record self.now { running = Some running }) }
+    {
+        let arguments = self.arguments.copy();
+        let call = self.call_copied();
+        match (arguments, call) {
+            (Ok(arguments), Ok(call)) => Ok(Context {
+                arguments,
+                call,
+                running: Some(running),
+            }),
+            _ => {
+                drop(running);
+                Err(AllocError)
+            }
+        }
+    }
+
+    fn running_copied(&self) -> Result<Option<Running>, AllocError>
+        ensures { IfOk result (λ r. r ≡ self.now.running) }
+    {
+        match &self.running {
+            None => Ok(None),
+            Some(running) => Ok(Some(running.copy()?)),
+        }
+    }
+
+    fn call_copied(&self) -> Result<Option<Dispatch>, AllocError>
+        ensures { IfOk result (λ r. r ≡ self.now.call) }
+    {
+        match &self.call {
+            None => Ok(None),
+            Some(call) => Ok(Some(call.copy()?)),
+        }
+    }
+}
