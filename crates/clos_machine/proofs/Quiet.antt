@@ -1,5 +1,5 @@
 -- With no step left the machine changes nothing.
-use Rattle.std.proofs.Common.{◌≡◌, ℕ, drop, List, [], ◌∷◌, ◌++◌, refl}
+use Rattle.std.proofs.Common.{ℕ, drop, List, [], ◌∷◌, ◌++◌, refl}
 use Rattle.lisp_data.specs.Value.{Val}
 use Rattle.lisp_data.specs.ValueView.{value_of}
 use Rattle.clos_forms.specs.Form.{Frm, Frms, nil, operator_in}
@@ -9,7 +9,6 @@ use Rattle.clos_meaning.specs.clos_world.Values.{last_first}
 use Rattle.clos_meaning.specs.clos_world.World.{State, unbound, held}
 use Rattle.clos_meaning.specs.Callee.{callee_of}
 use Rattle.clos_meaning.specs.Bodies.{parameters_run}
-use Rattle.clos_meaning.specs.Contexts.{running}
 use Rattle.clos_meaning.specs.GenericCalls.{invoked}
 use Rattle.clos_meaning.specs.Control.{sequence}
 use Rattle.clos_machine.specs.Machine.{access_of, acted, at, below, after, followed, resume, denote, loop_of, slot_names, slots_left, subject_of, targets}
