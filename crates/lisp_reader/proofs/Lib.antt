@@ -3,16 +3,11 @@ pub mod OneFront
 pub mod OneReading
 pub mod OneGap
 pub mod OnAnswers
-pub mod OnComments
 pub mod OnFaults
-pub mod OnFront
-pub mod OnGaps
 pub mod OnLists
 pub mod OnMemory
 pub mod OnMore
 pub mod OnNesting
-pub mod OnStrings
-pub mod OnTokens
 pub mod OnReading
 pub mod PrintedToken
 pub mod PrintedString

@@ -1,11 +1,12 @@
 -- The answer at an offset of a text.
 use Rattle.std.proofs.Common.{◌≡◌, ◌≢◌, ℕ, ◌<◌, ◌≤◌, List, [], length, drop, refl, ap, arith}
 use Rattle.std.proofs.lemmas.List.{length-drop}
-use Rattle.lisp_reader.specs.Answers.{Refuses, NextFails, unfinished, in_datum, most_open}
-use Rattle.lisp_reader.specs.Fault.{OnFault, outermost}
-use Rattle.lisp_reader.specs.Gaps.{Gaps}
-use Rattle.lisp_reader.specs.declared.fault.ReadFault.{ReadFault}
-use Rattle.lisp_reader.specs.declared.fault.ReadFault.TheVariants.{EndInside, StrayClose, BadToken, BadDot, BadHash, TooDeep, NotText, Memory}
+use Rattle.lisp_reader.specs.Answers.{NextFails, unfinished, in_datum, most_open, outermost}
+use Rattle.lisp_tokens.specs.Offsets.{Refuses}
+use Rattle.lisp_tokens.specs.Fault.{OnFault}
+use Rattle.lisp_tokens.specs.Gaps.{Gaps}
+use Rattle.lisp_tokens.specs.declared.fault.ReadFault.{ReadFault}
+use Rattle.lisp_tokens.specs.declared.fault.ReadFault.TheVariants.{EndInside, StrayClose, BadToken, BadDot, BadHash, TooDeep, NotText, Memory}
 
 pub outermost-other : (fault : ReadFault) (start : ℕ) → ((n : ℕ) → fault ≡ EndInside n → ⊥) → fault ≡ outermost fault start
 outermost-other (EndInside n) start other = absurd (other n refl)

@@ -1,15 +1,16 @@
 -- What is so of a fault, from what else is.
 use Rattle.std.proofs.Common.{◌≡◌, ℕ, ◌<◌, ◌≤◌, List, length, get_or, drop, sym, subst, arith, true, false}
 use Rattle.std.specs.Bool.{⊤}
-use Rattle.lisp_reader.specs.Answers.{Refuses, RefusesEnd}
-use Rattle.lisp_reader.specs.Characters.{begins_token}
-use Rattle.lisp_reader.specs.Fault.{Kind, OnRefusal}
-use Rattle.lisp_reader.specs.Front.{Lacks}
-use Rattle.lisp_reader.specs.Gaps.{Gaps}
-use Rattle.lisp_reader.specs.Memory.{Takes}
-use Rattle.lisp_reader.specs.Reading.{Fails, EndFails, NoDatum, closes, at_front, no_close}
-use Rattle.lisp_reader.specs.declared.fault.ReadFault.{ReadFault}
-use Rattle.lisp_reader.specs.declared.fault.ReadFault.TheVariants.{EndInside, StrayClose, BadToken, BadDot, BadHash, TooDeep, NotText, Memory}
+use Rattle.lisp_reader.specs.Answers.{RefusesEnd}
+use Rattle.lisp_tokens.specs.Offsets.{Refuses}
+use Rattle.lisp_tokens.specs.Characters.{begins_token}
+use Rattle.lisp_tokens.specs.Fault.{Kind, OnRefusal}
+use Rattle.lisp_tokens.specs.Front.{Lacks}
+use Rattle.lisp_tokens.specs.Gaps.{Gaps}
+use Rattle.lisp_tokens.specs.Memory.{Takes}
+use Rattle.lisp_tokens.specs.Reading.{Fails, EndFails, NoDatum, closes, at_front, no_close}
+use Rattle.lisp_tokens.specs.declared.fault.ReadFault.{ReadFault}
+use Rattle.lisp_tokens.specs.declared.fault.ReadFault.TheVariants.{EndInside, StrayClose, BadToken, BadDot, BadHash, TooDeep, NotText, Memory}
 use Rattle.lisp_reader.proofs.OnReading.{NoDatum-token}
 
 pub OnRefusal-map : (fault : ReadFault) (P Q : Kind → ℕ → Type 0) (M N : Type 0) → ((kind : Kind) (n : ℕ) → P kind n → Q kind n) → (M → N) → OnRefusal fault P M → OnRefusal fault Q N

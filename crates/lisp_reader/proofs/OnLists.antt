@@ -1,7 +1,7 @@
 -- The list of some data.
 use Rattle.std.proofs.Common.{◌≡◌, ◌∙◌, List, [], ◌∷◌, ◌++◌, refl, ap, length, append-nil}
 use Rattle.lisp_data.specs.Datum.{Dat, list, Dats, nil, cons, elements, list_from}
-use Rattle.lisp_reader.specs.Reading.{list_of}
+use Rattle.lisp_tokens.specs.Reading.{list_of}
 
 pub list_from-elements : (l : Dats) → list_from (elements l) ≡ l
 list_from-elements nil = refl

@@ -4,13 +4,13 @@ use Rattle.std.specs.Prelude.{if◌then◌else◌}
 use Rattle.std.proofs.lemmas.Bool.{false≢true}
 use Rattle.lisp_data.specs.Datum.{Dat, integer, symbol, string, list, dotted, method, Dats, list_from, elements}
 use Rattle.lisp_reader.specs.Answers.{TakesNone, most_open, Next, next}
-use Rattle.lisp_reader.specs.Fault.{Kind, end_inside, too_deep}
-use Rattle.lisp_reader.specs.Gaps.{Gaps}
-use Rattle.lisp_reader.specs.Memory.{Takes, a_name, a_string, an_element, in_element, a_prefix, in_prefixed}
-use Rattle.lisp_reader.specs.Prefix.{HasPrefix, quote, function, backquote, comma, splice}
-use Rattle.lisp_reader.specs.Reading.{NoDatum, at_end, at_hash, at_comma, at_token, at_other, of_token, in_quotes, Spells, list_of, ending_in, is_nil}
-use Rattle.lisp_reader.specs.Strings.{body, characters}
-use Rattle.lisp_reader.specs.Token.{after_run}
+use Rattle.lisp_tokens.specs.Fault.{Kind, end_inside, too_deep}
+use Rattle.lisp_tokens.specs.Gaps.{Gaps}
+use Rattle.lisp_tokens.specs.Memory.{Takes, a_name, a_string, an_element, in_element, a_prefix, in_prefixed}
+use Rattle.lisp_tokens.specs.Prefix.{HasPrefix, quote, function, backquote, comma, splice}
+use Rattle.lisp_tokens.specs.Reading.{NoDatum, at_end, at_hash, at_comma, at_token, at_other, of_token, in_quotes, Spells, list_of, ending_in, is_nil}
+use Rattle.lisp_tokens.specs.Strings.{body, characters}
+use Rattle.lisp_tokens.specs.Token.{after_run}
 use Rattle.lisp_reader.proofs.OneFront as front
 use Rattle.lisp_reader.proofs.OneFront.{Read, got, fault, got-fault, operated, ended, ListWay, deep_list, with_items, Ending, closing, dotting, gap_ending, item_ending, PrefixWay, deep_prefix, bad_gap, inside, prefix-begins, reads-by, reads-at}
 use Rattle.lisp_reader.proofs.OneGap.{Gaps-unique, Gaps-clash}

@@ -4,22 +4,22 @@ use Rattle.std.specs.Bool.{⊤}
 use Rattle.std.specs.Str.{IsValidUpTo}
 use Rattle.std.proofs.Math.Seq.{take-append_seam}
 use Rattle.std.proofs.lemmas.Str.{IsUtf8-take, IsCharBoundary-before_ascii}
-use Rattle.lisp_reader.proofs.OnComments.{Many, Many-open, open-Many, Many-close, close-Many, Many-other, other-Many, Many-one, one-Many, closes-none}
+use Rattle.lisp_tokens.proofs.OnComments.{Many, Many-open, open-Many, Many-close, close-Many, Many-other, other-Many, Many-one, one-Many, closes-none}
 use Rattle.std.specs.List.{prefix_len}
 use Rattle.std.proofs.lemmas.Bool.{false≢true, cases_lt}
 use Rattle.std.proofs.lemmas.List.{take-append-le, drop-append-le, length-drop, length-append, length-take-le, take_all}
 use Rattle.std.proofs.lemmas.List.Sums.{prefix_len-le-length}
 use Rattle.lisp_data.specs.Datum.{Dat, string}
 use Rattle.lisp_reader.specs.Answers.{FaultStays, in_gaps, unfinished, in_datum, most_open}
-use Rattle.lisp_reader.specs.Characters.{is_token_char, goes_on, begins_with}
-use Rattle.lisp_reader.specs.Fault.{Kind, end_inside, stray_close, bad_token, bad_dot, bad_hash, too_deep, not_text}
-use Rattle.lisp_reader.specs.Gaps.{Gaps, GapFails, no_more, blank, comment, block, here, in_block, in_open_block, open_block, after_blank, after_comment, after_block, line, after_line, is_in_line, begins_gap, opens_comment, closes_comment, Closes, Unclosed, mark, nested, other}
-use Rattle.lisp_reader.specs.Prefix.{HasPrefix, quote, function, backquote, comma, splice, extends_comma}
-use Rattle.lisp_reader.specs.Reading.{Spells, Items, Tail, Fails, TailFails, EndFails, NoDatum, BeginsDatum, of_token, in_quotes, in_parentheses, with_dot, prefixed, none, more, tail, at_end, at_close, at_hash, at_comma, at_token, at_other, a_token, a_string, a_list, a_prefix, before_end, second, no_close, at_front, list_too_deep, prefix_too_deep, no_quote, in_string, in_item, before_item, after_dot, in_prefixed, after_prefix, before_tail, no_tail, in_tail, after_tail, closes, dot_fits}
-use Rattle.lisp_reader.specs.Strings.{body_len, body, after_body, characters}
-use Rattle.lisp_reader.specs.Token.{run, Denotes, DenotesNone}
+use Rattle.lisp_tokens.specs.Characters.{is_token_char, goes_on, begins_with}
+use Rattle.lisp_tokens.specs.Fault.{Kind, end_inside, stray_close, bad_token, bad_dot, bad_hash, too_deep, not_text}
+use Rattle.lisp_tokens.specs.Gaps.{Gaps, GapFails, no_more, blank, comment, block, here, in_block, in_open_block, open_block, after_blank, after_comment, after_block, line, after_line, is_in_line, begins_gap, opens_comment, closes_comment, Closes, Unclosed, mark, nested, other}
+use Rattle.lisp_tokens.specs.Prefix.{HasPrefix, quote, function, backquote, comma, splice, extends_comma}
+use Rattle.lisp_tokens.specs.Reading.{Spells, Items, Tail, Fails, TailFails, EndFails, NoDatum, BeginsDatum, of_token, in_quotes, in_parentheses, with_dot, prefixed, none, more, tail, at_end, at_close, at_hash, at_comma, at_token, at_other, a_token, a_string, a_list, a_prefix, before_end, second, no_close, at_front, list_too_deep, prefix_too_deep, no_quote, in_string, in_item, before_item, after_dot, in_prefixed, after_prefix, before_tail, no_tail, in_tail, after_tail, closes, dot_fits}
+use Rattle.lisp_tokens.specs.Strings.{body_len, body, after_body, characters}
+use Rattle.lisp_tokens.specs.Token.{run, Denotes, DenotesNone}
 use Rattle.lisp_reader.proofs.OneReading.{spells-none}
-use Rattle.lisp_reader.proofs.OnStrings.{body_len-le}
+use Rattle.lisp_tokens.proofs.OnStrings.{body_len-le}
 
 -- ---- a newline ends a token and a line
 

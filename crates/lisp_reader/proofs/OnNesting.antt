@@ -4,10 +4,10 @@ use Rattle.std.proofs.lemmas.List.{map_push}
 use Rattle.lisp_data.specs.Datum.{Dat, integer, symbol, string, list, dotted, method, Dats, elements, list_from, nesting_of, nesting_in}
 use Rattle.lisp_data.specs.DatumView.{datum_of}
 use Rattle.lisp_data.specs.declared.datum.Datum.{Datum}
-use Rattle.lisp_reader.specs.Reading.{Spells, Items, Tail, of_token, in_quotes, in_parentheses, with_dot, prefixed, none, more, tail, list_of, ending_in, is_nil}
-use Rattle.lisp_reader.specs.Token.{run, Means, class_of}
-use Rattle.lisp_reader.specs.declared.token.Class.{Class}
-use Rattle.lisp_reader.specs.declared.token.Class.TheVariants.{Integer, Dot, Keyword, Symbol, Bad}
+use Rattle.lisp_tokens.specs.Reading.{Spells, Items, Tail, of_token, in_quotes, in_parentheses, with_dot, prefixed, none, more, tail, list_of, ending_in, is_nil}
+use Rattle.lisp_tokens.specs.Token.{run, Means, class_of}
+use Rattle.lisp_tokens.specs.declared.token.Class.{Class}
+use Rattle.lisp_tokens.specs.declared.token.Class.TheVariants.{Integer, Dot, Keyword, Symbol, Bad}
 use Rattle.lisp_reader.proofs.OnLists.{list_from-elements}
 
 pub nesting-append : (xs ys : List Dat) → nesting_in (list_from (xs ++ ys)) ≡ max (nesting_in (list_from xs)) (nesting_in (list_from ys))

@@ -3,13 +3,13 @@ use Rattle.std.proofs.Common.{◌≡◌, ◌∙◌, ℕ, ◌+◌, ◌-◌, ◌<�
 use Rattle.std.proofs.lemmas.Bool.{eqb-true, false≢true}
 use Rattle.std.proofs.lemmas.List.{drop_more, drop-drop}
 use Rattle.lisp_data.specs.Datum.{Dat}
-use Rattle.lisp_reader.specs.Characters.{begins_token, begins_with, goes_on}
-use Rattle.lisp_reader.specs.Fault.{Kind, bad_dot, too_deep}
-use Rattle.lisp_reader.specs.Gaps.{Gaps, GapFails}
-use Rattle.lisp_reader.specs.Memory.{Takes, an_element, in_element}
-use Rattle.lisp_reader.specs.Prefix.{HasPrefix}
-use Rattle.lisp_reader.specs.Reading.{Spells, Items, Tail, Fails, TailFails, NoDatum, BeginsDatum, in_parentheses, with_dot, prefixed, none, more, list_too_deep, in_item, before_item, after_dot, a_token, a_string, a_list, at_token, closes, is_dot, dot_fits, list_of, prefixed_by, ending_in}
-use Rattle.lisp_reader.proofs.OnFront.{starts}
+use Rattle.lisp_tokens.specs.Characters.{begins_token, begins_with, goes_on}
+use Rattle.lisp_tokens.specs.Fault.{Kind, bad_dot, too_deep}
+use Rattle.lisp_tokens.specs.Gaps.{Gaps, GapFails}
+use Rattle.lisp_tokens.specs.Memory.{Takes, an_element, in_element}
+use Rattle.lisp_tokens.specs.Prefix.{HasPrefix}
+use Rattle.lisp_tokens.specs.Reading.{Spells, Items, Tail, Fails, TailFails, NoDatum, BeginsDatum, in_parentheses, with_dot, prefixed, none, more, list_too_deep, in_item, before_item, after_dot, a_token, a_string, a_list, at_token, closes, is_dot, dot_fits, list_of, prefixed_by, ending_in}
+use Rattle.lisp_tokens.proofs.OnFront.{starts}
 use Rattle.lisp_reader.proofs.OneFront as front
 use Rattle.lisp_reader.proofs.OneFront.{Read, got, fault, TokenWay, a_datum, no_datum, reads-at, begins-token, got-fault}
 

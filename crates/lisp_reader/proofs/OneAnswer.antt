@@ -2,9 +2,9 @@
 use Rattle.std.proofs.Common.{◌≡◌, ◌≢◌, ◌∙◌, ℕ, List, [], refl, sym, ap, subst}
 use Rattle.lisp_data.specs.Datum.{Dat}
 use Rattle.lisp_reader.specs.Answers.{Next, NextFails, next, in_gaps, unfinished, in_datum, most_open, Outcome, nothing_left, a_datum, a_fault, Gives}
-use Rattle.lisp_reader.specs.Fault.{Kind, end_inside}
-use Rattle.lisp_reader.specs.Gaps.{Gaps, GapFails}
-use Rattle.lisp_reader.specs.Reading.{Spells, Fails}
+use Rattle.lisp_tokens.specs.Fault.{Kind, end_inside}
+use Rattle.lisp_tokens.specs.Gaps.{Gaps, GapFails}
+use Rattle.lisp_tokens.specs.Reading.{Spells, Fails}
 use Rattle.lisp_reader.proofs.OneGap.{Gaps-unique, Gaps-clash, GapFails-unique}
 use Rattle.lisp_reader.proofs.OneReading.{Spells-unique, spells-none, Fails-clash, Fails-unique}
 

@@ -3,15 +3,15 @@ use Rattle.std.proofs.Common.{◌≡◌, ◌≢◌, ℕ, ◌-◌, ◌<◌, List,
 use Rattle.std.specs.Str.{IsValidUpTo}
 use Rattle.std.proofs.lemmas.Bool.{false≢true, eqb-true, cases_eq}
 use Rattle.lisp_data.specs.Datum.{Dat, string}
-use Rattle.lisp_reader.specs.Characters.{is_token_char, begins_token, opens, begins_something, begins_with, goes_on}
-use Rattle.lisp_reader.specs.Fault.{Kind, end_inside, stray_close, bad_token, bad_hash, too_deep, not_text}
-use Rattle.lisp_reader.specs.Gaps.{Gaps, GapFails}
-use Rattle.lisp_reader.specs.Prefix.{HasPrefix, quote, function, backquote, comma, splice, extends_comma}
-use Rattle.lisp_reader.specs.Reading.{Spells, Items, Tail, Fails, TailFails, NoDatum, of_token, in_quotes, in_parentheses, with_dot, prefixed, at_end, at_close, at_hash, at_comma, at_token, at_other, at_front, list_too_deep, prefix_too_deep, no_quote, in_string, in_item, before_item, after_dot, in_prefixed, after_prefix, list_of, prefixed_by, ending_in, closes, dot_fits}
-use Rattle.lisp_reader.specs.Strings.{body, after_body, characters}
-use Rattle.lisp_reader.specs.Token.{run, after_run, Denotes, DenotesNone, Means, class_of, is_integer, is_ratio, is_float}
-use Rattle.lisp_reader.specs.declared.token.Class.{Class}
-use Rattle.lisp_reader.specs.declared.token.Class.TheVariants.{Dot}
+use Rattle.lisp_tokens.specs.Characters.{is_token_char, begins_token, opens, begins_something, begins_with, goes_on}
+use Rattle.lisp_tokens.specs.Fault.{Kind, end_inside, stray_close, bad_token, bad_hash, too_deep, not_text}
+use Rattle.lisp_tokens.specs.Gaps.{Gaps, GapFails}
+use Rattle.lisp_tokens.specs.Prefix.{HasPrefix, quote, function, backquote, comma, splice, extends_comma}
+use Rattle.lisp_tokens.specs.Reading.{Spells, Items, Tail, Fails, TailFails, NoDatum, of_token, in_quotes, in_parentheses, with_dot, prefixed, at_end, at_close, at_hash, at_comma, at_token, at_other, at_front, list_too_deep, prefix_too_deep, no_quote, in_string, in_item, before_item, after_dot, in_prefixed, after_prefix, list_of, prefixed_by, ending_in, closes, dot_fits}
+use Rattle.lisp_tokens.specs.Strings.{body, after_body, characters}
+use Rattle.lisp_tokens.specs.Token.{run, after_run, Denotes, DenotesNone, Means, class_of, is_integer, is_ratio, is_float}
+use Rattle.lisp_tokens.specs.declared.token.Class.{Class}
+use Rattle.lisp_tokens.specs.declared.token.Class.TheVariants.{Dot}
 
 -- ---- what begins
 

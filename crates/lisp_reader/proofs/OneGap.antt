@@ -3,10 +3,10 @@ use Rattle.std.proofs.Common.{◌≡◌, ◌∙◌, ℕ, List, [], ◌∷◌, ta
 use Rattle.std.specs.Str.{IsValidUpTo}
 use Rattle.std.proofs.lemmas.Bool.{false≢true}
 use Rattle.std.proofs.lemmas.Str.{utf8_valid_len-IsUtf8, utf8_valid_len-IsValidUpTo}
-use Rattle.lisp_reader.specs.Characters.{is_blank}
-use Rattle.lisp_reader.specs.Fault.{Kind, end_inside, not_text}
-use Rattle.lisp_reader.specs.Gaps.{Gaps, GapFails, no_more, blank, comment, block, here, in_block, in_open_block, open_block, after_blank, after_comment, after_block, line, after_line, begins_gap, opens_comment, Closes, Unclosed}
-use Rattle.lisp_reader.proofs.OnComments.{Closes-unique}
+use Rattle.lisp_tokens.specs.Characters.{is_blank}
+use Rattle.lisp_tokens.specs.Fault.{Kind, end_inside, not_text}
+use Rattle.lisp_tokens.specs.Gaps.{Gaps, GapFails, no_more, blank, comment, block, here, in_block, in_open_block, open_block, after_blank, after_comment, after_block, line, after_line, begins_gap, opens_comment, Closes, Unclosed}
+use Rattle.lisp_tokens.proofs.OnComments.{Closes-unique}
 
 pub valid-not_utf8 : (bs : List ℕ) (n : ℕ) → IsValidUpTo bs n → IsUtf8 bs → ⊥
 valid-not_utf8 bs n valid utf8 =

@@ -3,14 +3,14 @@ use Rattle.std.proofs.Common.{◌≡◌, ◌∙◌, ℕ, ◌-◌, ◌<◌, List,
 use Rattle.std.specs.Str.{IsValidUpTo}
 use Rattle.std.proofs.lemmas.Bool.{false≢true, eqb-true}
 use Rattle.lisp_data.specs.Datum.{Dat, string}
-use Rattle.lisp_reader.specs.Fault.{Kind, end_inside, bad_token, bad_dot, bad_hash, too_deep, not_text, stray_close}
-use Rattle.lisp_reader.specs.Gaps.{Gaps, GapFails}
-use Rattle.lisp_reader.specs.Reading.{Spells, Items, Tail, Fails, TailFails, NoDatum, BeginsDatum, EndFails, of_token, in_quotes, in_parentheses, with_dot, prefixed, none, more, tail, at_end, at_close, at_hash, at_comma, at_token, at_other, before_end, second, no_close, at_front, list_too_deep, prefix_too_deep, no_quote, in_string, in_item, before_item, after_dot, in_prefixed, after_prefix, before_tail, no_tail, in_tail, after_tail, list_of, closes, dot_fits}
-use Rattle.lisp_reader.specs.Reading as reading
-use Rattle.lisp_reader.specs.Strings.{body, after_body, characters}
-use Rattle.lisp_reader.specs.Token.{run, after_run, Denotes, DenotesNone, Means, Refused, class_of}
-use Rattle.lisp_reader.specs.declared.token.Class.{Class}
-use Rattle.lisp_reader.specs.declared.token.Class.TheVariants.{Integer, Dot, Keyword, Symbol, Bad}
+use Rattle.lisp_tokens.specs.Fault.{Kind, end_inside, bad_token, bad_dot, bad_hash, too_deep, not_text, stray_close}
+use Rattle.lisp_tokens.specs.Gaps.{Gaps, GapFails}
+use Rattle.lisp_tokens.specs.Reading.{Spells, Items, Tail, Fails, TailFails, NoDatum, BeginsDatum, EndFails, of_token, in_quotes, in_parentheses, with_dot, prefixed, none, more, tail, at_end, at_close, at_hash, at_comma, at_token, at_other, before_end, second, no_close, at_front, list_too_deep, prefix_too_deep, no_quote, in_string, in_item, before_item, after_dot, in_prefixed, after_prefix, before_tail, no_tail, in_tail, after_tail, list_of, closes, dot_fits}
+use Rattle.lisp_tokens.specs.Reading as reading
+use Rattle.lisp_tokens.specs.Strings.{body, after_body, characters}
+use Rattle.lisp_tokens.specs.Token.{run, after_run, Denotes, DenotesNone, Means, Refused, class_of}
+use Rattle.lisp_tokens.specs.declared.token.Class.{Class}
+use Rattle.lisp_tokens.specs.declared.token.Class.TheVariants.{Integer, Dot, Keyword, Symbol, Bad}
 use Rattle.lisp_reader.proofs.OneGap.{Gaps-unique, Gaps-clash, GapFails-unique, valid-not_utf8, valid-unique}
 use Rattle.lisp_reader.proofs.OneFront as front
 use Rattle.lisp_reader.proofs.OneFront.{Begins, begins, begins-token, prefix-begins, hash-begins, other-begins, Read, got, fault, is_got, Reading, TailReading, operated, ended, operated-got, ended-got, TokenWay, a_datum, no_datum, StringWay, quoted, unended, ill_formed, PrefixWay, deep_prefix, bad_gap, inside, Ending, closing, dotting, gap_ending, item_ending, ListWay, deep_list, with_items, ReadAs, reads-by, reads-at, got-fault, spells-close, spells-dot}

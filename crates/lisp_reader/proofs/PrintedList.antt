@@ -9,10 +9,10 @@ use Rattle.lisp_data.specs.Name.{Nam, same_kind}
 use Rattle.lisp_data.specs.Datum.{Dat, integer, symbol, string, list, dotted, method, Dats, nil, cons, elements, nesting_of, nesting_in}
 use Rattle.lisp_data.specs.Print.{Names, name_text, text_of, text_with, texts_with, method_text, spaced}
 use Rattle.lisp_reader.specs.Answers.{next, most_open}
-use Rattle.lisp_reader.specs.Characters.{is_token_char, begins_token}
-use Rattle.lisp_reader.specs.Gaps.{no_more, blank, begins_gap}
+use Rattle.lisp_tokens.specs.Characters.{is_token_char, begins_token}
+use Rattle.lisp_tokens.specs.Gaps.{no_more, blank, begins_gap}
 use Rattle.lisp_reader.specs.Printed.{quoted_value, quoted_values, IsPlain, ArePlain, ReadsBack}
-use Rattle.lisp_reader.specs.Reading.{is_nil, Spells, Items, in_parentheses, none, more, list_of}
+use Rattle.lisp_tokens.specs.Reading.{is_nil, Spells, Items, in_parentheses, none, more, list_of}
 use Rattle.lisp_reader.proofs.OnLists.{list_from-elements}
 use Rattle.lisp_reader.proofs.PrintedString.{Spells-printed_string}
 use Rattle.lisp_reader.proofs.PrintedToken.{Word, word-integer, word-name, Spells-printed}

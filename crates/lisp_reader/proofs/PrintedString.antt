@@ -12,8 +12,8 @@ use Rattle.std.proofs.lemmas.List.{length-append}
 use Rattle.std.proofs.lemmas.Str.{chars-encodes, encode_ascii, encodes-append, inside_one}
 use Rattle.lisp_data.specs.Datum.{string}
 use Rattle.lisp_data.specs.Print.{escaped, string_text}
-use Rattle.lisp_reader.specs.Reading.{Spells, in_quotes}
-use Rattle.lisp_reader.specs.Strings.{body_len, body, after_body, unescaped, characters}
+use Rattle.lisp_tokens.specs.Reading.{Spells, in_quotes}
+use Rattle.lisp_tokens.specs.Strings.{body_len, body, after_body, unescaped, characters}
 
 -- a double quote, a backslash, or neither
 abbrev Kinds : ℕ → Type 0

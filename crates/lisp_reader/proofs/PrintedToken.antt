@@ -13,12 +13,12 @@ use Rattle.std.proofs.lemmas.Fmt.{decimal_is_IsNumeral}
 use Rattle.lisp_data.specs.Name.{Nam}
 use Rattle.lisp_data.specs.Datum.{Dat, integer, symbol}
 use Rattle.lisp_data.specs.Print.{name_text}
-use Rattle.lisp_reader.specs.Characters.{is_token_char, begins_token}
+use Rattle.lisp_tokens.specs.Characters.{is_token_char, begins_token}
 use Rattle.lisp_reader.specs.Printed.{is_plain_char, IsNameOf, IsPlainName}
-use Rattle.lisp_reader.specs.Reading.{Spells, of_token}
-use Rattle.lisp_reader.specs.Token.{run, after_run, class_of, Means, Denotes, is_integer, is_ratio, is_float, is_keyword, is_digits, all_digits, is_empty, is_point, is_slash, is_colon, is_marker, value}
-use Rattle.lisp_reader.specs.declared.token.Class.{Class}
-use Rattle.lisp_reader.specs.declared.token.Class.TheVariants.{Integer, Keyword, Symbol}
+use Rattle.lisp_tokens.specs.Reading.{Spells, of_token}
+use Rattle.lisp_tokens.specs.Token.{run, after_run, class_of, Means, Denotes, is_integer, is_ratio, is_float, is_keyword, is_digits, all_digits, is_empty, is_point, is_slash, is_colon, is_marker, value}
+use Rattle.lisp_tokens.specs.declared.token.Class.{Class}
+use Rattle.lisp_tokens.specs.declared.token.Class.TheVariants.{Integer, Keyword, Symbol}
 
 -- ---- where a run ends
 

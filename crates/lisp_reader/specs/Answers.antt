@@ -3,11 +3,12 @@ use Rattle.std.specs.Prelude.{◌≡◌, ◌≢◌, ℕ, ℤ, ◌+◌, ◌≤◌
 use Rattle.lisp_data.specs.Datum.{Dat, integer}
 use Rattle.lisp_data.specs.DatumView.{datum_of}
 use Rattle.lisp_data.specs.declared.datum.Datum.{Datum}
-use Rattle.lisp_reader.specs.Fault.{Kind, end_inside, OnRefusal, OnFault}
-use Rattle.lisp_reader.specs.Gaps.{Gaps, GapFails}
-use Rattle.lisp_reader.specs.Memory.{Takes}
-use Rattle.lisp_reader.specs.Reading.{Spells, NoDatum, Fails, Tail, TailFails, EndFails}
-use Rattle.lisp_reader.specs.declared.fault.ReadFault.{ReadFault}
+use Rattle.lisp_tokens.specs.Fault.{Kind, end_inside, OnFault}
+use Rattle.lisp_tokens.specs.Gaps.{Gaps, GapFails}
+use Rattle.lisp_tokens.specs.Memory.{Takes}
+use Rattle.lisp_tokens.specs.Reading.{Spells, NoDatum, Fails, Tail, TailFails, EndFails}
+use Rattle.lisp_tokens.specs.declared.fault.ReadFault.{ReadFault}
+use Rattle.lisp_tokens.specs.declared.fault.ReadFault.TheVariants.{EndInside}
 
 -- how many lists and prefixes may be open at once
 abbrev pub most_open : ℕ
@@ -64,21 +65,6 @@ abbrev pub FaultStays : Type 0
 FaultStays =
     (text more : List ℕ) (kind : Kind) (at : List ℕ) → kind ≢ end_inside → Gives text (a_fault kind at) → Gives (text ++ (10 ∷ more)) (a_fault kind (at ++ (10 ∷ more)))
 
--- a datum that begins at an offset, with the offset after it
-abbrev pub Reads : List ℕ → ℕ → ℕ → Datum × ℕ → Type 0
-Reads bytes room at found =
-    (at < found.1) × (found.1 ≤ length bytes) × Spells room (drop at bytes) (datum_of found.0) (drop found.1 bytes)
-
--- or the fault that stands in its place; memory runs out only where the datum takes some
-abbrev pub Refuses : List ℕ → ℕ → ℕ → ReadFault → Type 0
-Refuses bytes room at fault =
-    OnRefusal fault (λ kind n. (n ≤ length bytes) × Fails room (drop at bytes) kind (drop n bytes)) (Takes room (drop at bytes))
-
--- the gaps at an offset are at fault, and take no memory
-abbrev pub GapRefuses : List ℕ → ℕ → ReadFault → Type 0
-GapRefuses bytes at fault =
-    OnRefusal fault (λ kind n. (n ≤ length bytes) × GapFails (drop at bytes) kind (drop n bytes)) ⊥
-
 -- one datum after the dot at `dot` and the closing parenthesis, with the offset after that
 abbrev pub ReadsTail : List ℕ → ℕ → ℕ → Datum × ℕ → Type 0
 ReadsTail bytes room dot found =
@@ -97,3 +83,8 @@ Ends bytes from n = (from < n) × (n ≤ length bytes) × Gaps (drop from bytes)
 abbrev pub RefusesEnd : List ℕ → ℕ → ReadFault → Type 0
 RefusesEnd bytes from fault =
     OnFault fault (λ kind n. (n ≤ length bytes) × EndFails (drop from bytes) kind (drop n bytes))
+
+-- the same fault, but for an end inside of a datum at `start`
+abbrev pub outermost : ReadFault → ℕ → ReadFault
+outermost (EndInside n) start = EndInside start
+outermost fault start = fault

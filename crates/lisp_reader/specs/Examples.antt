@@ -1,39 +1,16 @@
 -- Small texts and what is read of them, small values and what they print as: instances of the definitions.
-use Rattle.std.specs.Prelude.{◌≡◌, pos, true, false, [], ◌∷◌, codes, None, refl}
+use Rattle.std.specs.Prelude.{◌≡◌, true, false, [], ◌∷◌, codes, None, refl}
 use Rattle.std.specs.Str.{chars}
 use Rattle.std.proofs.Math.Utf8.{encode}
 use Rattle.std.proofs.lemmas.Bool.{ltb-true}
-use Rattle.lisp_data.specs.Datum.{integer, symbol, string}
+use Rattle.lisp_data.specs.Datum.{string}
 use Rattle.lisp_data.specs.Print.{Names, text_of}
 use Rattle.lisp_data.specs.Value.{string as string_value, symbol as symbol_value, list as list_value, nil, cons}
 use Rattle.lisp_reader.specs.Answers.{Gives, a_datum, next}
-use Rattle.lisp_reader.specs.Fault.{bad_token}
-use Rattle.lisp_reader.specs.Gaps.{Closes, mark, nested, other, blank, no_more}
-use Rattle.lisp_reader.specs.Prefix.{quote}
-use Rattle.lisp_reader.specs.Reading.{Spells, of_token, in_quotes, in_parentheses, with_dot, prefixed, Items, none, more, Tail, tail, named, prefixed_by, list_of}
-use Rattle.lisp_reader.specs.Token.{Denotes, DenotesNone, class_of, is_integer, is_ratio, is_float, is_keyword}
-
--- ---- tokens
-
--- 12. is the integer 12, since a point may follow the digits
-point_after_digits : Denotes (codes "12.") (integer (pos 12))
-unfolding class_of is_integer
-point_after_digits = (record { sfits = ltb-true _ _ refl }, refl)
-
--- 1+ is the symbol 1+: digits must follow a sign
-sign_after_digit : Denotes (codes "1+") (named (codes "1+"))
-unfolding class_of is_integer is_ratio is_float
-sign_after_digit = refl
-
--- :key is the keyword KEY
-colon_first : Denotes (codes ":key") (symbol (record { text = codes "KEY"; keyword = true }))
-unfolding class_of is_integer is_ratio is_float is_keyword
-colon_first = refl
-
--- 1/2 is a number of another type, so a bad token
-ratio : DenotesNone (codes "1/2") bad_token
-unfolding class_of is_integer is_ratio
-ratio = refl
+use Rattle.lisp_tokens.specs.Gaps.{blank, no_more}
+use Rattle.lisp_tokens.specs.Prefix.{quote}
+use Rattle.lisp_tokens.specs.Reading.{Spells, of_token, in_quotes, in_parentheses, with_dot, prefixed, Items, none, more, Tail, tail, named, prefixed_by, list_of}
+use Rattle.lisp_tokens.specs.Token.{class_of, is_integer, is_ratio, is_float}
 
 -- ---- texts
 
@@ -60,13 +37,6 @@ an_escaped_quote : Gives (codes "\"a\\\"b\"") (a_datum (string (codes "a\"b")) [
 unfolding chars encode
 an_escaped_quote =
     next _ _ _ [] (no_more _ refl) (in_quotes 200 (codes "a\\\"b\"") [] (codes "a\\\"b", (refl, refl)) refl)
-
--- comments nest: that which begins as #|a #|b|# c|# ends at the second mark |#
-comments_nest : Closes (codes "a #|b|# c|#") 11
-comments_nest =
-    let inner : Closes (codes "b|# c|#") 3 = other 98 _ 2 refl refl (mark (codes " c|#")) in
-    let after : Closes (codes " c|#") 4 = other 32 _ 3 refl refl (other 99 _ 2 refl refl (mark [])) in
-    other 97 _ 10 refl refl (other 32 _ 9 refl refl (nested _ 3 4 inner after))
 
 -- ---- printing
 

@@ -1,12 +1,5 @@
 pub mod Answers
-pub mod Characters
 pub mod Examples
-pub mod Fault
-pub mod Front
-pub mod Gaps
-pub mod Memory
-pub mod Prefix
 pub mod Printed
-pub mod Reading
-pub mod Strings
-pub mod Token
+pub use Rattle.lisp_tokens.specs.Fault as Fault
+pub use Rattle.lisp_tokens.specs.Gaps as Gaps

@@ -8,10 +8,10 @@ use Rattle.lisp_data.specs.Datum.{Dat, integer, symbol, string, list, dotted, me
 use Rattle.lisp_data.specs.Value.{Val, integer as integer_value, symbol as symbol_value, string as string_value, list as list_value, method as method_value, Vals, nil as no_values, cons as values}
 use Rattle.lisp_data.specs.Print.{Names, text_of}
 use Rattle.lisp_reader.specs.Answers.{Gives, a_datum, most_open}
-use Rattle.lisp_reader.specs.Characters.{is_token_char}
-use Rattle.lisp_reader.specs.Reading.{is_nil}
-use Rattle.lisp_reader.specs.Token.{class_of, is_colon}
-use Rattle.lisp_reader.specs.declared.token.Class.TheVariants.{Symbol}
+use Rattle.lisp_tokens.specs.Characters.{is_token_char}
+use Rattle.lisp_tokens.specs.Reading.{is_nil}
+use Rattle.lisp_tokens.specs.Token.{class_of, is_colon}
+use Rattle.lisp_tokens.specs.declared.token.Class.TheVariants.{Symbol}
 
 -- the value of (QUOTE datum): NIL is the empty list. No value has a dotted list's elements, so any stands for it
 abbrev mutual

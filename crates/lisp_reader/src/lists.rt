@@ -3,7 +3,7 @@ ghost use Rattle.std.specs.Prelude.{◌≡◌, ◌≤◌, ◌<◌, ◌++◌, len
 ghost use Rattle.lisp_data.specs.DatumView.{datum_of};
 ghost use Rattle.lisp_data.specs.Datum.{cons, dotted, list_from, elements, nesting_of, nesting_in, nesting_of_dot};
 ghost use Rattle.lisp_data.specs.Limits.{most_nesting};
-ghost use Rattle.lisp_reader.specs.Reading.{list_of, ending_in, is_nil, prefixed_by};
+ghost use Rattle.lisp_tokens.specs.Reading.{list_of, ending_in, is_nil, prefixed_by};
 
 use lisp_data::{Data, Datum, Dot, ListFault, Name};
 use std::alloc::{AllocError, Global};

@@ -1,21 +1,19 @@
 //! Data: lists, prefixes and what stands in them (HyperSpec 2.2, 2.4).
 ghost use Rattle.std.specs.Prelude.{◌≡◌, ℕ, ◌+◌, ◌<◌, ◌≤◌, length, drop, map, slice_index, false, Err, IfOk, IfSome, IsTrue, MatchResult};
-ghost use Rattle.lisp_reader.specs.Answers.{Answers, TakesMemory, most_open, Reads, Refuses, ReadsTail, RefusesTail, Ends, RefusesEnd};
-ghost use Rattle.lisp_reader.specs.Front.{BeginsPrefix};
-ghost use Rattle.lisp_reader.specs.Reading.{closes, dot_fits, is_dot};
+ghost use Rattle.lisp_reader.specs.Answers.{Answers, TakesMemory, most_open, outermost, ReadsTail, RefusesTail, Ends, RefusesEnd};
+ghost use Rattle.lisp_tokens.specs.Offsets.{Reads, Refuses};
+ghost use Rattle.lisp_tokens.specs.Front.{BeginsPrefix};
+ghost use Rattle.lisp_tokens.specs.Reading.{closes, dot_fits, is_dot};
 ghost use Rattle.lisp_data.specs.Datum.{nesting_of};
 ghost use Rattle.lisp_data.specs.DatumView.{datum_of};
-ghost use Rattle.lisp_reader.specs.Gaps.{Gaps};
-ghost use Rattle.lisp_reader.specs.declared.fault.ReadFault.TheVariants.{Memory};
+ghost use Rattle.lisp_tokens.specs.Gaps.{Gaps};
+ghost use Rattle.lisp_tokens.specs.declared.fault.ReadFault.TheVariants.{Memory};
 
-use crate::characters::{begins_with, goes_on};
-use crate::fault::ReadFault;
-use crate::front::{Front, Prefix, front_at};
-use crate::gaps::skip_gaps;
 use crate::lists::{ending_in, list_of, prefixed_by};
-use crate::strings::read_string;
-use crate::token::read_token;
 use lisp_data::Datum;
+use lisp_tokens::{
+    Front, Prefix, ReadFault, begins_with, front_at, goes_on, read_string, read_token, skip_gaps,
+};
 use std::alloc::Global;
 
 /// How many lists and prefixes may be open at once.
@@ -40,7 +38,17 @@ pub fn read_form(
     }
     match read_datum(alloc, bytes, start, MAX_NESTING) {
         Ok((datum, end)) => Ok(Some((datum, end))),
-        Err(fault) => Err(fault.outermost(start)),
+        Err(fault) => Err(outermost(fault, start)),
+    }
+}
+
+/// This fault inside of a datum that begins at `start`: if the text ends, it ends inside of that one.
+fn outermost(fault: ReadFault, start: usize) -> ReadFault
+    ensures { result ≡ outermost fault start }
+{
+    match fault {
+        ReadFault::EndInside(_) => ReadFault::EndInside(start),
+        other => other,
     }
 }
 

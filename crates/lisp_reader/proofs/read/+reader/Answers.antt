@@ -6,9 +6,9 @@ use Rattle.lisp_data.specs.Datum.{Dat, list_from, nesting_in}
 use Rattle.lisp_data.specs.DatumView.{datum_of}
 use Rattle.lisp_data.specs.Limits.{most_nesting}
 use Rattle.lisp_reader.specs.Answers.{most_open}
-use Rattle.lisp_reader.specs.Gaps.{GapFails}
-use Rattle.lisp_reader.specs.Memory.{Takes, in_prefixed as takes_in_prefixed, a_prefix}
-use Rattle.lisp_reader.specs.Reading.{Items, Fails, TailFails, EndFails, none, tail, prefix_too_deep, in_prefixed, after_prefix, before_tail, no_tail, in_tail, after_tail}
+use Rattle.lisp_tokens.specs.Gaps.{GapFails}
+use Rattle.lisp_tokens.specs.Memory.{Takes, in_prefixed as takes_in_prefixed, a_prefix}
+use Rattle.lisp_tokens.specs.Reading.{Items, Fails, TailFails, EndFails, none, tail, prefix_too_deep, in_prefixed, after_prefix, before_tail, no_tail, in_tail, after_tail}
 use Rattle.lisp_reader.proofs.OnNesting.{Spells-nesting, Items-nesting, Tail-nesting}
 use Rattle.lisp_reader.proofs.OnFaults.{OnRefusal-lift, Refuses-front}
 use Rattle.lisp_reader.proofs.OnReading.{Front, Items-push, Spells-list, Spells-dotted, Fails-after_dot, Fails-item, Fails-before_item, Fails-deep_list, Spells-prefixed, Takes-item, Takes-items, Takes-pushed, some-before_dot, dot-at, tail-place}

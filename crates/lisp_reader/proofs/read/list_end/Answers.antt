@@ -1,8 +1,8 @@
 use Rattle.std.proofs.Common.{drop, arith, subst, sym, refl}
 use Rattle.std.specs.Bool.{⊤}
 use Rattle.std.proofs.lemmas.Result.{err_from_is_err_and}
-use Rattle.lisp_reader.specs.Gaps.{Gaps, GapFails}
-use Rattle.lisp_reader.specs.Reading.{EndFails, before_end}
+use Rattle.lisp_tokens.specs.Gaps.{Gaps, GapFails}
+use Rattle.lisp_tokens.specs.Reading.{EndFails, before_end}
 use Rattle.lisp_reader.proofs.OnFaults.{OnRefusal-lift}
 use Rattle.lisp_reader.proofs.OnReading.{closing-starts}
 use Rattle.lisp_reader.proofs.read.list_end.Goals as goal

@@ -2,7 +2,7 @@ use Rattle.std.proofs.Common.{◌<◌, length, drop, arith}
 use Rattle.std.specs.Bool.{⊤}
 use Rattle.std.proofs.lemmas.Result.{err_from_is_err_and}
 use Rattle.lisp_reader.specs.Answers.{NextFails, next, in_gaps}
-use Rattle.lisp_reader.specs.Gaps.{GapFails}
+use Rattle.lisp_tokens.specs.Gaps.{GapFails}
 use Rattle.lisp_reader.proofs.OnAnswers.{NextFails-datum}
 use Rattle.lisp_reader.proofs.OnFaults.{OnRefusal-lift}
 use Rattle.lisp_reader.proofs.OnNesting.{Spells-nesting}

@@ -1,7 +1,7 @@
 use Rattle.std.proofs.Common.{drop, inl, inr}
-use Rattle.lisp_reader.specs.Front.{Begins}
-use Rattle.lisp_reader.specs.Reading.{BeginsDatum, second, a_prefix}
-use Rattle.lisp_reader.specs.declared.front.Front.TheVariants.{String, List as AList, Prefixed}
+use Rattle.lisp_tokens.specs.Front.{Begins}
+use Rattle.lisp_tokens.specs.Reading.{BeginsDatum, second, a_prefix}
+use Rattle.lisp_tokens.specs.declared.front.Front.TheVariants.{String, List as AList, Prefixed}
 use Rattle.lisp_reader.proofs.OnFaults.{RefusesEnd-front, RefusesEnd-token}
 use Rattle.lisp_reader.proofs.OnReading.{BeginsDatum-string, BeginsDatum-list, BeginsDatum-token}
 use Rattle.lisp_reader.proofs.read.surplus.Goals as goal

@@ -1,0 +1,11 @@
+pub mod Characters
+pub mod Examples
+pub mod Fault
+pub mod Front
+pub mod Gaps
+pub mod Memory
+pub mod Offsets
+pub mod Prefix
+pub mod Reading
+pub mod Strings
+pub mod Token
