@@ -15,9 +15,9 @@ use Rattle.clos_machine.specs.clos_world.declared.condition.Stop.TheVariants.{Re
 use Rattle.clos_generic_core.specs.declared.system.SystemFunction.{SystemFunction}
 use Rattle.clos_generic_core.specs.declared.system.SystemFunction.TheVariants.{InitializeInstance, ReinitializeInstance, SharedInitialize, UpdateInstanceForRedefinedClass, UpdateInstanceForDifferentClass, SlotUnbound, SlotMissing, NoApplicableMethod, NoNextMethod}
 use Rattle.clos_machine.specs.clos_meaning.ClassFunctions.{wrong_type}
-use Rattle.clos_machine.specs.clos_meaning.Filling.{are_slot_names, initargs_in, names_in}
+use Rattle.clos_machine.specs.clos_meaning.Filling.{are_slot_names}
 use Rattle.clos_machine.specs.clos_meaning.Initialization.{invalid_for, invalid_initarg, methods_reached}
-use Rattle.clos_machine.specs.Machine.{DesignatesInstance, Leads, at, inside, resume}
+use Rattle.clos_machine.specs.Machine.{DesignatesInstance, Leads, at, inside, resume, initargs_in, names_in}
 use Rattle.clos_machine.specs.clos_meaning.Meaning.{closed}
 use Rattle.clos_machine.specs.clos_meaning.Outcome.{Eval, Run, Stopped, stopped}
 use Rattle.clos_machine.specs.clos_meaning.Slots.{instance_in}

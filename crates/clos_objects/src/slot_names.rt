@@ -3,7 +3,8 @@ ghost use Rattle.std.specs.Prelude.{◌≡◌, map};
 ghost use Rattle.std.specs.Option.{option_map_or};
 ghost use Rattle.lisp_data.specs.Value.{list, nil};
 ghost use Rattle.lisp_data.specs.ValueView.{value_of};
-ghost use Rattle.clos_machine.specs.clos_meaning.Filling.{are_slot_names, are_symbols, initargs_in, is_listed, is_named, is_symbol_t, names_in};
+ghost use Rattle.clos_machine.specs.Machine.{initargs_in, names_in};
+ghost use Rattle.clos_machine.specs.clos_meaning.Filling.{are_slot_names, are_symbols, is_listed, is_named, is_symbol_t};
 
 use clos_machine::parameters::{is_symbol, is_symbol_named};
 use lisp_data::{Items, Name, Value};

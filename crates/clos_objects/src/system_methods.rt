@@ -3,11 +3,10 @@ ghost use Rattle.std.specs.Prelude.{◌≡◌, ◌∷◌, [], IfOk, MatchOption,
 ghost use Rattle.lisp_data.specs.Value.{instance};
 ghost use Rattle.lisp_data.specs.ValueView.{value_of};
 ghost use Rattle.clos_machine.specs.clos_world.World.{seen};
-ghost use Rattle.clos_machine.specs.Machine.{Grows, Leads, inside};
+ghost use Rattle.clos_machine.specs.Machine.{Grows, Leads, inside, initargs_in, names_in};
 ghost use Rattle.clos_machine.specs.clos_meaning.Meaning.{meaning};
 ghost use Rattle.clos_machine.specs.clos_meaning.Slots.{instance_in};
 ghost use Rattle.clos_machine.specs.clos_meaning.SystemMethods.{class_in, initialize, initialize_slots, filled_as, reinitialize, reinitialize_as, shared_initialized, slot_condition, system_method_run, told};
-ghost use Rattle.clos_machine.specs.clos_meaning.Filling.{initargs_in, names_in};
 ghost use Rattle.clos_objects.specs.Objects.{TellsCondition, next_condition};
 ghost use Rattle.clos_machine.specs.clos_world.declared.condition.ConditionKind.TheVariants.{NoApplicableMethod};
 ghost use Rattle.clos_generic_core.specs.declared.system.SystemFunction.TheVariants.{SharedInitialize};

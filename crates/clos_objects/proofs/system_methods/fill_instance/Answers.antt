@@ -1,7 +1,7 @@
 use Rattle.std.proofs.Common.{◌≡◌, subst}
 use Rattle.std.specs.Prelude.{option_map}
 use Rattle.clos_machine.specs.clos_world.World.{seen}
-use Rattle.clos_machine.specs.clos_meaning.Filling.{initargs_in, names_in}
+use Rattle.clos_machine.specs.Machine.{initargs_in, names_in}
 use Rattle.clos_machine.specs.clos_meaning.Meaning.{meaning}
 use Rattle.clos_machine.specs.clos_meaning.SystemMethods.{class_in}
 use Rattle.clos_objects.proofs.Methods.{no_class_to_fill}
