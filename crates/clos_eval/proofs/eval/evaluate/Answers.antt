@@ -8,7 +8,8 @@ use Rattle.clos_machine.specs.Machine.{at, Reached, denote, given_to, below}
 use Rattle.clos_machine.specs.declared.machine.Doing.TheVariants.{Start, Act, Invoke, Give}
 use Rattle.clos_machine.specs.declared.machine.Doing.TheVariants as doing
 use Rattle.clos_machine.specs.declared.machine.Machine.{Machine}
-use Rattle.clos_machine.proofs.Quiet.{evaluation_quiet, start_quiet, collecting_quiet, act_quiet, invoke_quiet, loop_quiet, frame_quiet}
+use Rattle.clos_machine.proofs.clos_meaning.Quiet.{evaluation_quiet}
+use Rattle.clos_machine.proofs.Quiet.{start_quiet, collecting_quiet, act_quiet, invoke_quiet, loop_quiet, frame_quiet}
 use Rattle.clos_machine.proofs.Runs.{turns_of_leads, reached_on, reached_same, ended, popped}
 use Rattle.clos_eval.proofs.Calling.{turns_of_call}
 use Rattle.clos_eval.proofs.eval.evaluate.Goals as goal
