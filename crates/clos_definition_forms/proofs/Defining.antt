@@ -23,8 +23,8 @@ use Rattle.clos_definition.specs.Method.{eql_form, method_refusal, with_defined_
 use Rattle.clos_definition.specs.Refusal.{StopsFor}
 use Rattle.clos_definition.specs.Removal.{Finds, removable, with_removed}
 use Rattle.clos_definition.specs.declared.effect.Effect.{Effect}
-use Rattle.clos_machine.specs.Machine.{Answers, leaves}
-use Rattle.clos_machine.specs.clos_meaning.Outcome.{Run, Stopped}
+use Rattle.clos_machine.specs.Machine.{Answers}
+use Rattle.clos_machine.specs.clos_meaning.Outcome.{Run, Stopped, leaves}
 use Rattle.clos_definition_forms.specs.Definition.{class_made, define_class, define_generic, define_method, generic_made, method_made, method_removed, new_class, remove_method, removed_if, takes_effect, unless, value_at, values_removed}
 use Rattle.clos_definition_forms.specs.Forms.{EndsBefore, GoesOn, forms_evaluated}
 use Rattle.clos_definition_forms.proofs.Evaluations.{answers_same}

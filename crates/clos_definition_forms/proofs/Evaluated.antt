@@ -8,9 +8,9 @@ use Rattle.clos_machine.specs.clos_world.World.{State, unbound}
 use Rattle.clos_machine.specs.clos_world.declared.condition.Stop.{Stop}
 use Rattle.clos_machine.specs.clos_world.declared.condition.Stop.TheVariants.{Refused, Storage}
 use Rattle.clos_machine.specs.clos_meaning.Contexts.{known}
-use Rattle.clos_machine.specs.Machine.{Answers, Takes, leaves}
+use Rattle.clos_machine.specs.Machine.{Answers, Takes}
 use Rattle.clos_machine.specs.clos_meaning.Meaning.{evaluation}
-use Rattle.clos_machine.specs.clos_meaning.Outcome.{Out, Gave, Stopped, Run, then_do}
+use Rattle.clos_machine.specs.clos_meaning.Outcome.{Out, Gave, Stopped, Run, then_do, leaves}
 use Rattle.clos_machine.proofs.clos_meaning.Quiet.{evaluation_quiet}
 use Rattle.clos_definition_forms.specs.Forms.{EndsBefore, GoesOn, form_evaluated, forms_evaluated}
 use Rattle.clos_definition_forms.specs.Variable.{room_below}

@@ -6,8 +6,8 @@ use Rattle.lisp_data.specs.declared.value.Value.{Value}
 use Rattle.clos_machine.specs.clos_world.World.{State}
 use Rattle.clos_machine.specs.clos_world.declared.condition.Stop.{Stop}
 use Rattle.clos_machine.specs.clos_world.declared.condition.Stop.TheVariants.{Refused, Storage}
-use Rattle.clos_machine.specs.Machine.{Answers, Takes, leaves}
-use Rattle.clos_machine.specs.clos_meaning.Outcome.{Out, Gave, Stopped, Run, then_do, step_then}
+use Rattle.clos_machine.specs.Machine.{Answers, Takes}
+use Rattle.clos_machine.specs.clos_meaning.Outcome.{Out, Gave, Stopped, Run, then_do, step_then, leaves}
 
 -- with no step left the change is not made
 stays : (o : Out) (go : Val → Run) (u : State) → leaves o u 0 → leaves (then_do o (λ v. step_then (go v))) u 0

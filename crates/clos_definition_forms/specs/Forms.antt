@@ -6,9 +6,8 @@ use Rattle.clos_forms.specs.Form.{Frm}
 use Rattle.clos_machine.specs.clos_world.World.{State}
 use Rattle.clos_machine.specs.clos_world.declared.condition.Stop.{Stop}
 use Rattle.clos_machine.specs.clos_world.declared.condition.Stop.TheVariants.{Refused, Storage}
-use Rattle.clos_machine.specs.Machine.{leaves}
 use Rattle.clos_machine.specs.clos_meaning.Meaning.{evaluation}
-use Rattle.clos_machine.specs.clos_meaning.Outcome.{Run, Stopped, then_do}
+use Rattle.clos_machine.specs.clos_meaning.Outcome.{Run, Stopped, then_do, leaves}
 use Rattle.clos_definition_forms.specs.Variable.{room_below}
 
 -- what follows with the value of a form, where there is one

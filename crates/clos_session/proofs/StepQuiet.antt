@@ -21,9 +21,9 @@ use Rattle.clos_definition_forms.specs.clos_world.declared.condition.Stop.TheVar
 use Rattle.clos_definition_forms.specs.clos_world.declared.functions.Function.{Function}
 use Rattle.clos_definition_forms.specs.clos_world.declared.world.World.{World}
 use Rattle.clos_definition_forms.specs.clos_machine.clos_meaning.Contexts.{known}
-use Rattle.clos_definition_forms.specs.clos_machine.Machine.{Answers, leaves}
+use Rattle.clos_definition_forms.specs.clos_machine.Machine.{Answers}
 use Rattle.clos_definition_forms.specs.clos_machine.clos_meaning.Meaning.{evaluation}
-use Rattle.clos_definition_forms.specs.clos_machine.clos_meaning.Outcome.{Out, Gave, Stopped, Run, then_do, step_then}
+use Rattle.clos_definition_forms.specs.clos_machine.clos_meaning.Outcome.{Out, Gave, Stopped, Run, then_do, step_then, leaves}
 use Rattle.clos_definition_forms.proofs.clos_machine.clos_meaning.Quiet.{evaluation_quiet}
 use Rattle.clos_definition_forms.specs.Function.{has_room, define_function}
 use Rattle.clos_session.specs.Served.{is_combination, is_served_top}

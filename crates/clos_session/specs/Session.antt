@@ -2,8 +2,7 @@
 use Rattle.std.specs.Prelude.{◌≡◌, ℕ, ◌≤◌}
 use Rattle.lisp_data.specs.ValueView.{value_of}
 use Rattle.clos_definition_forms.specs.clos_world.World.{State, seen}
-use Rattle.clos_definition_forms.specs.clos_machine.clos_meaning.Outcome.{Run, Gave, Stopped}
-use Rattle.clos_definition_forms.specs.clos_machine.Machine.{leaves}
+use Rattle.clos_definition_forms.specs.clos_machine.clos_meaning.Outcome.{Run, Gave, Stopped, leaves}
 use Rattle.clos_definition_forms.specs.clos_world.Condition.{number_of}
 use Rattle.clos_definition_forms.specs.clos_world.declared.condition.ConditionKind.{ConditionKind}
 use Rattle.clos_session.specs.declared.session.Session.{Session}

@@ -12,8 +12,8 @@ use Rattle.lisp_reader.specs.Fault.{OnFault, offset_of}
 use Rattle.lisp_reader.specs.Gaps.{Gaps}
 use Rattle.clos_session.specs.clos_world.Condition.{number_of, condition_name}
 use Rattle.clos_session.specs.clos_world.World.{State, names_of}
-use Rattle.clos_session.specs.clos_machine.clos_meaning.Outcome.{Out, Gave, Stopped}
-use Rattle.clos_session.specs.clos_machine.Machine.{Answers, leaves}
+use Rattle.clos_session.specs.clos_machine.clos_meaning.Outcome.{Out, Gave, Stopped, leaves}
+use Rattle.clos_session.specs.clos_machine.Machine.{Answers}
 use Rattle.clos_session.specs.Step.{step}
 use Rattle.clos_session.specs.clos_world.declared.condition.Condition.{Condition}
 use Rattle.clos_session.specs.clos_world.declared.condition.Stop.{Stop}
