@@ -6,7 +6,7 @@ ghost use Rattle.clos_generic.specs.Table.{named};
 ghost use Rattle.clos_generic_core.specs.MethodIds.{method_numbers};
 ghost use Rattle.clos_world.specs.World.{seen};
 ghost use Rattle.clos_definition.specs.Effect.{IsReserved, adding, addition_of, with_effect};
-ghost use Rattle.clos_definition.specs.Generic.{combination_refusal, definition_of, earlier_methods, eql_forms, generic_changes, generic_refusal, initial_among, initial_methods, is_initial, methods_refusal, methods_with, names_refusal, options_of, place_in, precedence_of, removing, with_defined_generic};
+ghost use Rattle.clos_definition.specs.Generic.{combination_refusal, definition_of, earlier_methods, eql_forms, generic_changes, generic_refusal, initial_among, is_initial, methods_refusal, methods_with, names_refusal, options_of, place_in, precedence_of, removing, with_defined_generic};
 ghost use Rattle.clos_definition.specs.Method.{open_addition};
 ghost use Rattle.clos_definition.specs.Refusal.{Allows};
 
@@ -73,32 +73,18 @@ pub fn prepare_generic(
     ensures same { seen world.new ≡ seen world.old }
 {
     refuse_generic(alloc, world, &definition)?;
-    let name = copy_name(&definition.name)?;
-    let effect = effect_of(alloc, world, definition, values)?;
-    reserve(alloc, world, &name, &effect)?;
-    Ok(effect)
-}
-
-/// What a definition changes, where the forms of the specializers of its methods gave these values.
-fn effect_of(
-    alloc: Global,
-    world: &World,
-    definition: GenericDefinition,
-    values: &[Slot],
-) -> Result<Effect, AllocError>
-    ensures changes { IfOk result (λ e. e.changes ≡ generic_changes definition (Some values.now) (seen world.now)) }
-    ensures methods { IfOk result (λ e. e.methods.items ≡ initial_methods definition values.now (seen world.now)) }
-{
     let changes = changes_for(alloc, &world.generics, &definition)?;
     let id = number_of(&world.generics, &definition.name);
     let GenericDefinition {
-        name: _,
+        name,
         lambda_list: _,
         precedence: _,
         combination: _,
         methods,
     } = definition;
-    with_methods(alloc, &world.classes, changes, id, methods, values)
+    let effect = with_methods(alloc, &world.classes, changes, id, methods, values)?;
+    reserve(alloc, world, &name, &effect)?;
+    Ok(effect)
 }
 
 /// What is wrong besides what the table of generic functions tells.
