@@ -145,11 +145,7 @@ fn run_scoped(
 }
 
 /// The machine's context and variables are now these; the others come back.
-pub(crate) fn enter(
-    machine: &mut Machine,
-    context: Context,
-    locals: Locals,
-) -> (Context, Locals)
+pub(crate) fn enter(machine: &mut Machine, context: Context, locals: Locals) -> (Context, Locals)
     ensures left { (result.0 ≡ machine.old.context) × (result.1 ≡ machine.old.locals) }
     ensures entered { machine.new ≡ record machine.old { context = context; locals = locals } }
 {
