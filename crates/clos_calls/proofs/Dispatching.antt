@@ -17,11 +17,12 @@ use Rattle.clos_machine.specs.clos_meaning.GenericCalls.{after_positional, calle
 use Rattle.clos_machine.specs.clos_meaning.Contexts.{in_call}
 use Rattle.clos_machine.specs.Machine.{Leads, at, inside, resume}
 use Rattle.clos_machine.specs.clos_meaning.Meaning.{closed}
-use Rattle.clos_machine.specs.clos_meaning.Outcome.{Eval, Run, Stopped, stopped}
+use Rattle.clos_machine.specs.clos_meaning.Outcome.{Noted, used, Eval, Run, Stopped, stopped}
 use Rattle.clos_machine.specs.clos_meaning.declared.arguments.Context.{Context}
 use Rattle.clos_machine.specs.declared.machine.Doing.{Doing}
 use Rattle.clos_machine.specs.declared.machine.Machine.{Machine}
-use Rattle.clos_machine.proofs.Turns.{leads_same, stopped_through}
+use Rattle.clos_machine.specs.clos_meaning.Pair.{pair}
+use Rattle.clos_machine.proofs.Turns.{bare, bare_through, leads_same, stopped_through}
 use Rattle.clos_comb.specs.Effective as comb
 use Rattle.clos_comb.specs.Outcome.{Combined, group_empty, invalid_method}
 use Rattle.clos_objects.specs.Objects.{TellsCondition}
@@ -42,13 +43,14 @@ nothing_there f None o e h = e
 nothing_there f (Some a) o e h = absurd (cc h)
 
 module _ (m n : Machine) (ev : Eval) (w : State) where
-  stops : (run : Run) (c : Condition) → ((t : ℕ) → run (at m w) t ≡ stopped ProgramError [] (at m w) t) → c ≡ record { kind = ProgramError; items = [] }
+  stops : (run : Run) (c : Condition) → ((t : ℕ) → bare (run (at m w) t) ≡ stopped ProgramError [] (at m w) t) → c ≡ record { kind = ProgramError; items = [] }
       → Leads (inside m run) w (Err (Refused c)) n
   stops run c h e = λ t.
-      ap (λ o. closed (resume m.levels m.context o)) (h t ∙ ap (λ x. Stopped x (at m w) t) (sym e)) ∙ stopped_through m.levels m.context c (at m w) t
+      bare_through m.levels m.context (run (at m w) t) ∙ ap (λ o. closed (resume m.levels m.context o)) (h t ∙ ap (λ x. Stopped x (at m w) t) (sym e)) ∙ stopped_through m.levels m.context c (at m w) t
 
-  goes : (run run' : Run) (r : Result Doing Stop) → ((t : ℕ) → run (at m w) t ≡ run' (at m w) t) → Leads (inside m run) w r n → Leads (inside m run') w r n
-  goes run run' r h l = leads_same (inside m run) (inside m run') w r n (λ t. ap (λ o. closed (resume m.levels m.context o)) (h t)) l
+  goes : (run run' : Run) (r : Result Doing Stop) → ((t : ℕ) → bare (run (at m w) t) ≡ bare (run' (at m w) t)) → Leads (inside m run) w r n → Leads (inside m run') w r n
+  goes run run' r h l = leads_same (inside m run) (inside m run') w r n
+      (λ t. bare_through m.levels m.context (run (at m w) t) ∙ ap (λ o. closed (resume m.levels m.context o)) (h t) ∙ sym (bare_through m.levels m.context (run' (at m w) t))) l
 
   -- where there are methods
   some_match : (vs : List Val) (g : ℕ) (f : Function) (other : Run) (ms : List ℕ) (t : ℕ) → (length ms ≡ 0 → ⊥) → matched ev vs g f ms (at m w) t ≡ matched_or ev vs g f other ms (at m w) t
@@ -66,33 +68,33 @@ module _ (m n : Machine) (ev : Eval) (w : State) where
     not_taken : (o : Option Function) (t : ℕ) → false ≡ takes_in o (length vs) → called_generic ev vs g o (at m w) t ≡ stopped ProgramError [] (at m w) t
     not_taken None t e = refl
     not_taken (Some f) t e =
-        ap (λ b. if b then matched_or ev vs g f (unmatched ev g vs) (ordered w g vs) (at m w) t else stopped ProgramError [] (at m w) t) (sym e)
+        ap (λ b. if b then Noted (used (pair (at m w) g vs)) (matched_or ev vs g f (unmatched ev g vs) (ordered w g vs) (at m w) t) else stopped ProgramError [] (at m w) t) (sym e)
 
     pub wrong_count : (c : Condition) → false ≡ takes_in (slice_get w.generics.functions g) (length vs) → c ≡ record { kind = ProgramError; items = [] }
         → Leads (inside m calling) w (Err (Refused c)) n
-    wrong_count c e k = stops calling c (λ t. not_taken (slice_get w.generics.functions g) t e) k
+    wrong_count c e k = stops calling c (λ t. ap bare (not_taken (slice_get w.generics.functions g) t e)) k
 
     right_count : (f : Function) (t : ℕ) → Some f ≡ slice_get w.generics.functions g → takes_count f.shape (length vs) ≡ true
-        → matched_or ev vs g f (unmatched ev g vs) (ordered w g vs) (at m w) t ≡ calling (at m w) t
+        → bare (matched_or ev vs g f (unmatched ev g vs) (ordered w g vs) (at m w) t) ≡ bare (calling (at m w) t)
     right_count f t e h =
-        ap (λ b. if b then matched_or ev vs g f (unmatched ev g vs) (ordered w g vs) (at m w) t else stopped ProgramError [] (at m w) t) (sym h)
-        ∙ ap (λ o. called_generic ev vs g o (at m w) t) e
+        ap (λ b. bare (if b then Noted (used (pair (at m w) g vs)) (matched_or ev vs g f (unmatched ev g vs) (ordered w g vs) (at m w) t) else stopped ProgramError [] (at m w) t)) (sym h)
+        ∙ ap (λ o. bare (called_generic ev vs g o (at m w) t)) e
 
     pub none_called : (us : List Val) (ms : List ℕ) (r : Result Doing Stop) → true ≡ takes_in (slice_get w.generics.functions g) (length vs) → us ≡ vs → ms ≡ ordered w g us
         → length ms ≡ 0 → Leads (inside m (unmatched ev g us)) w r n → Leads (inside m calling) w r n
     none_called us ms r e k h z l =
         let x = function_taken (slice_get w.generics.functions g) (length vs) e in
         goes (unmatched ev g us) calling r
-        (λ t. ap (λ y. unmatched ev g y (at m w) t) k
-        ∙ none_match vs g x.0 (unmatched ev g vs) (ordered w g vs) t (ap length (sym (h ∙ ap (ordered w g) k)) ∙ z) ∙ right_count x.0 t x.1 x.2) l
+        (λ t. ap (λ y. bare (unmatched ev g y (at m w) t)) k
+        ∙ ap bare (none_match vs g x.0 (unmatched ev g vs) (ordered w g vs) t (ap length (sym (h ∙ ap (ordered w g) k)) ∙ z)) ∙ right_count x.0 t x.1 x.2) l
 
     pub some_called : (us : List Val) (ms : List ℕ) (r : Result Doing Stop) → true ≡ takes_in (slice_get w.generics.functions g) (length vs) → us ≡ vs → ms ≡ ordered w g us
         → (length ms ≡ 0 → ⊥) → ((f : Function) → Some f ≡ slice_get w.generics.functions g → Leads (inside m (matched ev us g f ms)) w r n) → Leads (inside m calling) w r n
     some_called us ms r e k h z l =
         let x = function_taken (slice_get w.generics.functions g) (length vs) e in
         goes (matched ev us g x.0 ms) calling r
-        (λ t. ap (λ y. matched ev y g x.0 ms (at m w) t) k
-        ∙ some_match vs g x.0 (unmatched ev g vs) ms t z ∙ ap (λ y. matched_or ev vs g x.0 (unmatched ev g vs) y (at m w) t) (h ∙ ap (ordered w g) k)
+        (λ t. ap (λ y. bare (matched ev y g x.0 ms (at m w) t)) k
+        ∙ ap bare (some_match vs g x.0 (unmatched ev g vs) ms t z) ∙ ap (λ y. bare (matched_or ev vs g x.0 (unmatched ev g vs) y (at m w) t)) (h ∙ ap (ordered w g) k)
         ∙ right_count x.0 t x.1 x.2) (l x.0 x.1)
 
     -- ---- no-applicable-method
@@ -105,18 +107,18 @@ module _ (m n : Machine) (ev : Eval) (w : State) where
       as_told o t e = ap (λ x. unmatched_by ev us x (at m w) t) e ∙ ap (λ x. unmatched_by ev x (slice_get w.generics.functions number) (at m w) t) k
 
       pub untold : (c : Condition) → None ≡ slice_get w.generics.functions number → c ≡ record { kind = ProgramError; items = [] } → Leads (inside m (unmatched ev g vs)) w (Err (Refused c)) n
-      untold c e h = stops (unmatched ev g vs) c (λ t. sym (as_told None t e)) h
+      untold c e h = stops (unmatched ev g vs) c (λ t. ap bare (sym (as_told None t e))) h
 
       pub none_told : (f : Function) (ms : List ℕ) (c : Condition) → Some f ≡ slice_get w.generics.functions number → ms ≡ ordered w number us → length ms ≡ 0
           → c ≡ record { kind = ProgramError; items = [] } → Leads (inside m (unmatched ev g vs)) w (Err (Refused c)) n
       none_told f ms c e h z j =
-          stops (unmatched ev g vs) c (λ t. sym (none_match us number f (stopped ProgramError []) ms t z ∙ ap (λ y. matched_or ev us number f (stopped ProgramError []) y (at m w) t) h ∙ as_told (Some f) t e)) j
+          stops (unmatched ev g vs) c (λ t. sym (ap bare (none_match us number f (stopped ProgramError []) ms t z) ∙ ap (λ y. bare (matched_or ev us number f (stopped ProgramError []) y (at m w) t)) h ∙ ap bare (as_told (Some f) t e))) j
 
       pub some_told : (f : Function) (ms : List ℕ) (r : Result Doing Stop) → Some f ≡ slice_get w.generics.functions number → ms ≡ ordered w number us → (length ms ≡ 0 → ⊥)
           → Leads (inside m (matched ev us number f ms)) w r n → Leads (inside m (unmatched ev g vs)) w r n
       some_told f ms r e h z l =
           goes (matched ev us number f ms) (unmatched ev g vs) r
-          (λ t. some_match us number f (stopped ProgramError []) ms t z ∙ ap (λ y. matched_or ev us number f (stopped ProgramError []) y (at m w) t) h ∙ as_told (Some f) t e) l
+          (λ t. ap bare (some_match us number f (stopped ProgramError []) ms t z) ∙ ap (λ y. bare (matched_or ev us number f (stopped ProgramError []) y (at m w) t)) h ∙ ap bare (as_told (Some f) t e)) l
 
     -- ---- a call for which these methods are applicable
 
@@ -125,14 +127,14 @@ module _ (m n : Machine) (ev : Eval) (w : State) where
           → Leads (inside m (matched ev vs g f ms)) w (Err (Refused c)) n
       keywords_wrong c e h =
           stops (matched ev vs g f ms) c
-          (λ t. ap (λ b. if b then combined_run ev (in_call (record { generic = g; methods = ms }) vs) f (comb.effective w.generics g ms) (at m w) t else stopped ProgramError [] (at m w) t) (sym e)) h
+          (λ t. ap (λ b. bare (if b then combined_run ev (in_call (record { generic = g; methods = ms }) vs) f (comb.effective w.generics g ms) (at m w) t else stopped ProgramError [] (at m w) t)) (sym e)) h
 
       pub keywords_right : (x : Combined) (r : Result Doing Stop) → true ≡ keywords_fit w.generics g ms (after_positional f.shape vs) → x ≡ comb.effective w.generics g ms
           → Leads (inside m (combined_run ev (in_call (record { generic = g; methods = ms }) vs) f x)) w r n → Leads (inside m (matched ev vs g f ms)) w r n
       keywords_right x r e h l =
           goes (combined_run ev (in_call (record { generic = g; methods = ms }) vs) f x) (matched ev vs g f ms) r
-          (λ t. ap (λ y. combined_run ev (in_call (record { generic = g; methods = ms }) vs) f y (at m w) t) h
-          ∙ ap (λ b. if b then combined_run ev (in_call (record { generic = g; methods = ms }) vs) f (comb.effective w.generics g ms) (at m w) t else stopped ProgramError [] (at m w) t) e) l
+          (λ t. ap (λ y. bare (combined_run ev (in_call (record { generic = g; methods = ms }) vs) f y (at m w) t)) h
+          ∙ ap (λ b. bare (if b then combined_run ev (in_call (record { generic = g; methods = ms }) vs) f (comb.effective w.generics g ms) (at m w) t else stopped ProgramError [] (at m w) t)) e) l
 
   -- ---- the methods are not combined
 

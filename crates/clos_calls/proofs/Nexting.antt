@@ -19,13 +19,14 @@ use Rattle.clos_machine.specs.clos_meaning.Dispatch.{Dispatch}
 use Rattle.clos_machine.specs.Machine.{Leads, at, inside, resume, acted}
 use Rattle.clos_machine.specs.clos_meaning.Meaning.{closed, collect, meaning, next_method}
 use Rattle.clos_machine.specs.clos_meaning.NextMethods.{next_by, next_called, next_given, next_in, next_run, none_next}
-use Rattle.clos_machine.specs.clos_meaning.Outcome.{Eval, Out, Run, Stopped, stopped}
+use Rattle.clos_machine.specs.clos_meaning.Outcome.{Noted, used, Eval, Out, Run, Stopped, stopped}
 use Rattle.clos_machine.specs.clos_meaning.declared.arguments.Context.{Context}
 use Rattle.clos_machine.specs.clos_meaning.declared.arguments.Running.{Running}
 use Rattle.clos_machine.specs.declared.machine.Action.TheVariants.{CallNext}
 use Rattle.clos_machine.specs.declared.machine.Doing.{Doing}
 use Rattle.clos_machine.specs.declared.machine.Machine.{Machine}
-use Rattle.clos_machine.proofs.Turns.{leads_same, stopped_through}
+use Rattle.clos_machine.specs.clos_meaning.Pair.{pair}
+use Rattle.clos_machine.proofs.Turns.{bare, bare_through, leads_same, stopped_through}
 use Rattle.clos_calls.specs.GenericCalls.{takes_in}
 use Rattle.clos_calls.specs.NextMethods.{Refuses, refusal_in, refusal_of}
 
@@ -35,39 +36,40 @@ module _ (ev : Eval) (env : Context) (vs : List Val) (w : State) (t : ℕ) where
   unless r None u k = next_run ev env r r.next vs u k
   unless r (Some c) u k = Stopped c u k
 
-  by_order : (r : Running) (b : Bool) → unless r (if b then None else Some (record { kind = NextArguments; items = method r.method.0 ∷ [] })) w t
-      ≡ (if b then next_run ev env r r.next vs w t else stopped NextArguments (method r.method.0 ∷ []) w t)
+  by_order : (r : Running) (b : Bool) → bare (unless r (if b then None else Some (record { kind = NextArguments; items = method r.method.0 ∷ [] })) w t)
+      ≡ bare (if b then next_run ev env r r.next vs w t else stopped NextArguments (method r.method.0 ∷ []) w t)
   by_order r true = refl
   by_order r false = refl
 
   abbrev in_order : Running → Dispatch → Option Condition
   in_order r d = if bytes_eq (ordered w d.generic vs) d.methods then None else Some (record { kind = NextArguments; items = method r.method.0 ∷ [] })
 
-  by_count : (r : Running) (d : Dispatch) (f : Function) (b : Bool) → unless r (if b then in_order r d else Some (record { kind = ProgramError; items = [] })) w t
-      ≡ (if b then (if bytes_eq (ordered w d.generic vs) d.methods then next_run ev env r r.next vs w t else stopped NextArguments (method r.method.0 ∷ []) w t) else stopped ProgramError [] w t)
+  by_count : (r : Running) (d : Dispatch) (f : Function) (b : Bool) → bare (unless r (if b then in_order r d else Some (record { kind = ProgramError; items = [] })) w t)
+      ≡ bare (if b then Noted (used (pair w d.generic vs)) (if bytes_eq (ordered w d.generic vs) d.methods then next_run ev env r r.next vs w t else stopped NextArguments (method r.method.0 ∷ []) w t)
+      else stopped ProgramError [] w t)
   by_count r d f true = by_order r (bytes_eq (ordered w d.generic vs) d.methods)
   by_count r d f false = refl
 
   by_function : (r : Running) (d : Dispatch) (o : Option Function)
-      → unless r (if takes_in o (length vs) then in_order r d else Some (record { kind = ProgramError; items = [] })) w t ≡ next_by ev env r d o vs w t
+      → bare (unless r (if takes_in o (length vs) then in_order r d else Some (record { kind = ProgramError; items = [] })) w t) ≡ bare (next_by ev env r d o vs w t)
   by_function r d None = refl
   by_function r d (Some f) = by_count r d f (takes_count f.shape (length vs))
 
-  by_call : (r : Running) (o : Option Dispatch) → unless r (refusal_in w r o vs) w t ≡ next_in ev env r o vs w t
+  by_call : (r : Running) (o : Option Dispatch) → bare (unless r (refusal_in w r o vs) w t) ≡ bare (next_in ev env r o vs w t)
   by_call r None = refl
   by_call r (Some d) = by_function r d (slice_get w.generics.functions d.generic)
 
-  pub given_refused : (o : Option Running) (c : Condition) → refusal_of w o env.call vs ≡ Some c → next_given ev env o vs w t ≡ Stopped c w t
+  pub given_refused : (o : Option Running) (c : Condition) → refusal_of w o env.call vs ≡ Some c → bare (next_given ev env o vs w t) ≡ Stopped c w t
   given_refused None c e = ap (λ x. stopped_as x) e
     where
       stopped_as : Option Condition → Out
       stopped_as None = stopped ProgramError [] w t
       stopped_as (Some d) = Stopped d w t
-  given_refused (Some r) c e = sym (by_call r env.call) ∙ ap (λ x. unless r x w t) e
+  given_refused (Some r) c e = sym (by_call r env.call) ∙ ap (λ x. bare (unless r x w t)) e
 
-  pub given_passed : (o : Option Running) → refusal_of w o env.call vs ≡ None → next_called ev env o vs w t ≡ next_given ev env o vs w t
+  pub given_passed : (o : Option Running) → refusal_of w o env.call vs ≡ None → bare (next_called ev env o vs w t) ≡ bare (next_given ev env o vs w t)
   given_passed None e = absurd (cc e)
-  given_passed (Some r) e = sym (ap (λ x. unless r x w t) e) ∙ by_call r env.call
+  given_passed (Some r) e = sym (ap (λ x. bare (unless r x w t)) e) ∙ by_call r env.call
 
 -- ---- the turns of the machine
 
@@ -81,12 +83,13 @@ module _ (m n : Machine) (vs : List Val) (w : State) where
   pub next_refused : (stop : Stop) → Refuses (refusal_of w m.context.running m.context.call vs) (Err stop) → Leads (inside m giving) w (Err stop) n
   next_refused Storage h = tt
   next_refused (Refused c) h = λ t.
-      ap (λ o. closed (resume m.levels m.context o)) (given_refused (meaning m.room) m.context vs (at m w) t m.context.running c h) ∙ stopped_through m.levels m.context c (at m w) t
+      bare_through m.levels m.context (giving (at m w) t) ∙ ap (λ o. closed (resume m.levels m.context o)) (given_refused (meaning m.room) m.context vs (at m w) t m.context.running c h) ∙ stopped_through m.levels m.context c (at m w) t
 
   pub next_passes : (r : Result Doing Stop) → refusal_of w m.context.running m.context.call vs ≡ None → Leads (inside m calling_next) w r n → Leads (inside m giving) w r n
   next_passes r h l =
       leads_same (inside m calling_next) (inside m giving) w r n
-      (λ t. ap (λ o. closed (resume m.levels m.context o)) (given_passed (meaning m.room) m.context vs (at m w) t m.context.running h)) l
+      (λ t. bare_through m.levels m.context (calling_next (at m w) t) ∙ ap (λ o. closed (resume m.levels m.context o)) (given_passed (meaning m.room) m.context vs (at m w) t m.context.running h)
+      ∙ sym (bare_through m.levels m.context (giving (at m w) t))) l
 
   module _ (x : Running) (e : m.context.running ≡ Some x) (r : Result Doing Stop) where
     next_as : (run : Run) (ms : List Callable) → ms ≡ x.next → ((t : ℕ) → run (at m w) t ≡ next_run (meaning m.room) m.context x ms vs (at m w) t)

@@ -27,7 +27,7 @@ use Rattle.clos_machine.specs.declared.machine.Doing.{Doing}
 use Rattle.clos_machine.specs.declared.machine.Frame.TheVariants.{Bind}
 use Rattle.clos_machine.specs.declared.machine.Level.{Level}
 use Rattle.clos_machine.specs.declared.machine.Machine.{Machine}
-use Rattle.clos_machine.proofs.Turns.{leads_same, stopped_through}
+use Rattle.clos_machine.proofs.Turns.{leads_same, stopped_through, then_then}
 
 module _ (ls : List Level) (saved : Context) (outer : List Local) (ev : Eval) (env : Context) (fs : Frms) (w : State) (t : ℕ) where
   -- how the run goes on from there
@@ -68,10 +68,6 @@ pub settled_goes : (m : Machine) (saved : Context) (outer : List Local) (ev : Ev
 settled_goes m saved outer ev env fs ps w xs ys r p e h =
     leads_same (under (record m { locals = xs }) saved outer (parameters_run ev env ys fs)) (under m saved outer (parameters_run ev env ps fs)) w r p
     (λ t. sym (settles m.levels saved outer ev env fs w t ps m.locals ∙ ap (from m.levels saved outer ev env fs w t) e)) h
-
-then_then : (o : Out) (f g : Val → Run) → then_do (then_do o f) g ≡ then_do o (λ v w s. then_do (f v w s) g)
-then_then (Gave v w s) f g = refl
-then_then (Stopped c w s) f g = refl
 
 pub init_begins : (m : Machine) (saved : Context) (outer : List Local) (x : Nam) (f : Frm) (ps : Sources) (fs : Frms) (w : State) (t : ℕ)
     → closed (resume (record { frame = Bind x ps fs saved outer; room = m.room } ∷ m.levels) m.context (meaning m.room m.context f (at m w) t))

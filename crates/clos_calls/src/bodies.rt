@@ -155,6 +155,7 @@ pub(crate) fn enter(machine: &mut Machine, context: Context, locals: Locals) -> 
 }
 
 /// Evaluates the forms of a body, of which this is the first, in a context of their own and with these variables.
+#[tactic(auto, using(clos_machine::proofs::Turns::then_then))]
 fn enter_body(
     machine: &mut Machine,
     context: Context,
@@ -175,6 +176,7 @@ fn enter_body(
 }
 
 /// The rest of a body follows the value of one of its forms.
+#[tactic(auto, using(clos_machine::proofs::Turns::then_then))]
 pub fn next_of_body(
     machine: &mut Machine,
     world: &World,

@@ -186,7 +186,7 @@ pub fn invoke(
 }
 
 /// Evaluates this next in a context of its own and with no variables; the machine's come back after it.
-#[tactic(auto, using(clos_machine::proofs::Turns::stopped_through, clos_machine::proofs::Turns::then_gave))]
+#[tactic(auto, using(clos_machine::proofs::Turns::stopped_through, clos_machine::proofs::Turns::then_gave, clos_machine::proofs::Turns::then_then))]
 pub fn enter_effect(
     alloc: Global,
     machine: &mut Machine,

@@ -64,7 +64,7 @@ pub fn set_next(
 }
 
 /// This variable of a `setq` form gets its value.
-#[tactic(auto, using(clos_machine::proofs::Turns::stopped_through))]
+#[tactic(auto, using(clos_machine::proofs::Turns::stopped_through, clos_machine::proofs::Turns::then_then))]
 fn set_target(
     alloc: Global,
     machine: &mut Machine,
@@ -180,6 +180,7 @@ fn set_to(
 }
 
 /// A variable gets the value of a form; then the next one of these places its own.
+#[tactic(auto, using(clos_machine::proofs::Turns::then_then))]
 fn set_variable(
     alloc: Global,
     machine: &mut Machine,
@@ -219,6 +220,7 @@ fn set_through(
     }
 }
 
+#[tactic(auto, using(clos_machine::proofs::Turns::then_then))]
 fn set_alone(
     alloc: Global,
     machine: &mut Machine,

@@ -46,6 +46,7 @@ fn run_within(machine: &mut Machine, outer: usize, forms: &Forms) -> Result<Doin
 }
 
 /// The rest of such a body follows the value of one of its forms.
+#[tactic(auto, using(clos_machine::proofs::Turns::then_then))]
 pub fn continue_within(
     machine: &mut Machine,
     outer: usize,
@@ -384,6 +385,7 @@ fn body_of(repetition: &Repetition) -> &Forms
 }
 
 /// The rest of the body of a loop follows the value of one of its forms; then comes the next turn.
+#[tactic(auto, using(clos_machine::proofs::Turns::then_then))]
 pub fn continue_turn(
     machine: &mut Machine,
     repetition: Repetition,

@@ -10,7 +10,7 @@ use Rattle.clos_machine.specs.clos_world.declared.condition.Stop.TheVariants.{Re
 use Rattle.clos_machine.specs.clos_meaning.Contexts.{known}
 use Rattle.clos_machine.specs.Machine.{Answers, Takes}
 use Rattle.clos_machine.specs.clos_meaning.Meaning.{evaluation}
-use Rattle.clos_machine.specs.clos_meaning.Outcome.{Out, Gave, Stopped, Run, then_do, leaves}
+use Rattle.clos_machine.specs.clos_meaning.Outcome.{Noted, Out, Gave, Stopped, Run, then_do, leaves}
 use Rattle.clos_machine.proofs.clos_meaning.Quiet.{evaluation_quiet}
 use Rattle.clos_definition_forms.specs.Forms.{EndsBefore, GoesOn, form_evaluated, forms_evaluated}
 use Rattle.clos_definition_forms.specs.Variable.{room_below}
@@ -20,6 +20,7 @@ use Rattle.clos_definition_forms.specs.Variable.{room_below}
 -- what follows a value changes nothing
 then_quiet : (o : Out) (go : Val → Run) (u : State) → leaves o u 0 → ((v : Val) → leaves (go v u 0) u 0) → leaves (then_do o go) u 0
 then_quiet (Stopped c x k) go u h q = h
+then_quiet (Noted n o) go u h q = then_quiet o go u h q
 then_quiet (Gave v x k) go u h q = subst (λ y. leaves (go v y k) u 0) (sym h.0) (subst (λ i. leaves (go v u i) u 0) (sym h.1) (q v))
 
 bare_quiet : (n : ℕ) (f : Frm) (w : State) → w.locals ≡ [] → leaves (evaluation n f w 0) w 0

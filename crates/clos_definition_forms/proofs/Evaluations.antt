@@ -7,11 +7,12 @@ use Rattle.clos_machine.specs.clos_world.World.{State}
 use Rattle.clos_machine.specs.clos_world.declared.condition.Stop.{Stop}
 use Rattle.clos_machine.specs.clos_world.declared.condition.Stop.TheVariants.{Refused, Storage}
 use Rattle.clos_machine.specs.Machine.{Answers, Takes}
-use Rattle.clos_machine.specs.clos_meaning.Outcome.{Out, Gave, Stopped, Run, then_do, step_then, leaves}
+use Rattle.clos_machine.specs.clos_meaning.Outcome.{Noted, Out, Gave, Stopped, Run, then_do, step_then, leaves}
 
 -- with no step left the change is not made
 stays : (o : Out) (go : Val → Run) (u : State) → leaves o u 0 → leaves (then_do o (λ v. step_then (go v))) u 0
 stays (Stopped c w k) go u h = h
+stays (Noted n o) go u h = stays o go u h
 stays (Gave v w zero) go u h = h
 stays (Gave v w (suc k)) go u h = absurd (cc h.1)
 

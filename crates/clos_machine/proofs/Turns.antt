@@ -10,9 +10,9 @@ use Rattle.clos_meaning.specs.clos_world.declared.condition.Stop.TheVariants.{Re
 use Rattle.clos_meaning.specs.clos_world.clos_generic_core.declared.method.Method.{Method}
 use Rattle.clos_meaning.specs.Calls.{method_run}
 use Rattle.clos_meaning.specs.Control.{sequence, while_true, until_true}
-use Rattle.clos_machine.specs.Machine.{at, below, resume, inside, Grows, Leads, Shrinks, going}
-use Rattle.clos_meaning.specs.Meaning.{closed}
-use Rattle.clos_meaning.specs.Outcome.{Out, Run, Eval, Gave, Stopped, then_do, gave}
+use Rattle.clos_machine.specs.Machine.{after, at, below, resume, inside, Grows, Leads, Shrinks, going}
+use Rattle.clos_meaning.specs.Meaning.{closed, meaning}
+use Rattle.clos_meaning.specs.Outcome.{Note, Noted, Out, Run, Eval, Gave, Stopped, then_do, gave}
 use Rattle.clos_meaning.specs.declared.arguments.Context.{Context}
 use Rattle.clos_machine.specs.declared.machine.Control.TheVariants.{Progn, And, Or}
 use Rattle.clos_machine.specs.declared.machine.Doing.{Doing}
@@ -24,10 +24,39 @@ pub stopped_through : (ls : List Level) (env : Context) (c : Condition) (w : Sta
 stopped_through [] env c w s = refl
 stopped_through (l ∷ ls) env c w s = stopped_through ls (below env l.frame) c w s
 
+-- what was noted first stays so
+pub noted_through : (ls : List Level) (env : Context) (n : Note) (o : Out) → resume ls env (Noted n o) ≡ Noted n (resume ls env o)
+noted_through [] env n o = refl
+noted_through (l ∷ ls) env n o = noted_through ls (below env l.frame) n (then_do o (after (meaning l.room) env l.frame))
+
+-- what follows what follows
+pub then_then : (o : Out) (f g : Val → Run) → then_do (then_do o f) g ≡ then_do o (λ v w s. then_do (f v w s) g)
+then_then (Gave v w s) f g = refl
+then_then (Stopped c w s) f g = refl
+then_then (Noted n o) f g = ap (Noted n) (then_then o f g)
+
+pub noted_closed : (ls : List Level) (env : Context) (n : Note) (o : Out) → closed (resume ls env (Noted n o)) ≡ closed (resume ls env o)
+noted_closed ls env n o = ap closed (noted_through ls env n o)
+
+-- an outcome without what was noted first, which ends in the same
+abbrev pub bare : Out → Out
+bare (Gave v w s) = Gave v w s
+bare (Stopped c w s) = Stopped c w s
+bare (Noted n o) = bare o
+
+pub bare_through : (ls : List Level) (env : Context) (o : Out) → closed (resume ls env o) ≡ closed (resume ls env (bare o))
+bare_through ls env (Gave v w s) = refl
+bare_through ls env (Stopped c w s) = refl
+bare_through ls env (Noted n o) = noted_closed ls env n o ∙ bare_through ls env o
+
+pub bare_same : (ls : List Level) (env : Context) (o o' : Out) → bare o ≡ bare o' → closed (resume ls env o) ≡ closed (resume ls env o')
+bare_same ls env o o' e = bare_through ls env o ∙ ap (λ x. closed (resume ls env x)) e ∙ sym (bare_through ls env o')
+
 -- what does nothing more with a value
 pub then_gave : (o : Out) → then_do o gave ≡ o
 then_gave (Gave v w s) = refl
 then_gave (Stopped c w s) = refl
+then_gave (Noted n o) = ap (Noted n) (then_gave o)
 
 -- there is no such method
 pub no_method : (m : Machine) (ev : Eval) (env : Context) (o : Option Method) (c : Condition) (w : State) (t : ℕ) → None ≡ o → c ≡ record { kind = ProgramError; items = [] }

@@ -66,7 +66,7 @@ use Rattle.clos_world.specs.clos_class.declared.effective_slots.EffectiveSlot.{E
 use Rattle.clos_world.specs.clos_class.clos_syntax.declared.class.DefaultInitarg.{DefaultInitarg}
 use Rattle.clos_world.specs.clos_store.Store.{allocated, has_room, slot_found, with_instance}
 use Rattle.clos_world.specs.Class.{effective}
-use Rattle.clos_meaning.specs.Outcome.{Out, Gave, Stopped, Run, Eval, then_do, step_then, gave, stopped, is_true}
+use Rattle.clos_meaning.specs.Outcome.{Noted, Out, Gave, Stopped, Run, Eval, then_do, step_then, gave, stopped, is_true}
 use Rattle.clos_meaning.specs.Output.{output_of, text_by, written, line_ended}
 use Rattle.clos_meaning.specs.Parameters.{Sources, argument, refused, init, are_even, are_pairs, fits, sources}
 use Rattle.clos_meaning.specs.Variables.{Loop, found_value, variable_value, inner, leaving, init_form, within, binding, in_order, together, aside, name_in, counted, body_of, result_value, turns, turns_in, repeated}
@@ -87,6 +87,7 @@ same_then w u t h g = (g.0 ∙ h.0, g.1 ∙ h.1, g.2 ∙ h.2, g.3 ∙ h.3)
 abbrev pub Kept : State → Out → Type 0
 Kept w (Gave v u k) = Same w u
 Kept w (Stopped c u k) = Same w u
+Kept w (Noted n o) = Kept w o
 
 abbrev Keeps : Eval → Type 0
 Keeps ev = (env : Context) (f : Frm) (w : State) (k : ℕ) → Kept w (ev env f w k)
@@ -94,10 +95,12 @@ Keeps ev = (env : Context) (f : Frm) (w : State) (k : ℕ) → Kept w (ev env f 
 shifted : (w u : State) (o : Out) → Same w u → Kept u o → Kept w o
 shifted w u (Gave v t k) h g = same_then w u t h g
 shifted w u (Stopped c t k) h g = same_then w u t h g
+shifted w u (Noted n o) h g = shifted w u o h g
 
 then_kept : (w : State) (o : Out) (go : Val → Run) → Kept w o → ((v : Val) (u : State) (k : ℕ) → Kept u (go v u k)) → Kept w (then_do o go)
 then_kept w (Gave v u k) go h g = shifted w u (go v u k) h (g v u k)
 then_kept w (Stopped c u k) go h g = h
+then_kept w (Noted n o) go h g = then_kept w o go h g
 
 choice_kept : (b : Bool) (w : State) (x y : Out) → Kept w x → Kept w y → Kept w (if b then x else y)
 choice_kept true w x y h g = h
@@ -180,6 +183,7 @@ collect_kept ev h env (cons f fs) vs go g w k =
 restored : (l : List Local) (w : State) (o : Out) → Kept w o → Kept w (then_do o (restoring l))
 restored l w (Gave v u k) h = h
 restored l w (Stopped c u k) h = h
+restored l w (Noted n o) h = restored l w o h
 
 combined_kept : (ev : Eval) → Keeps ev → (env : Context) (f : generics.Function) (c : Combined) (w : State) (k : ℕ) → Kept w (combined_run ev env f c w k)
 combined_kept ev h env f (outcome.effective e) w k = restored w.locals w (ev env e (bound_as [] w) k) (h env e (bound_as [] w) k)
@@ -401,6 +405,7 @@ applied_kept ev h env Defined name vs w k = function_kept ev h name vs (named w.
 left_kept : (m : ℕ) (w : State) (o : Out) → Kept w o → Kept w (then_do o (leaving m))
 left_kept m w (Gave v u k) h = h
 left_kept m w (Stopped c u k) h = h
+left_kept m w (Noted n o) h = left_kept m w o h
 
 init_kept : (ev : Eval) → Keeps ev → (env : Context) (fs : Frms) (go : Frms → Val → Run) → ((gs : Frms) (v : Val) (u : State) (j : ℕ) → Kept u (go gs v u j)) → (w : State) (k : ℕ) → Kept w (init_form ev env fs go w k)
 init_kept ev h env nil go g w k = same w
@@ -758,6 +763,7 @@ meaning_kept (suc n) env f w k = step_kept (body (meaning n) env f) w k (λ j. o
 closed_kept : (w : State) (o : Out) → Kept w o → Kept w (closed o)
 closed_kept w (Gave v u k) h = h
 closed_kept w (Stopped c u k) h = h
+closed_kept w (Noted n o) h = closed_kept w o h
 
 pub evaluation_kept : (room : ℕ) (f : Frm) (w : State) (k : ℕ) → Kept w (evaluation room f w k)
 evaluation_kept room f w k =

@@ -62,7 +62,7 @@ use Rattle.clos_world.specs.clos_class.declared.effective_slots.EffectiveSlot.{E
 use Rattle.clos_world.specs.clos_class.clos_syntax.declared.class.DefaultInitarg.{DefaultInitarg}
 use Rattle.clos_world.specs.clos_store.Store.{has_room, slot_found}
 use Rattle.clos_world.specs.Class.{effective}
-use Rattle.clos_meaning.specs.Outcome.{Out, Gave, Stopped, Run, then_do, gave, stopped, is_true, leaves}
+use Rattle.clos_meaning.specs.Outcome.{Noted, Out, Gave, Stopped, Run, then_do, gave, stopped, is_true, leaves}
 use Rattle.clos_meaning.specs.Output.{output_of, line_ended}
 use Rattle.clos_meaning.specs.Parameters.{Sources, argument, refused, init, are_even, are_pairs, fits, sources}
 use Rattle.clos_meaning.specs.SlotNames.{name_set, name_stored, slot_locals, within_slots}
@@ -106,17 +106,20 @@ halted o go w h = subst (λ x. Quiet (then_do x go) w) (sym h.1) (refl, refl)
 -- an outcome after which the world is the same, and what follows it
 pub then_same : (o : Out) (go : Val → Run) (w : State) → leaves o w 0 → ((v : Val) → Quiet (go v w 0) w) → Quiet (then_do o go) w
 then_same (Stopped c u k) go w h g = subst (λ x. (unbound x ≡ unbound w) × (k ≡ 0)) (sym h.0) (refl, h.1)
+then_same (Noted m o) go w h g = then_same o go w h g
 then_same (Gave v u k) go w h g = subst (λ x. Quiet (go v x k) w) (sym h.0) (subst (λ j. Quiet (go v w j) w) (sym h.1) (g v))
 
 -- an outcome that leaves all but the variables, and what follows it
 pub follows_quiet : (o : Out) (go : Val → Run) (w : State) → Quiet o w → ((v : Val) (u : State) → Quiet (go v u 0) u) → Quiet (then_do o go) w
 follows_quiet (Stopped c u k) go w h g = h
+follows_quiet (Noted m o) go w h g = follows_quiet o go w h g
 follows_quiet (Gave v u k) go w h g =
     subst (λ x. leaves (closed (go v u k)) x 0) h.0 (subst (λ j. leaves (closed (go v u j)) (unbound u) 0) (sym h.1) (g v u))
 
 pub restored_quiet : (l : List Local) (o : Out) (w : State) → Quiet o w → Quiet (then_do o (restoring l)) w
 restored_quiet l (Gave v u k) w h = h
 restored_quiet l (Stopped c u k) w h = h
+restored_quiet l (Noted n o) w h = restored_quiet l o w h
 
 pub combined_quiet : (n : ℕ) (env : Context) (f : generics.Function) (c : Combined) (w : State) → Quiet (combined_run (meaning n) env f c w 0) w
 combined_quiet n env f (outcome.effective e) w = restored_quiet w.locals (meaning n env e (bound_as [] w) 0) w (task_quiet n env e (bound_as [] w))
@@ -575,6 +578,7 @@ tested_quiet n env fs cs v w =
 pub left_quiet : (m : ℕ) (o : Out) (w : State) → leaves (closed o) (unbound w) 0 → leaves (closed (then_do o (leaving m))) (unbound w) 0
 left_quiet m (Gave v u k) w h = h
 left_quiet m (Stopped c u k) w h = h
+left_quiet m (Noted n o) w h = left_quiet m o w h
 
 pub init_quiet : (n : ℕ) (env : Context) (fs : Frms) (go : Frms → Val → Run) (w : State) → leaves (closed (init_form (meaning n) env fs go w 0)) (unbound w) 0
 init_quiet n env nil go w = (refl, refl)

@@ -24,7 +24,8 @@ use Rattle.clos_meaning.specs.ClassFunctions.{symbol_in}
 use Rattle.clos_meaning.specs.Contexts.{known}
 use Rattle.clos_meaning.specs.GenericCalls.{invoked}
 use Rattle.clos_meaning.specs.Objects.{designated}
-use Rattle.clos_meaning.specs.Outcome.{Stopped, Run, Eval, then_do, gave, stopped, step_then}
+use Rattle.clos_meaning.specs.Pair.{pair}
+use Rattle.clos_meaning.specs.Outcome.{Noted, Out, used, Stopped, Run, Eval, then_do, gave, stopped, step_then}
 use Rattle.clos_meaning.specs.Parameters.{are_pairs, argument_named, is_allow_other_keys, is_allowing, is_symbol_named}
 use Rattle.clos_meaning.specs.declared.arguments.Context.{Context}
 
@@ -33,6 +34,11 @@ use Rattle.clos_meaning.specs.declared.arguments.Context.{Context}
 -- the methods that the initargs of an instance reach: those of this function, and those of shared-initialize with these names of slots
 abbrev pub methods_reached : State → SystemFunction → ℕ → Val → List ℕ
 methods_reached w f i names = ordered w (system_number f) (instance i ∷ []) ++ ordered w (system_number SharedInitialize) (instance i ∷ names ∷ [])
+
+-- asking for them is a use of each function
+abbrev pub with_uses : State → SystemFunction → ℕ → Val → Out → Out
+with_uses w f i names o =
+    Noted (used (pair w (system_number f) (instance i ∷ []))) (Noted (used (pair w (system_number SharedInitialize) (instance i ∷ names ∷ []))) o)
 
 abbrev pub fills : List EffectiveSlot → Val → Bool
 fills slots v = list_any (λ s. list_any (λ n. is_symbol_named n v) s.initargs) slots
@@ -72,7 +78,9 @@ initialized ev c vs i None w s = then_do (invoked ev InitializeInstance (instanc
 -- ---- the instance is made, in one step, and then initialized
 
 abbrev pub checked : Eval → ℕ → Effective → List Val → ℕ → Run
-checked ev c e vs i w s = initialized ev c vs i (invalid_initarg w.generics.methods (methods_reached w InitializeInstance i (truth true)) e.slots vs) w s
+checked ev c e vs i w s =
+    with_uses w InitializeInstance i (truth true)
+    (initialized ev c vs i (invalid_initarg w.generics.methods (methods_reached w InitializeInstance i (truth true)) e.slots vs) w s)
 
 abbrev pub made : Eval → Context → ℕ → Effective → List Val → Run
 made ev env c e vs w s = checked ev c e vs (length w.store.instances + 1) (record w { store = with_instance (allocated c e.layout) w.store }) s

@@ -1,4 +1,5 @@
 pub mod Callee
+pub mod Pair
 pub mod Outcome
 pub mod Fault
 pub mod Control

@@ -12,7 +12,8 @@ use Rattle.clos_meaning.specs.Calls.{method_called}
 use Rattle.clos_meaning.specs.Contexts.{with_arguments}
 use Rattle.clos_meaning.specs.Dispatch.{Dispatch}
 use Rattle.clos_meaning.specs.GenericCalls.{invoked}
-use Rattle.clos_meaning.specs.Outcome.{Run, Eval, stopped}
+use Rattle.clos_meaning.specs.Outcome.{Noted, Run, Eval, stopped, used}
+use Rattle.clos_meaning.specs.Pair.{pair}
 use Rattle.clos_meaning.specs.Parameters.{is_empty}
 use Rattle.clos_meaning.specs.declared.arguments.Context.{Context}
 use Rattle.clos_meaning.specs.declared.arguments.Running.{Running}
@@ -44,7 +45,8 @@ abbrev pub next_by : Eval → Context → Running → Dispatch → Option Functi
 next_by ev env r d None vs w s = stopped ProgramError [] w s
 next_by ev env r d (Some f) vs w s =
     if takes_count f.shape (length vs)
-    then (if bytes_eq (ordered w d.generic vs) d.methods then next_run ev env r r.next vs w s else stopped NextArguments (method r.method.0 ∷ []) w s)
+    then Noted (used (pair w d.generic vs))
+    (if bytes_eq (ordered w d.generic vs) d.methods then next_run ev env r r.next vs w s else stopped NextArguments (method r.method.0 ∷ []) w s)
     else stopped ProgramError [] w s
 
 abbrev pub next_in : Eval → Context → Running → Option Dispatch → List Val → Run

@@ -6,12 +6,18 @@ use Rattle.clos_world.specs.World.{State}
 use Rattle.clos_world.specs.declared.condition.Condition.{Condition}
 use Rattle.clos_world.specs.declared.condition.ConditionKind.{ConditionKind}
 use Rattle.clos_world.specs.declared.condition.ConditionKind.TheVariants.{StepLimit}
+use Rattle.clos_meaning.specs.Pair.{Pair}
 use Rattle.clos_meaning.specs.declared.arguments.Context.{Context}
 
--- the value or the condition, the state after, and the steps left
+-- what is told beside an evaluation, and read by none: that the methods of a generic function were asked for
+pub data Note : Type 0 where
+  used : Pair → Note
+
+-- the value or the condition, the state after, and the steps left; or that something was noted first
 pub data Out : Type 0 where
   Gave : Val → State → ℕ → Out
   Stopped : Condition → State → ℕ → Out
+  Noted : Note → Out → Out
 
 -- from a state, with some steps left
 abbrev pub Run : Type 0
@@ -25,6 +31,7 @@ Eval = Context → Frm → Run
 abbrev pub then_do : Out → (Val → Run) → Out
 then_do (Gave v w s) go = go v w s
 then_do (Stopped c w s) go = Stopped c w s
+then_do (Noted n o) go = Noted n (then_do o go)
 
 abbrev pub gave : Val → Run
 gave v w s = Gave v w s
@@ -46,3 +53,4 @@ is_true v = true
 abbrev pub leaves : Out → State → ℕ → Type 0
 leaves (Gave v w s) w' s' = (w ≡ w') × (s ≡ s')
 leaves (Stopped c w s) w' s' = (w ≡ w') × (s ≡ s')
+leaves (Noted n o) w' s' = leaves o w' s'

@@ -18,7 +18,7 @@ use Rattle.clos_meaning.specs.ClassFunctions.{wrong_type}
 use Rattle.clos_meaning.specs.Filling.{are_slot_names, fill}
 use Rattle.clos_meaning.specs.Contexts.{known}
 use Rattle.clos_meaning.specs.GenericCalls.{invoked}
-use Rattle.clos_meaning.specs.Initialization.{invalid_for, invalid_initarg, methods_reached}
+use Rattle.clos_meaning.specs.Initialization.{invalid_for, invalid_initarg, methods_reached, with_uses}
 use Rattle.clos_meaning.specs.Outcome.{Stopped, Run, Eval, then_do, gave, stopped}
 use Rattle.clos_meaning.specs.Parameters.{are_even}
 use Rattle.clos_meaning.specs.Slots.{instance_in}
@@ -53,7 +53,9 @@ if_valid c (Some k) go w s = Stopped (invalid_for k (class_name w.classes c)) w 
 
 abbrev pub reinitialize_as : Eval → List Val → ℕ → Option (ℕ × Effective) → Run
 reinitialize_as ev initargs i None w s = stopped ProgramError [] w s
-reinitialize_as ev initargs i (Some p) w s = if_valid p.0 (invalid_initarg w.generics.methods (methods_reached w ReinitializeInstance i (list nil)) p.1.slots initargs) (shared_initialized ev i (list nil) initargs) w s
+reinitialize_as ev initargs i (Some p) w s =
+    with_uses w ReinitializeInstance i (list nil)
+    (if_valid p.0 (invalid_initarg w.generics.methods (methods_reached w ReinitializeInstance i (list nil)) p.1.slots initargs) (shared_initialized ev i (list nil) initargs) w s)
 
 abbrev pub reinitialize : Eval → List Val → Result ℕ Condition → Run
 reinitialize ev initargs (Err c) w s = Stopped c w s

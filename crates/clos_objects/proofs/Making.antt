@@ -2,6 +2,7 @@
 use Rattle.std.proofs.Common.{◌≡◌, ℕ, zero, suc, ◌+◌, ◌<◌, List, [], ◌∷◌, ◌++◌, Bool, true, false, Option, Some, None, Result, Ok, Err, drop, get_or, length, arith, add-one, refl, ap, sym, subst, ◌∙◌}
 use Rattle.std.specs.Prelude.{if◌then◌else◌}
 use Rattle.std.proofs.Math.Seq.{drop-cons}
+use Rattle.clos_forms.specs.Form.{Frm}
 use Rattle.lisp_data.specs.Value.{Val}
 use Rattle.lisp_data.specs.declared.ids.InstanceId.{InstanceId}
 use Rattle.clos_forms.specs.Quotation.{name_value}
@@ -29,7 +30,7 @@ use Rattle.clos_machine.specs.declared.machine.Doing.{Doing}
 use Rattle.clos_machine.specs.declared.machine.Frame.TheVariants.{Body}
 use Rattle.clos_machine.specs.declared.machine.Machine.{Machine}
 use Rattle.clos_machine.proofs.Runs.{turns_of_leads, stops_at_once, turns_same}
-use Rattle.clos_machine.proofs.Turns.{leads_same, stopped_through}
+use Rattle.clos_machine.proofs.Turns.{bare, bare_same, leads_same, stopped_through}
 use Rattle.clos_objects.specs.Objects.{Enters, TellsCondition, default_first, ungiven}
 use Rattle.clos_objects.specs.Reached.{invalid_for_new, reached_by_new}
 use Rattle.clos_class.specs.declared.effective_slots.EffectiveSlot.{EffectiveSlot}
@@ -84,6 +85,15 @@ module _ (vs : List Val) where
         → default_first ev env c e (drop k all) vs w t ≡ defaulted ev env c e ds vs w t
     defaulted_first ds all k p h = sym (defaulted_ungiven ds ∙ ap (λ l. expanded l w t) h ∙ expanded_first all k p)
 
+-- the first of those from a place on is evaluated
+pub first_default : (ev : Eval) (env : Context) (c : ℕ) (e : Effective) (vs : List Val) (w : State) (t : ℕ) (f : Frm) (ds : List DefaultInitarg) (k : ℕ) (d : DefaultInitarg)
+    → k < length ds → d ≡ get_or ds k d → f ≡ d.form
+    → then_do (ev env f w t) (λ v. default_given ev env c e (drop k ds) vs v) ≡ default_first ev env c e (drop k ds) vs w t
+first_default ev env c e vs w t f ds k d p q r =
+    let at_k : drop k ds ≡ d ∷ drop (suc k) ds = drop-cons ds k d p ∙ ap (λ x. x ∷ drop (suc k) ds) (sym q) in
+    ap (λ l. then_do (ev env f w t) (λ v. default_given ev env c e l vs v)) at_k
+    ∙ ap (λ g. then_do (ev env g w t) (λ v. default_given ev env c e (d ∷ drop (suc k) ds) vs v)) r ∙ sym (ap (λ l. default_first ev env c e l vs w t) at_k)
+
 -- ---- an instance is made
 
 one_more : (t : ℕ) → 1 + t ≡ suc t
@@ -128,13 +138,12 @@ module _ (m : Machine) (c : ℕ) (e : Effective) (vs : List Val) where
   after_step : (i : InstanceId) (w w' : State) (t : ℕ) → Some i.0 ≡ next_instance w.store → w' ≡ record w { store = with_instance (allocated c e.layout) w.store }
       → inside m (next_of w i) w' t ≡ inside m allocating w (1 + t)
   after_step i w w' t h k =
+      let made_in : State = record (at m w) { store = with_instance (allocated c e.layout) w.store } in
       ap (λ u. inside m (next_of w i) u t) k
-      ∙ ap (λ o. closed (resume m.levels m.context o))
-      (ap (λ j. initialized (meaning m.room) c vs j (invalid_for_new w c j e.slots vs) (record (at m w) { store = with_instance (allocated c e.layout) w.store }) t)
-      (some_room (has_room w.store) _ i.0 h).1
-      ∙ ap (λ ms. initialized (meaning m.room) c vs (length w.store.instances + 1) (invalid_initarg w.generics.methods ms e.slots vs) (record (at m w) { store = with_instance (allocated c e.layout) w.store }) t)
-      (new_reached w c e.layout)
-      ∙ sym (has_room_then i w (1 + t) h ∙ ap (step_then (made (meaning m.room) m.context c e vs) (at m w)) (one_more t)))
+      ∙ bare_same m.levels m.context (next_of w i made_in t) (allocating (at m w) (1 + t))
+      (ap (λ j. bare (initialized (meaning m.room) c vs j (invalid_for_new w c j e.slots vs) made_in t)) (some_room (has_room w.store) _ i.0 h).1
+      ∙ ap (λ ms. bare (initialized (meaning m.room) c vs (length w.store.instances + 1) (invalid_initarg w.generics.methods ms e.slots vs) made_in t)) (new_reached w c e.layout)
+      ∙ sym (ap bare (has_room_then i w (1 + t) h ∙ ap (step_then (made (meaning m.room) m.context c e vs) (at m w)) (one_more t))))
 
   pub allocate_goes : (n : Machine) (i : InstanceId) (d : Doing) (w w' : State) (s s' : ℕ) → Some i.0 ≡ next_instance w.store → s ≡ 1 + s'
       → w' ≡ record w { store = with_instance (allocated c e.layout) w.store } → Leads (inside m (next_of w i)) w' (Ok d) n → Turns (inside m allocating) w s (Ok d) n w' s'

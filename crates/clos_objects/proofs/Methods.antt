@@ -24,7 +24,7 @@ use Rattle.clos_machine.specs.clos_meaning.Slots.{instance_in}
 use Rattle.clos_machine.specs.clos_meaning.SystemMethods.{class_in, filled_as, if_valid, initialize_slots, reinitialize_as, shared_initialize, shared_initialized, system_method_run}
 use Rattle.clos_machine.specs.declared.machine.Doing.{Doing}
 use Rattle.clos_machine.specs.declared.machine.Machine.{Machine}
-use Rattle.clos_machine.proofs.Turns.{leads_same, stopped_through}
+use Rattle.clos_machine.proofs.Turns.{bare, bare_same, bare_through, leads_same, stopped_through}
 use Rattle.clos_objects.specs.Objects.{TellsCondition}
 
 module _ (m n : Machine) (w : State) where
@@ -34,6 +34,12 @@ module _ (m n : Machine) (w : State) where
 
   pub leads_refused : (run : Run) (c d : Condition) → ((t : ℕ) → run (at m w) t ≡ Stopped d (at m w) t) → c ≡ d → Leads (inside m run) w (Err (Refused c)) n
   leads_refused run c d h e = leads_stops run c (λ t. h t ∙ ap (λ x. Stopped x (at m w) t) (sym e))
+
+  -- the same after something was noted
+  leads_refused_after : (run : Run) (c d : Condition) → ((t : ℕ) → bare (run (at m w) t) ≡ Stopped d (at m w) t) → c ≡ d → Leads (inside m run) w (Err (Refused c)) n
+  leads_refused_after run c d h e = λ t.
+      bare_through m.levels m.context (run (at m w) t)
+      ∙ ap (λ o. closed (resume m.levels m.context o)) (h t ∙ ap (λ x. Stopped x (at m w) t) (sym e)) ∙ stopped_through m.levels m.context c (at m w) t
 
   -- what is no instance
   pub no_instance : (go : Result ℕ Condition → Run) (d : Result ℕ Condition) (stop : Stop) → ((c : Condition) (t : ℕ) → go (Err c) (at m w) t ≡ Stopped c (at m w) t)
@@ -83,15 +89,17 @@ module _ (m n : Machine) (w : State) where
         → Leads (inside m again) w (Err stop) n
     invalid_again p k Storage e h d = tt
     invalid_again p k (Refused c) e h d =
-        leads_refused again c (invalid_for k (class_name w.classes p.0))
-        (λ t. ap (λ o. reinitialize_as ev vs i o (at m w) t) (sym e) ∙ ap (λ o. if_valid p.0 o (shared_initialized ev i (list nil) vs) (at m w) t) (sym h)) d
+        leads_refused_after again c (invalid_for k (class_name w.classes p.0))
+        (λ t. ap (λ o. bare (reinitialize_as ev vs i o (at m w) t)) (sym e) ∙ ap (λ o. bare (if_valid p.0 o (shared_initialized ev i (list nil) vs) (at m w) t)) (sym h)) d
 
     pub valid_again : (p : ℕ × Effective) (names : Val) (r : Result Doing Stop) → Some p ≡ class_in w i → None ≡ wrong p.1 → names ≡ list nil
         → Leads (inside m (shared_initialized ev i names vs)) w r n → Leads (inside m again) w r n
     valid_again p names r e h q l =
         leads_same (inside m (shared_initialized ev i names vs)) (inside m again) w r n
         (λ t. ap (λ v. inside m (shared_initialized ev i v vs) w t) q
-        ∙ ap (λ o. inside m (if_valid p.0 o (shared_initialized ev i (list nil) vs)) w t) h ∙ ap (λ o. inside m (reinitialize_as ev vs i o) w t) e) l
+        ∙ ap (λ o. inside m (if_valid p.0 o (shared_initialized ev i (list nil) vs)) w t) h
+        ∙ bare_same m.levels m.context (if_valid p.0 (wrong p.1) (shared_initialized ev i (list nil) vs) (at m w) t) (reinitialize_as ev vs i (Some p) (at m w) t) refl
+        ∙ ap (λ o. inside m (reinitialize_as ev vs i o) w t) e) l
 
   -- ---- slots that are initialized
 

@@ -307,7 +307,7 @@ fn change(
 }
 
 /// Slot-missing is called in place of the change of a slot, and then this value is given.
-#[tactic(auto, using(clos_machine::proofs::Turns::grows_5_6))]
+#[tactic(auto, using(clos_machine::proofs::Turns::grows_5_6, clos_machine::proofs::Turns::then_then))]
 fn change_missing(
     alloc: Global,
     machine: &mut Machine,

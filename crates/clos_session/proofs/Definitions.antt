@@ -28,7 +28,7 @@ use Rattle.clos_definition_forms.specs.clos_definition.Generic.{eql_forms, gener
 use Rattle.clos_definition_forms.specs.clos_definition.Method.{eql_form, method_refusal, with_defined_method}
 use Rattle.clos_definition_forms.specs.clos_definition.Removal.{removable, with_removed}
 use Rattle.clos_definition_forms.specs.clos_machine.clos_meaning.Meaning.{evaluation}
-use Rattle.clos_definition_forms.specs.clos_machine.clos_meaning.Outcome.{Out, Gave, Stopped, Run, then_do, step_then, stopped}
+use Rattle.clos_definition_forms.specs.clos_machine.clos_meaning.Outcome.{Noted, Out, Gave, Stopped, Run, then_do, step_then, stopped}
 use Rattle.clos_definition_forms.proofs.clos_machine.clos_meaning.Kept.{same, same_then, Kept, evaluation_kept}
 use Rattle.clos_definition_forms.specs.Definition.{class_made, define_class, define_generic, define_method, generic_made, method_made, remove_method, removed_if, takes_effect, unless, value_at, values_removed}
 use Rattle.clos_session.specs.Definitions.{DefinesNothing}
@@ -46,14 +46,17 @@ use Rattle.clos_session.specs.declared.session.Reply.TheVariants.{Value, Conditi
 abbrev Refuses : State → Out → Type 0
 Refuses w (Gave v u k) = ⊤
 Refuses w (Stopped c u k) = Same w u
+Refuses w (Noted n o) = Refuses w o
 
 kept_refuses : (w : State) (o : Out) → Kept w o → Refuses w o
 kept_refuses w (Gave v u k) h = tt
 kept_refuses w (Stopped c u k) h = h
+kept_refuses w (Noted n o) h = kept_refuses w o h
 
 shifted_refuses : (w u : State) (o : Out) → Same w u → Refuses u o → Refuses w o
 shifted_refuses w u (Gave v t k) h g = tt
 shifted_refuses w u (Stopped c t k) h g = same_then w u t h g
+shifted_refuses w u (Noted n o) h g = shifted_refuses w u o h g
 
 choice_refuses : (b : Bool) (w : State) (x y : Out) → Refuses w x → Refuses w y → Refuses w (if b then x else y)
 choice_refuses true w x y h g = h
@@ -72,6 +75,7 @@ unless_refuses (Some c) go w k h = same w
 -- an evaluation before it
 then_refuses : (w : State) (o : Out) (go : Val → Run) → Kept w o → ((v : Val) (u : State) (j : ℕ) → Refuses u (go v u j)) → Refuses w (then_do o go)
 then_refuses w (Stopped c u k) go h g = h
+then_refuses w (Noted n o) go h g = then_refuses w o go h g
 then_refuses w (Gave v u k) go h g = shifted_refuses w u (go v u k) h (g v u k)
 
 form_refuses : (o : Option Frm) (go : Option Val → Run) (w : State) (k : ℕ) → ((v : Option Val) (u : State) (j : ℕ) → Refuses u (go v u j)) → Refuses w (form_evaluated o go w k)
@@ -132,6 +136,7 @@ function_refuses (Setf name) f w k =
 -- a step after an evaluation
 then_step_refuses : (w : State) (o : Out) (go : Val → Run) → Kept w o → ((v : Val) (u : State) (j : ℕ) → Refuses u (go v u j)) → Refuses w (then_do o (λ v. step_then (go v)))
 then_step_refuses w (Stopped c u k) go h g = h
+then_step_refuses w (Noted n o) go h g = then_step_refuses w o go h g
 then_step_refuses w (Gave v u zero) go h g = h
 then_step_refuses w (Gave v u (suc k)) go h g = shifted_refuses w u (go v u k) h (g v u k)
 

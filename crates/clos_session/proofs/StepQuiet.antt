@@ -23,7 +23,7 @@ use Rattle.clos_definition_forms.specs.clos_world.declared.world.World.{World}
 use Rattle.clos_definition_forms.specs.clos_machine.clos_meaning.Contexts.{known}
 use Rattle.clos_definition_forms.specs.clos_machine.Machine.{Answers}
 use Rattle.clos_definition_forms.specs.clos_machine.clos_meaning.Meaning.{evaluation}
-use Rattle.clos_definition_forms.specs.clos_machine.clos_meaning.Outcome.{Out, Gave, Stopped, Run, then_do, step_then, leaves}
+use Rattle.clos_definition_forms.specs.clos_machine.clos_meaning.Outcome.{Noted, Out, Gave, Stopped, Run, then_do, step_then, leaves}
 use Rattle.clos_definition_forms.proofs.clos_machine.clos_meaning.Quiet.{evaluation_quiet}
 use Rattle.clos_definition_forms.specs.Function.{has_room, define_function}
 use Rattle.clos_session.specs.Served.{is_combination, is_served_top}
@@ -46,6 +46,7 @@ function_quiet (Setf name) f w =
 -- an evaluation with no step left, and then a step
 then_step_quiet : (o : Out) (go : Val → Run) (w : State) → leaves o w 0 → leaves (then_do o (λ v. step_then (go v))) w 0
 then_step_quiet (Stopped c u k) go w h = h
+then_step_quiet (Noted n o) go w h = then_step_quiet o go w h
 then_step_quiet (Gave v u zero) go w h = h
 then_step_quiet (Gave v u (suc k)) go w h = absurd (cc h.1)
 

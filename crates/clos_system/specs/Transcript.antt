@@ -12,7 +12,7 @@ use Rattle.lisp_reader.specs.Fault.{OnFault, offset_of}
 use Rattle.lisp_reader.specs.Gaps.{Gaps}
 use Rattle.clos_session.specs.clos_world.Condition.{number_of, condition_name}
 use Rattle.clos_session.specs.clos_world.World.{State, names_of}
-use Rattle.clos_session.specs.clos_machine.clos_meaning.Outcome.{Out, Gave, Stopped, leaves}
+use Rattle.clos_session.specs.clos_machine.clos_meaning.Outcome.{Out, Gave, Noted, Stopped, leaves}
 use Rattle.clos_session.specs.clos_machine.Machine.{Answers}
 use Rattle.clos_session.specs.Step.{step}
 use Rattle.clos_session.specs.clos_world.declared.condition.Condition.{Condition}
@@ -46,6 +46,7 @@ abbrev pub told : Bool → State → Out → List ℕ → List ℕ
 told echo w (Gave v w' s) out =
     if echo then fresh_line (with_written w w' out) ++ text_of true (names_of w') v ++ 10 ∷ [] else with_written w w' out
 told echo w (Stopped c w' s) out = fresh_line (with_written w w' out) ++ condition_text (names_of w') c
+told echo w (Noted n o) out = told echo w o out
 
 abbrev pub storage_text : ℕ → List ℕ
 storage_text k = codes "; 0 (STORAGE " ++ (decimal k ++ (codes ")" ++ 10 ∷ []))
@@ -57,10 +58,12 @@ told_cut w w' k out = fresh_line (with_written w w' out) ++ storage_text k
 abbrev pub state_after : Out → State
 state_after (Gave v w s) = w
 state_after (Stopped c w s) = w
+state_after (Noted n o) = state_after o
 
 abbrev pub counted : Out → Summary → Summary
 counted (Gave v w s) n = record n { forms = n.forms + 1 }
 counted (Stopped c w s) n = record n { forms = n.forms + 1; conditions = n.conditions + 1 }
+counted (Noted m o) n = counted o n
 
 abbrev pub counted_cut : Summary → Summary
 counted_cut n = record n { forms = n.forms + 1; storages = n.storages + 1 }
