@@ -16,16 +16,16 @@ use Rattle.clos_machine.specs.clos_world.declared.condition.ConditionKind.TheVar
 use Rattle.clos_machine.specs.clos_world.declared.condition.Stop.{Stop}
 use Rattle.clos_machine.specs.clos_meaning.Bodies.{body_run}
 use Rattle.clos_machine.specs.clos_meaning.Calls.{keys_are_even, method_body_run}
-use Rattle.clos_machine.specs.Machine.{Leads, at, inside, resume}
+use Rattle.clos_machine.specs.Machine.{Leads, at, inside, performed, resume}
 use Rattle.clos_machine.specs.clos_meaning.Meaning.{closed, meaning}
 use Rattle.clos_machine.specs.clos_meaning.Outcome.{Eval, Run, stopped}
 use Rattle.clos_machine.specs.clos_meaning.Parameters.{sources}
 use Rattle.clos_machine.specs.clos_meaning.Slots.{instance_in, slot_changed, slot_read}
-use Rattle.clos_machine.specs.clos_meaning.SystemMethods.{system_method_run}
 use Rattle.clos_machine.specs.clos_meaning.declared.arguments.Context.{Context}
-use Rattle.clos_machine.specs.declared.machine.Action.TheVariants.{Write}
+use Rattle.clos_machine.specs.declared.machine.BuiltIn.{BuiltIn}
+use Rattle.clos_machine.specs.declared.machine.BuiltIn.TheVariants as built_in
 use Rattle.clos_machine.specs.declared.machine.Doing.{Doing}
-use Rattle.clos_machine.specs.declared.machine.Doing.TheVariants.{Act}
+use Rattle.clos_machine.specs.declared.machine.Doing.TheVariants.{Perform}
 use Rattle.clos_machine.specs.declared.machine.Machine.{Machine}
 use Rattle.clos_machine.proofs.Turns.{leads_same}
 use Rattle.clos_calls.specs.Methods.{forms_run}
@@ -76,22 +76,29 @@ module _ (m n : Machine) (env : Context) (b : MethodBody) (w : State) where
       goes_as (forms_run (meaning m.room) ctx k fs) r
       (λ t. ap (λ x. forms_run (meaning m.room) x k fs (at m w) t) h ∙ ap (λ x. forms_run (meaning m.room) env x fs (at m w) t) i ∙ set_to (Forms l fs) t e)
 
-  pub body_reads : (slot : Nam) (vs : List Val) (r : Result Doing Stop) → b ≡ Reader slot → vs ≡ env.arguments
-      → Leads (inside m (read_by (meaning m.room) m.context slot vs)) w r n → Leads (inside m (method_body_run (meaning m.room) env b)) w r n
-  body_reads slot vs r e h =
-      goes_as (read_by (meaning m.room) m.context slot vs) r
-      (λ t. read_any (meaning m.room) m.context env slot (at m w) t vs ∙ ap (λ x. read_by (meaning m.room) env slot x (at m w) t) h ∙ set_to (Reader slot) t e)
+-- ---- bodies without forms, which are performed next
 
-  pub body_of_system : (f : SystemFunction) (r : Result Doing Stop) → b ≡ System f
-      → Leads (inside m (system_method_run (meaning m.room) f env.arguments)) w r n → Leads (inside m (method_body_run (meaning m.room) env b)) w r n
-  body_of_system f r e = goes_as (system_method_run (meaning m.room) f env.arguments) r (λ t. set_to (System f) t e)
+module _ (m : Machine) (env : Context) (b : MethodBody) (w : State) where
+  performs : (x : MethodBody) (p : BuiltIn) → b ≡ x → ((t : ℕ) → performed (meaning m.room) m.context p env.arguments (at m w) t ≡ method_body_run (meaning m.room) env x (at m w) t)
+      → Leads (inside m (method_body_run (meaning m.room) env b)) w (Ok (Perform p env.arguments)) m
+  performs x p e h = λ t.
+      ap (λ o. closed (resume m.levels m.context o)) (h t ∙ ap (λ y. method_body_run (meaning m.room) env y (at m w) t) (sym e))
 
-pub body_writes : (m : Machine) (env : Context) (b : MethodBody) (w : State) (slot name : Nam) (vs : List Val) → b ≡ Writer slot → name ≡ slot → vs ≡ env.arguments
-    → Leads (inside m (method_body_run (meaning m.room) env b)) w (Ok (Act (Write name) vs)) m
-body_writes m env b w slot name vs e h i = λ t.
-    ap (λ o. closed (resume m.levels m.context o))
-    (ap (λ x. written_by (meaning m.room) m.context x vs (at m w) t) h ∙ written_any (meaning m.room) m.context env slot (at m w) t vs
-    ∙ ap (λ x. written_by (meaning m.room) env slot x (at m w) t) i ∙ ap (λ y. method_body_run (meaning m.room) env y (at m w) t) (sym e))
+  pub body_reads : (slot name : Nam) → b ≡ Reader slot → name ≡ slot
+      → Leads (inside m (method_body_run (meaning m.room) env b)) w (Ok (Perform (built_in.Reader name) env.arguments)) m
+  body_reads slot name e h =
+      performs (Reader slot) (built_in.Reader name) e
+      (λ t. ap (λ x. read_by (meaning m.room) m.context x env.arguments (at m w) t) h ∙ read_any (meaning m.room) m.context env slot (at m w) t env.arguments)
+
+  pub body_writes : (slot name : Nam) → b ≡ Writer slot → name ≡ slot
+      → Leads (inside m (method_body_run (meaning m.room) env b)) w (Ok (Perform (built_in.Writer name) env.arguments)) m
+  body_writes slot name e h =
+      performs (Writer slot) (built_in.Writer name) e
+      (λ t. ap (λ x. written_by (meaning m.room) m.context x env.arguments (at m w) t) h ∙ written_any (meaning m.room) m.context env slot (at m w) t env.arguments)
+
+  pub body_of_system : (f : SystemFunction) → b ≡ System f
+      → Leads (inside m (method_body_run (meaning m.room) env b)) w (Ok (Perform (built_in.System f) env.arguments)) m
+  body_of_system f e = performs (System f) (built_in.System f) e (λ t. refl)
 
 pub keys_even : (m n : Machine) (env : Context) (l : LambdaList) (fs : Frms) (w : State) (r : Result Doing Stop) → true ≡ keys_are_even l env.arguments
     → Leads (inside m (body_run (meaning m.room) env (sources l env.arguments) fs)) w r n → Leads (inside m (forms_run (meaning m.room) env l fs)) w r n

@@ -25,7 +25,7 @@ use Rattle.clos_machine.specs.clos_meaning.Pair.{pair}
 use Rattle.clos_machine.proofs.Turns.{bare, bare_through, leads_same, stopped_through}
 use Rattle.clos_comb.specs.Effective as comb
 use Rattle.clos_comb.specs.Outcome.{Combined, group_empty, invalid_method}
-use Rattle.clos_objects.specs.Objects.{TellsCondition}
+use Rattle.clos_machine.specs.Fault.{TellsCondition}
 use Rattle.clos_calls.specs.GenericCalls.{empty_group, takes_in}
 
 -- a function that takes so many arguments is there

@@ -5,7 +5,7 @@ ghost use Rattle.lisp_data.specs.ValueView.{value_of};
 ghost use Rattle.clos_machine.specs.clos_world.World.{State, seen, bound_as};
 ghost use Rattle.clos_machine.specs.clos_meaning.Bodies.{restoring, scoped, parameters_run, body_run};
 ghost use Rattle.clos_machine.specs.clos_meaning.Control.{sequence};
-ghost use Rattle.clos_machine.specs.Machine.{Leads, Grows, at, inside, given_to, under};
+ghost use Rattle.clos_machine.specs.Machine.{Leads, Grows, at, inside, given_to, under, value_weight};
 ghost use Rattle.clos_machine.specs.clos_meaning.Meaning.{meaning};
 ghost use Rattle.clos_machine.specs.clos_meaning.Outcome.{Run, then_do};
 ghost use Rattle.clos_machine.specs.clos_meaning.Parameters.{required_sources, sources};
@@ -33,7 +33,7 @@ pub fn run_body(
     body: &Forms,
 ) -> Result<Doing, Stop>
     ensures leads { Leads (inside machine.old (body_run (meaning machine.old.room) context (sources lambda_list.now context.arguments) body.now)) (seen world.now) result machine.new }
-    ensures small { Grows 6 machine.old.levels result machine.new }
+    ensures small { Grows value_weight machine.old.levels result machine.new }
 {
     if requires_only(lambda_list) {
         let names = lambda_list.required.as_slice();
@@ -53,7 +53,7 @@ fn run_planned(
     body: &Forms,
 ) -> Result<Doing, Stop>
     ensures leads { Leads (inside machine.old (body_run (meaning machine.old.room) context plan body.now)) (seen world.now) result machine.new }
-    ensures small { Grows 6 machine.old.levels result machine.new }
+    ensures small { Grows value_weight machine.old.levels result machine.new }
 {
     let saved = mem::replace(&mut machine.context, context);
     let outer = mem::replace(&mut machine.locals, Locals::new(alloc));
@@ -71,7 +71,7 @@ fn bind_parameters(
     outer: Locals,
 ) -> Result<Doing, Stop>
     ensures leads { Leads (under machine.old saved outer (parameters_run (meaning machine.old.room) machine.old.context plan body.now)) (seen world.now) result machine.new }
-    ensures small { Grows 6 machine.old.levels result machine.new }
+    ensures small { Grows value_weight machine.old.levels result machine.new }
 {
     match settle(alloc, world, &mut machine.locals, &mut plan) {
         Err(stop) => Err(stop),
@@ -99,7 +99,7 @@ pub fn next_parameter(
     value: Value,
 ) -> Result<Doing, Stop>
     ensures leads { Leads (given_to machine.old (Bind name plan body.now saved outer) (value_of value)) (seen world.now) result machine.new }
-    ensures small { Grows 6 machine.old.levels result machine.new }
+    ensures small { Grows value_weight machine.old.levels result machine.new }
 {
     if world.globals.has(&name) {
         return Err(Stop::Refused(plain(alloc, ConditionKind::Unsupported)));
@@ -118,7 +118,7 @@ fn run_bound(
     body: &Forms,
 ) -> Result<Doing, Stop>
     ensures leads { Leads (inside machine.old (body_run (meaning machine.old.room) context (required_sources names.now context.arguments) body.now)) (seen world.now) result machine.new }
-    ensures small { Grows 6 machine.old.levels result machine.new }
+    ensures small { Grows value_weight machine.old.levels result machine.new }
 {
     match bind(alloc, world, names, context.arguments.as_slice()) {
         Err(stop) => Err(stop),
@@ -136,7 +136,7 @@ fn run_scoped(
     ensures leads { (run : Run) (w : State)
         → ((t : ℕ) → scoped (sequence (meaning machine.old.room) context forms.now (list nil)) locals (at machine.old w) t ≡ run (at machine.old w) t)
         → Leads (inside machine.old run) w result machine.new }
-    ensures small { Grows 6 machine.old.levels result machine.new }
+    ensures small { Grows value_weight machine.old.levels result machine.new }
 {
     match split(forms)? {
         None => Ok(done(machine, nil())),
@@ -145,7 +145,7 @@ fn run_scoped(
 }
 
 /// The machine's context and variables are now these; the others come back.
-pub(crate) fn enter(machine: &mut Machine, context: Context, locals: Locals) -> (Context, Locals)
+fn enter(machine: &mut Machine, context: Context, locals: Locals) -> (Context, Locals)
     ensures left { (result.0 ≡ machine.old.context) × (result.1 ≡ machine.old.locals) }
     ensures entered { machine.new ≡ record machine.old { context = context; locals = locals } }
 {
@@ -166,7 +166,7 @@ fn enter_body(
     ensures leads { (run : Run) (w : State)
         → ((t : ℕ) → then_do (then_do (meaning machine.old.room context first (bound_as locals w) t) (λ v. sequence (meaning machine.old.room) context rest v)) (restoring machine.old.locals) ≡ run (at machine.old w) t)
         → Leads (inside machine.old run) w result machine.new }
-    ensures small { Grows 6 machine.old.levels result machine.new }
+    ensures small { Grows value_weight machine.old.levels result machine.new }
 {
     let (saved, outer) = enter(machine, context, locals);
     let room = machine.room;
@@ -186,7 +186,7 @@ pub fn next_of_body(
     value: Value,
 ) -> Result<Doing, Stop>
     ensures leads { Leads (given_to machine.old (Body rest.now saved outer) (value_of value)) (seen world.now) result machine.new }
-    ensures small { Grows 6 machine.old.levels result machine.new }
+    ensures small { Grows value_weight machine.old.levels result machine.new }
 {
     let _ = world;
     match split(rest)? {

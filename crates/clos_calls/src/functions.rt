@@ -11,18 +11,17 @@ ghost use Rattle.clos_machine.specs.clos_world.Functions.{function_in};
 ghost use Rattle.clos_machine.specs.clos_world.World.{State, seen};
 ghost use Rattle.clos_machine.specs.clos_meaning.Calls.{applied_to, called_defined, called_function, called_setter};
 ghost use Rattle.clos_machine.specs.clos_meaning.Fault.{answered};
-ghost use Rattle.clos_machine.specs.clos_meaning.Functions.{place_set};
-ghost use Rattle.clos_machine.specs.Machine.{access_of, Leads, Grows, at, inside, lift, acted, collected};
-ghost use Rattle.clos_machine.specs.clos_meaning.Meaning.{meaning, alone, collect, function_value, is_plain_function, other_function};
+ghost use Rattle.clos_machine.specs.Machine.{Leads, Grows, at, inside, collected, collect_weight, value_weight};
+ghost use Rattle.clos_machine.specs.clos_meaning.Meaning.{meaning, function_value, is_plain_function, other_function};
 ghost use Rattle.clos_machine.specs.clos_meaning.Outcome.{Run};
 ghost use Rattle.clos_machine.specs.declared.machine.Action.TheVariants.{Call};
 
 use crate::bodies::run_body;
 use crate::generic_calls::call_generic;
-use clos_forms::{Form, Forms, FunctionName, is_function, value_named};
+use clos_forms::{Forms, FunctionName, is_function, value_named};
 use clos_machine::fault::of_function;
-use clos_machine::machine::{Action, Doing, Frame, Machine, Target};
-use clos_machine::moves::{begin, collect_next, give_up};
+use clos_machine::machine::{Action, Doing, Machine};
+use clos_machine::moves::collect_next;
 use clos_machine::parameters::fits;
 use clos_machine::{
     Arguments, ConditionKind, Context, Function, Stop, Values, World, about, about_name, plain,
@@ -42,50 +41,10 @@ pub fn start_call(
     ensures leads { (run : Run) (w : State)
         → ((t : ℕ) → collected (meaning machine.old.room) machine.old.context arguments.now (Call name.now) (at machine.old w) t ≡ run (at machine.old w) t)
         → Leads (inside machine.old run) w result machine.new }
-    ensures small { Grows 9 machine.old.levels result machine.new }
+    ensures small { Grows (collect_weight (Call name.now)) machine.old.levels result machine.new }
 {
     let action = Action::Call(name.copy()?);
     collect_next(machine, action, arguments, Values::new(alloc))
-}
-
-/// The next value is there.
-pub fn next_value(
-    machine: &Machine,
-    action: Action,
-    rest: Forms,
-    mut values: Values,
-    value: Value,
-) -> Result<Doing, Stop>
-    ensures leads { (run : Run) (w : State)
-        → ((t : ℕ) → collect (meaning machine.now.room) machine.now.context rest (values ++ value_of value ∷ []) (acted (meaning machine.now.room) machine.now.context action) (at machine.now w) t ≡ run (at machine.now w) t)
-        → Leads (inside machine.now run) w result machine.now }
-    ensures small { Grows (9 + lift action) machine.now.levels result machine.now }
-{
-    let _ = machine;
-    let Ok(()) = values.push(value) else {
-        return Err(give_up(action, values));
-    };
-    Ok(Doing::Collect(action, rest, values))
-}
-
-/// The new value of a place follows its arguments.
-pub fn new_value(
-    machine: &mut Machine,
-    target: Target,
-    form: &Form,
-    values: Values,
-) -> Result<Doing, Stop>
-    ensures leads { (run : Run) (w : State)
-        → ((t : ℕ) → collect (meaning machine.old.room) machine.old.context (alone form.now) values (λ vs u k. place_set (meaning machine.old.room) machine.old.context (access_of target) vs u k) (at machine.old w) t ≡ run (at machine.old w) t)
-        → Leads (inside machine.old run) w result machine.new }
-    ensures small { Grows 4 machine.old.levels result machine.new }
-{
-    let next = form.copy()?;
-    begin(
-        machine,
-        next,
-        Frame::Collect(Action::Set(target), Forms::new(), values),
-    )
 }
 
 /// A function of values.
@@ -98,7 +57,7 @@ pub fn compute(
     values: &Values,
 ) -> Result<Doing, Stop>
     ensures leads { Leads (inside machine.old (answered (answer primitive values.now))) (seen world.now) result machine.new }
-    ensures small { Grows 6 machine.old.levels result machine.new }
+    ensures small { Grows value_weight machine.old.levels result machine.new }
 {
     let _ = world;
     match primitive.call(alloc, values.as_slice()) {
@@ -108,7 +67,7 @@ pub fn compute(
 }
 
 /// A call of the function of the program's of this name.
-#[tactic(auto, using(clos_machine::proofs::Turns::stopped_through, crate::proofs::Growing::grows_2_6))]
+#[tactic(auto, using(clos_machine::proofs::Turns::stopped_through, clos_machine::proofs::Turns::grows_more))]
 pub fn call(
     alloc: Global,
     machine: &mut Machine,
@@ -118,7 +77,7 @@ pub fn call(
 ) -> Result<Doing, Stop>
     ensures leads { Leads (inside machine.old (λ w. called_function (meaning machine.old.room) name.now values (named w.generics (Symbol name.now)) w)) (seen world.old) result machine.new }
     ensures same { seen world.new ≡ seen world.old }
-    ensures small { Grows 6 machine.old.levels result machine.new }
+    ensures small { Grows value_weight machine.old.levels result machine.new }
 {
     match world.generics.named_by_symbol(name) {
         None => call_named(alloc, machine, world, name, values),
@@ -136,7 +95,7 @@ fn call_named(
     values: Values,
 ) -> Result<Doing, Stop>
     ensures leads { Leads (inside machine.old (λ w. called_defined (meaning machine.old.room) values (name_value name.now) (function_in w.functions name.now) w)) (seen world.now) result machine.new }
-    ensures small { Grows 6 machine.old.levels result machine.new }
+    ensures small { Grows value_weight machine.old.levels result machine.new }
 {
     match world.functions.get(name) {
         None => {
@@ -148,7 +107,7 @@ fn call_named(
 }
 
 /// A call of the function `(setf name)`, whose first argument is the last of the values.
-#[tactic(auto, using(clos_machine::proofs::Turns::stopped_through, crate::proofs::Growing::grows_2_6))]
+#[tactic(auto, using(clos_machine::proofs::Turns::stopped_through, clos_machine::proofs::Turns::grows_more))]
 pub fn call_setter(
     alloc: Global,
     machine: &mut Machine,
@@ -158,7 +117,7 @@ pub fn call_setter(
 ) -> Result<Doing, Stop>
     ensures leads { Leads (inside machine.old (called_setter (meaning machine.old.room) name.now values)) (seen world.old) result machine.new }
     ensures same { seen world.new ≡ seen world.old }
-    ensures small { Grows 6 machine.old.levels result machine.new }
+    ensures small { Grows value_weight machine.old.levels result machine.new }
 {
     values.put_last_first()?;
     match world.generics.named_by_setf(name) {
@@ -177,7 +136,7 @@ fn call_set_function(
     values: Values,
 ) -> Result<Doing, Stop>
     ensures leads { Leads (inside machine.old (λ w. called_defined (meaning machine.old.room) values (setter_value name.now) (function_in w.setters name.now) w)) (seen world.now) result machine.new }
-    ensures small { Grows 6 machine.old.levels result machine.new }
+    ensures small { Grows value_weight machine.old.levels result machine.new }
 {
     match world.setters.get(name) {
         None => {
@@ -198,7 +157,7 @@ fn call_function(
     values: Values,
 ) -> Result<Doing, Stop>
     ensures leads { Leads (inside machine.old (applied_to (meaning machine.old.room) values function.now)) (seen world.now) result machine.new }
-    ensures small { Grows 6 machine.old.levels result machine.new }
+    ensures small { Grows value_weight machine.old.levels result machine.new }
 {
     if !fits(&function.lambda_list, values.as_slice()) {
         return Err(Stop::Refused(plain(alloc, ConditionKind::ProgramError)));
@@ -224,7 +183,7 @@ pub fn function_named(
     name: &FunctionName,
 ) -> Result<Doing, Stop>
     ensures leads { Leads (inside machine.old (function_value (called_of name.now))) (seen world.now) result machine.new }
-    ensures small { Grows 6 machine.old.levels result machine.new }
+    ensures small { Grows value_weight machine.old.levels result machine.new }
 {
     match name {
         FunctionName::Symbol(name) => match world.generics.named_by_symbol(name) {
@@ -263,7 +222,7 @@ fn no_object(
     name: Value,
 ) -> Result<Doing, Stop>
     ensures leads { Leads (inside machine.now (other_function known (value_of name))) (seen world.now) result machine.now }
-    ensures small { Grows 6 machine.now.levels result machine.now }
+    ensures small { Grows value_weight machine.now.levels result machine.now }
 {
     let _ = machine;
     let _ = world;

@@ -6,19 +6,18 @@ ghost use Rattle.clos_machine.specs.clos_world.World.{State, seen};
 ghost use Rattle.clos_machine.specs.clos_meaning.Bodies.{scoped};
 ghost use Rattle.clos_machine.specs.clos_meaning.Contexts.{in_call};
 ghost use Rattle.clos_machine.specs.clos_meaning.GenericCalls.{called_generic, combined_run, invoked, matched, unmatched};
-ghost use Rattle.clos_machine.specs.Machine.{Leads, Grows, at, inside};
+ghost use Rattle.clos_machine.specs.Machine.{Leads, Grows, at, inside, call_growth};
 ghost use Rattle.clos_machine.specs.clos_meaning.Meaning.{meaning};
 ghost use Rattle.clos_machine.specs.clos_meaning.Outcome.{Run};
-ghost use Rattle.clos_objects.specs.Objects.{TellsCondition};
+ghost use Rattle.clos_machine.specs.Fault.{TellsCondition};
 ghost use Rattle.clos_calls.specs.GenericCalls.{empty_group, takes_in};
 
-use crate::bodies::enter;
 use crate::keywords::keywords_fit;
 use clos_comb::Outcome;
-use clos_forms::{Form, Forms};
+use clos_forms::Form;
 use clos_generic_core::{MethodIds, SystemFunction};
-use clos_machine::locals::Locals;
-use clos_machine::machine::{Doing, Frame, Level, Machine};
+use clos_machine::machine::{Doing, Machine};
+use clos_machine::moves::set_apart;
 use clos_machine::{
     Arguments, Condition, ConditionKind, Context, Dispatch, Stop, Values, World, about, about_both,
     called_value, plain,
@@ -36,7 +35,7 @@ pub fn call_generic(
 ) -> Result<Doing, Stop>
     ensures leads { Leads (inside machine.old (λ w. called_generic (meaning machine.old.room) values id.0 (slice_get w.generics.functions id.0) w)) (seen world.old) result machine.new }
     ensures same { seen world.new ≡ seen world.old }
-    ensures small { Grows 2 machine.old.levels result machine.new }
+    ensures small { Grows call_growth machine.old.levels result machine.new }
 {
     if !takes(world, id, values.len()) {
         return Err(Stop::Refused(plain(alloc, ConditionKind::ProgramError)));
@@ -69,7 +68,7 @@ fn call_unmatched(
 ) -> Result<Doing, Stop>
     ensures leads { Leads (inside machine.old (unmatched (meaning machine.old.room) id.0 arguments.now)) (seen world.old) result machine.new }
     ensures same { seen world.new ≡ seen world.old }
-    ensures small { Grows 2 machine.old.levels result machine.new }
+    ensures small { Grows call_growth machine.old.levels result machine.new }
 {
     let mut values = arguments.to_values(alloc)?;
     values.push_first(Value::Generic(id))?;
@@ -97,7 +96,7 @@ fn call_matched(
     ensures leads { (f : Function) → Some f ≡ slice_get (seen world.old).generics.functions id.0
         → Leads (inside machine.old (matched (meaning machine.old.room) arguments id.0 f methods)) (seen world.old) result machine.new }
     ensures same { seen world.new ≡ seen world.old }
-    ensures small { Grows 2 machine.old.levels result machine.new }
+    ensures small { Grows call_growth machine.old.levels result machine.new }
 {
     if !keywords_fit(world, id, methods.as_slice(), arguments.as_slice()) {
         return Err(Stop::Refused(plain(alloc, ConditionKind::ProgramError)));
@@ -124,7 +123,7 @@ fn run_combined(
 ) -> Result<Doing, Stop>
     ensures leads { (f : Function) → Some f ≡ slice_get (seen world.now).generics.functions id.0
         → Leads (inside machine.old (combined_run (meaning machine.old.room) (in_call (record { generic = id.0; methods = methods }) arguments) f (combined_of outcome))) (seen world.now) result machine.new }
-    ensures small { Grows 2 machine.old.levels result machine.new }
+    ensures small { Grows call_growth machine.old.levels result machine.new }
 {
     match outcome {
         Outcome::Effective(form) => {
@@ -180,13 +179,12 @@ pub fn invoke(
 ) -> Result<Doing, Stop>
     ensures leads { Leads (inside machine.old (invoked (meaning machine.old.room) function values)) (seen world.old) result machine.new }
     ensures same { seen world.new ≡ seen world.old }
-    ensures small { Grows 2 machine.old.levels result machine.new }
+    ensures small { Grows call_growth machine.old.levels result machine.new }
 {
     call_generic(alloc, machine, world, function.id(), values)
 }
 
 /// Evaluates this next in a context of its own and with no variables; the machine's come back after it.
-#[tactic(auto, using(clos_machine::proofs::Turns::stopped_through, clos_machine::proofs::Turns::then_gave, clos_machine::proofs::Turns::then_then))]
 pub fn enter_effect(
     alloc: Global,
     machine: &mut Machine,
@@ -196,14 +194,8 @@ pub fn enter_effect(
     ensures leads { (run : Run) (w : State)
         → ((t : ℕ) → scoped (meaning machine.old.room context next) [] (at machine.old w) t ≡ run (at machine.old w) t)
         → Leads (inside machine.old run) w result machine.new }
-    ensures small { Grows 2 machine.old.levels result machine.new }
+    ensures small { Grows call_growth machine.old.levels result machine.new }
 {
-    let (saved, outer) = enter(machine, context, Locals::new(alloc));
-    let room = machine.room;
-    let frame = Frame::Body(Forms::new(), saved, outer);
-    let Ok(()) = machine.levels.push(Level { frame, room }) else {
-        drop(next);
-        return Err(Stop::Storage);
-    };
+    set_apart(alloc, machine, context)?;
     Ok(Doing::Start(next))
 }

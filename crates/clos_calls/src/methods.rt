@@ -4,7 +4,7 @@ ghost use Rattle.clos_forms.specs.CallMethodView.{callable};
 ghost use Rattle.clos_machine.specs.clos_world.World.{seen};
 ghost use Rattle.clos_machine.specs.clos_meaning.Calls.{made_run, method_body_run, method_called, method_run};
 ghost use Rattle.clos_machine.specs.clos_meaning.Contexts.{running, with_arguments};
-ghost use Rattle.clos_machine.specs.Machine.{Leads, Grows, inside};
+ghost use Rattle.clos_machine.specs.Machine.{Leads, Grows, inside, perform_weight, value_weight};
 ghost use Rattle.clos_machine.specs.clos_meaning.Meaning.{meaning};
 ghost use Rattle.clos_calls.specs.Methods.{forms_run};
 
@@ -13,12 +13,10 @@ use crate::generic_calls::enter_effect;
 use clos_forms::{CalledMethod, Forms, NextMethods};
 use clos_generic_core::MethodBody;
 use clos_lambda::LambdaList;
-use clos_machine::machine::{Action, Doing, Machine};
+use clos_machine::machine::{BuiltIn, Doing, Machine};
 use clos_machine::moves::split;
 use clos_machine::parameters::keys_are_even;
 use clos_machine::{Arguments, ConditionKind, Context, Running, Stop, World, plain};
-use clos_objects::system_methods::run_system_method;
-use clos_objects_core::slots::call_reader;
 use lisp_data::MethodId;
 use std::alloc::{AllocError, Global};
 
@@ -34,7 +32,7 @@ pub fn call_method(
     forms: &Forms,
 ) -> Result<Doing, Stop>
     ensures leads { Leads (inside machine.old (method_called (meaning machine.old.room) machine.old.context (callable method.now) next.now forms.now)) (seen world.now) result machine.new }
-    ensures small { Grows 9 machine.old.levels result machine.new }
+    ensures small { Grows perform_weight machine.old.levels result machine.new }
 {
     match method {
         CalledMethod::Method(id) => {
@@ -54,7 +52,7 @@ fn run_made(
     forms: &Forms,
 ) -> Result<Doing, Stop>
     ensures leads { Leads (inside machine.old (made_run (meaning machine.old.room) machine.old.context forms.now)) (seen world.now) result machine.new }
-    ensures small { Grows 9 machine.old.levels result machine.new }
+    ensures small { Grows perform_weight machine.old.levels result machine.new }
 {
     let _ = world;
     match split(forms)? {
@@ -78,7 +76,7 @@ pub fn run_method(
     forms: &Forms,
 ) -> Result<Doing, Stop>
     ensures leads { Leads (inside machine.old (method_run (meaning machine.old.room) (running id.0 next.now forms.now (with_arguments arguments machine.old.context)) (slice_get (seen world.now).generics.methods id.0))) (seen world.now) result machine.new }
-    ensures small { Grows 9 machine.old.levels result machine.new }
+    ensures small { Grows perform_weight machine.old.levels result machine.new }
 {
     match world.generics.method(id) {
         None => Err(Stop::Refused(plain(alloc, ConditionKind::ProgramError))),
@@ -96,7 +94,7 @@ pub fn run_method(
 }
 
 /// A method does what its body does with these arguments.
-#[tactic(auto, using(crate::proofs::Growing::grows_6_9))]
+#[tactic(auto, using(clos_machine::proofs::Turns::grows_more))]
 fn run_method_body(
     alloc: Global,
     machine: &mut Machine,
@@ -108,7 +106,7 @@ fn run_method_body(
     body: &MethodBody,
 ) -> Result<Doing, Stop>
     ensures leads { Leads (inside machine.old (method_body_run (meaning machine.old.room) (running id.0 next.now forms.now (with_arguments arguments machine.old.context)) body.now)) (seen world.now) result machine.new }
-    ensures small { Grows 9 machine.old.levels result machine.new }
+    ensures small { Grows perform_weight machine.old.levels result machine.new }
 {
     match body {
         MethodBody::Forms(lambda_list, body) => {
@@ -116,14 +114,13 @@ fn run_method_body(
             run_forms(alloc, machine, world, context, lambda_list.list(), body)
         }
         MethodBody::Reader(slot) => {
-            call_reader(alloc, machine, world, slot, arguments.as_slice())
+            Ok(Doing::Perform(BuiltIn::Reader(slot.copy()?), arguments))
         }
         MethodBody::Writer(slot) => {
-            let values = arguments.to_values(alloc)?;
-            Ok(Doing::Act(Action::Write(slot.copy()?), values))
+            Ok(Doing::Perform(BuiltIn::Writer(slot.copy()?), arguments))
         }
         MethodBody::System(function) => {
-            run_system_method(alloc, machine, world, *function, &arguments)
+            Ok(Doing::Perform(BuiltIn::System(*function), arguments))
         }
     }
 }
@@ -167,7 +164,7 @@ fn run_forms(
     body: &Forms,
 ) -> Result<Doing, Stop>
     ensures leads { Leads (inside machine.old (forms_run (meaning machine.old.room) context lambda_list.now body.now)) (seen world.now) result machine.new }
-    ensures small { Grows 6 machine.old.levels result machine.new }
+    ensures small { Grows value_weight machine.old.levels result machine.new }
 {
     if !keys_are_even(lambda_list, context.arguments.as_slice()) {
         return Err(Stop::Refused(plain(alloc, ConditionKind::ProgramError)));

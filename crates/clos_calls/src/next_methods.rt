@@ -7,12 +7,13 @@ ghost use Rattle.clos_generic_core.specs.MethodIds.{method_numbers};
 ghost use Rattle.clos_machine.specs.clos_world.World.{State, seen};
 ghost use Rattle.clos_machine.specs.clos_meaning.Calls.{made_run};
 ghost use Rattle.clos_machine.specs.clos_meaning.Contexts.{with_arguments};
-ghost use Rattle.clos_machine.specs.Machine.{Leads, Grows, at, inside};
+ghost use Rattle.clos_machine.specs.Machine.{Leads, Grows, at, inside, call_growth, collect_weight, perform_weight};
 ghost use Rattle.clos_machine.specs.clos_meaning.Meaning.{meaning};
 ghost use Rattle.clos_machine.specs.clos_meaning.NextMethods.{has_next, next_called, next_given, none_next};
 ghost use Rattle.clos_calls.specs.NextMethods.{Refuses, refusal_for, refusal_of};
 ghost use Rattle.clos_machine.specs.clos_meaning.Meaning.{next_method};
 ghost use Rattle.clos_machine.specs.clos_meaning.Outcome.{Run};
+ghost use Rattle.clos_machine.specs.declared.machine.Action.TheVariants.{CallNext};
 
 use crate::generic_calls::{enter_effect, takes};
 use crate::methods::run_method;
@@ -35,7 +36,7 @@ pub fn has_next(machine: &Machine) -> bool
 }
 
 /// A `call-next-method` form begins. Without forms the next method gets the arguments with which the method was called.
-#[tactic(auto, using(crate::proofs::Growing::grows_9_13))]
+#[tactic(auto, using(clos_machine::proofs::Turns::grows_more))]
 pub fn call_next_method(
     alloc: Global,
     machine: &mut Machine,
@@ -43,7 +44,7 @@ pub fn call_next_method(
     forms: &Forms,
 ) -> Result<Doing, Stop>
     ensures leads { Leads (inside machine.old (next_method (meaning machine.old.room) machine.old.context forms.now)) (seen world.now) result machine.new }
-    ensures small { Grows 13 machine.old.levels result machine.new }
+    ensures small { Grows (collect_weight CallNext) machine.old.levels result machine.new }
 {
     match forms.split_first() {
         Some(_) => collect_next(machine, Action::CallNext, forms, Values::new(alloc)),
@@ -63,7 +64,7 @@ pub fn call_next_given(
     values: Values,
 ) -> Result<Doing, Stop>
     ensures leads { Leads (inside machine.old (next_given (meaning machine.old.room) machine.old.context machine.old.context.running values)) (seen world.now) result machine.new }
-    ensures small { Grows 9 machine.old.levels result machine.new }
+    ensures small { Grows perform_weight machine.old.levels result machine.new }
 {
     match permit(alloc, machine, world, values.as_slice()) {
         Err(stop) => Err(stop),
@@ -130,7 +131,7 @@ fn same_methods(a: &[MethodId], b: &[MethodId]) -> bool
 }
 
 /// The next method runs on these arguments, or there is none.
-#[tactic(auto, using(clos_machine::proofs::Turns::stopped_through, crate::proofs::Growing::grows_2_9))]
+#[tactic(auto, using(clos_machine::proofs::Turns::stopped_through, clos_machine::proofs::Turns::grows_more))]
 fn run_next(
     alloc: Global,
     machine: &mut Machine,
@@ -138,7 +139,7 @@ fn run_next(
     arguments: Arguments,
 ) -> Result<Doing, Stop>
     ensures leads { Leads (inside machine.old (next_called (meaning machine.old.room) machine.old.context machine.old.context.running arguments)) (seen world.now) result machine.new }
-    ensures small { Grows 9 machine.old.levels result machine.new }
+    ensures small { Grows perform_weight machine.old.levels result machine.new }
 {
     let Some(running) = &machine.context.running else {
         return Err(Stop::Refused(plain(alloc, ConditionKind::ProgramError)));
@@ -167,7 +168,7 @@ fn run_made_with(
     forms: &Forms,
 ) -> Result<Doing, Stop>
     ensures leads { Leads (inside machine.old (made_run (meaning machine.old.room) (with_arguments arguments machine.old.context) forms.now)) (seen world.now) result machine.new }
-    ensures small { Grows 2 machine.old.levels result machine.new }
+    ensures small { Grows call_growth machine.old.levels result machine.new }
 {
     let _ = world;
     match split(forms)? {
@@ -189,7 +190,7 @@ fn call_none(
     arguments: &Arguments,
 ) -> Result<Doing, Stop>
     ensures leads { Leads (inside machine.now (none_next (meaning machine.now.room) machine.now.context.call id.0 arguments.now)) (seen world.now) result machine.now }
-    ensures small { Grows 9 machine.now.levels result machine.now }
+    ensures small { Grows perform_weight machine.now.levels result machine.now }
 {
     let _ = world;
     match &machine.context.call {

@@ -1,4 +1,3 @@
 pub mod Named
-pub mod Stopping
 pub mod Taken
 pub mod Unset

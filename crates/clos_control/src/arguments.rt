@@ -1,16 +1,16 @@
 //! The values that actions are done with, from left to right (HyperSpec 3.1.2.1.2.3).
-ghost use Rattle.std.specs.Prelude.{◌≡◌, ℕ, ◌+◌, ◌≤◌, IfOk, option_map};
+ghost use Rattle.std.specs.Prelude.{◌≡◌, ◌∷◌, ◌++◌, [], ℕ, ◌≤◌, IfOk, option_map};
 ghost use Rattle.lisp_data.specs.ValueView.{value_of};
 ghost use Rattle.clos_forms.specs.OperatorView.{operator_of};
 ghost use Rattle.clos_machine.specs.clos_world.World.{State, seen};
-ghost use Rattle.clos_machine.specs.Machine.{Leads, Turns, Took, Grows, at, at_once, inside, lift, acted};
+ghost use Rattle.clos_machine.specs.Machine.{Leads, Turns, Took, Grows, at, at_once, inside, acted, action_weight};
 ghost use Rattle.clos_machine.specs.clos_meaning.Meaning.{collect, meaning};
 ghost use Rattle.clos_machine.specs.clos_meaning.Outcome.{Run};
 
-use crate::binding::value_of_variable;
 use clos_forms::{Forms, Operator};
 use clos_machine::machine::{Action, Doing, Frame, Machine};
 use clos_machine::moves::{begin, give_up, split};
+use clos_machine::names::value_of_variable;
 use clos_machine::{Stop, Values, World};
 use lisp_data::Value;
 use std::alloc::AllocError;
@@ -69,7 +69,7 @@ fn begin_next(
     ensures leads { (run : Run) (w : State)
         → ((t : ℕ) → collect (meaning machine.old.room) machine.old.context forms.now values (acted (meaning machine.old.room) machine.old.context action) (at machine.old w) t ≡ run (at machine.old w) t)
         → Leads (inside machine.old run) w result machine.new }
-    ensures small { Grows (8 + lift action) machine.old.levels result machine.new }
+    ensures small { Grows (action_weight action) machine.old.levels result machine.new }
 {
     let Ok(next) = split(forms) else {
         return Err(give_up(action, values));
@@ -93,7 +93,7 @@ pub fn collect_values(
     steps: &mut u64,
 ) -> Result<Doing, Stop>
     ensures turns { Turns (inside machine.old (collect (meaning machine.old.room) machine.old.context forms.now values (acted (meaning machine.old.room) machine.old.context action))) (seen world.now) steps.old result machine.new (seen world.now) steps.new }
-    ensures small { Grows (8 + lift action) machine.old.levels result machine.new }
+    ensures small { Grows (action_weight action) machine.old.levels result machine.new }
     ensures fewer { steps.new ≤ steps.old }
 {
     let mut left = *steps;
@@ -105,4 +105,24 @@ pub fn collect_values(
     };
     *steps = left;
     Ok(doing)
+}
+
+/// The next value is there.
+pub fn next_value(
+    machine: &Machine,
+    action: Action,
+    rest: Forms,
+    mut values: Values,
+    value: Value,
+) -> Result<Doing, Stop>
+    ensures leads { (run : Run) (w : State)
+        → ((t : ℕ) → collect (meaning machine.now.room) machine.now.context rest (values ++ value_of value ∷ []) (acted (meaning machine.now.room) machine.now.context action) (at machine.now w) t ≡ run (at machine.now w) t)
+        → Leads (inside machine.now run) w result machine.now }
+    ensures small { Grows (collect_weight action) machine.now.levels result machine.now }
+{
+    let _ = machine;
+    let Ok(()) = values.push(value) else {
+        return Err(give_up(action, values));
+    };
+    Ok(Doing::Collect(action, rest, values))
 }

@@ -4,14 +4,14 @@ ghost use Rattle.lisp_data.specs.Value.{list, nil};
 ghost use Rattle.lisp_data.specs.ValueView.{value_of};
 ghost use Rattle.clos_machine.specs.clos_world.World.{State, seen, held, bound_as};
 ghost use Rattle.clos_machine.specs.clos_meaning.Control.{sequence};
-ghost use Rattle.clos_machine.specs.Machine.{Leads, Turns, Grows, Shrinks, at, with_next, inside, loop_of};
+ghost use Rattle.clos_machine.specs.Machine.{Leads, Turns, Grows, Shrinks, at, with_next, inside, loop_of, turn_weight, value_weight};
 ghost use Rattle.clos_machine.specs.clos_meaning.Meaning.{meaning};
 ghost use Rattle.clos_machine.specs.clos_meaning.Outcome.{Run, Gave, then_do};
 ghost use Rattle.clos_machine.specs.clos_meaning.Variables.{found_value, in_order, binding, within, leaving, aside, together, dotimes, repeated, turns, result_value, body_of, counted, with_count};
 
 use clos_forms::{Bindings, Forms};
 use clos_machine::counter::Counter;
-use clos_machine::locals::{Denotation, Locals, Plan, bind_unset, put_unset_aside};
+use clos_machine::locals::{Locals, Plan, bind_unset, put_unset_aside};
 use clos_machine::machine::{Doing, Frame, Machine, Repetition};
 use clos_machine::moves::{begin, split};
 use clos_machine::truth::nil;
@@ -19,28 +19,12 @@ use clos_machine::{ConditionKind, Stop, World, about, plain};
 use lisp_data::{Name, Value};
 use std::alloc::{AllocError, Global};
 
-/// The value of a variable: of the innermost lexical one of this name, else of the global one. A name that stands for a
-/// slot is none.
-pub fn value_of_variable<'a>(
-    machine: &'a Machine,
-    world: &'a World,
-    name: &Name,
-) -> Option<&'a Value>
-    ensures { option_map (λ v. value_of v.now) result ≡ found_value (at machine.now (seen world.now)) name.now }
-{
-    match machine.locals.get(name) {
-        Some(Denotation::Held(value)) => Some(value),
-        Some(Denotation::InSlot(_, _)) => None,
-        None => world.globals.value(name),
-    }
-}
-
 /// The forms of a body, within names that are gone after it.
 fn run_within(machine: &mut Machine, outer: usize, forms: &Forms) -> Result<Doing, Stop>
     ensures leads { (run : Run) (w : State)
         → ((t : ℕ) → within (meaning machine.old.room) machine.old.context outer forms.now (list nil) (at machine.old w) t ≡ run (at machine.old w) t)
         → Leads (inside machine.old run) w result machine.new }
-    ensures small { Grows 6 machine.old.levels result machine.new }
+    ensures small { Grows value_weight machine.old.levels result machine.new }
 {
     continue_within(machine, outer, forms, nil())
 }
@@ -56,7 +40,7 @@ pub fn continue_within(
     ensures leads { (run : Run) (w : State)
         → ((t : ℕ) → within (meaning machine.old.room) machine.old.context outer forms.now (value_of value) (at machine.old w) t ≡ run (at machine.old w) t)
         → Leads (inside machine.old run) w result machine.new }
-    ensures small { Grows 6 machine.old.levels result machine.new }
+    ensures small { Grows value_weight machine.old.levels result machine.new }
 {
     match split(forms)? {
         None => {
@@ -81,7 +65,7 @@ pub fn start_let_in_order(
     ensures leads { (run : Run)
         → ((t : ℕ) → in_order (meaning machine.old.room) machine.old.context (length machine.old.locals) bindings.now forms.now (at machine.old (seen world.now)) t ≡ run (at machine.old (seen world.now)) t)
         → Leads (inside machine.old run) (seen world.now) result machine.new }
-    ensures small { Grows 6 machine.old.levels result machine.new }
+    ensures small { Grows value_weight machine.old.levels result machine.new }
 {
     let plan = Plan::new(alloc, bindings.as_slice())?;
     let outer = machine.locals.len();
@@ -100,7 +84,7 @@ fn bind_in_order(
     ensures leads { (run : Run)
         → ((t : ℕ) → in_order (meaning machine.old.room) machine.old.context outer plan forms.now (at machine.old (seen world.now)) t ≡ run (at machine.old (seen world.now)) t)
         → Leads (inside machine.old run) (seen world.now) result machine.new }
-    ensures small { Grows 6 machine.old.levels result machine.new }
+    ensures small { Grows value_weight machine.old.levels result machine.new }
 {
     match bind_unset(alloc, world, &mut machine.locals, &mut plan) {
         Ok(next) => bind_next(alloc, machine, outer, next, plan, forms),
@@ -121,7 +105,7 @@ fn bind_next(
     ensures leads { (run : Run) (w : State)
         → ((t : ℕ) → in_order (meaning machine.old.room) machine.old.context outer (with_next next plan) forms.now (at machine.old w) t ≡ run (at machine.old w) t)
         → Leads (inside machine.old run) w result machine.new }
-    ensures small { Grows 6 machine.old.levels result machine.new }
+    ensures small { Grows value_weight machine.old.levels result machine.new }
 {
     match next {
         None => run_within(machine, outer, forms),
@@ -150,7 +134,7 @@ pub fn next_variable(
     ensures leads { (run : Run)
         → ((t : ℕ) → binding name (value_of value) (in_order (meaning machine.old.room) machine.old.context outer plan forms.now) (at machine.old (seen world.now)) t ≡ run (at machine.old (seen world.now)) t)
         → Leads (inside machine.old run) (seen world.now) result machine.new }
-    ensures small { Grows 6 machine.old.levels result machine.new }
+    ensures small { Grows value_weight machine.old.levels result machine.new }
 {
     if world.globals.has(&name) {
         return Err(Stop::Refused(plain(alloc, ConditionKind::Unsupported)));
@@ -172,7 +156,7 @@ fn bind_one(
     ensures leads { (run : Run)
         → ((t : ℕ) → in_order (meaning machine.old.room) machine.old.context outer plan forms.now (bound_as ((name, held (value_of value)) ∷ machine.old.locals) (seen world.now)) t ≡ run (at machine.old (seen world.now)) t)
         → Leads (inside machine.old run) (seen world.now) result machine.new }
-    ensures small { Grows 6 machine.old.levels result machine.new }
+    ensures small { Grows value_weight machine.old.levels result machine.new }
 {
     machine.locals.push(name, value)?;
     bind_in_order(alloc, machine, world, outer, plan, forms)
@@ -189,7 +173,7 @@ pub fn start_let(
     ensures leads { (run : Run)
         → ((t : ℕ) → aside (meaning machine.old.room) machine.old.context (length machine.old.locals) bindings.now forms.now [] (at machine.old (seen world.now)) t ≡ run (at machine.old (seen world.now)) t)
         → Leads (inside machine.old run) (seen world.now) result machine.new }
-    ensures small { Grows 6 machine.old.levels result machine.new }
+    ensures small { Grows value_weight machine.old.levels result machine.new }
 {
     let plan = Plan::new(alloc, bindings.as_slice())?;
     let outer = machine.locals.len();
@@ -210,7 +194,7 @@ fn set_aside(
     ensures leads { (run : Run)
         → ((t : ℕ) → aside (meaning machine.old.room) machine.old.context outer plan forms.now locals (at machine.old (seen world.now)) t ≡ run (at machine.old (seen world.now)) t)
         → Leads (inside machine.old run) (seen world.now) result machine.new }
-    ensures small { Grows 6 machine.old.levels result machine.new }
+    ensures small { Grows value_weight machine.old.levels result machine.new }
 {
     let next = put_unset_aside(&mut locals, &mut plan)?;
     aside_next(alloc, machine, world, outer, locals, next, plan, forms)
@@ -231,7 +215,7 @@ fn aside_next(
     ensures leads { (run : Run)
         → ((t : ℕ) → aside (meaning machine.old.room) machine.old.context outer (with_next next plan) forms.now locals (at machine.old (seen world.now)) t ≡ run (at machine.old (seen world.now)) t)
         → Leads (inside machine.old run) (seen world.now) result machine.new }
-    ensures small { Grows 6 machine.old.levels result machine.new }
+    ensures small { Grows value_weight machine.old.levels result machine.new }
 {
     match next {
         None => bind_together(alloc, machine, world, outer, locals, forms),
@@ -258,7 +242,7 @@ fn bind_together(
     ensures leads { (run : Run)
         → ((t : ℕ) → together (meaning machine.old.room) machine.old.context outer locals forms.now (at machine.old (seen world.now)) t ≡ run (at machine.old (seen world.now)) t)
         → Leads (inside machine.old run) (seen world.now) result machine.new }
-    ensures small { Grows 6 machine.old.levels result machine.new }
+    ensures small { Grows value_weight machine.old.levels result machine.new }
 {
     if locals.any_global(world) {
         return Err(Stop::Refused(plain(alloc, ConditionKind::Unsupported)));
@@ -276,7 +260,7 @@ pub fn run_beside(
     ensures leads { (run : Run) (w : State)
         → ((t : ℕ) → within (meaning machine.old.room) machine.old.context outer forms.now (list nil) (bound_as (locals ++ machine.old.locals) w) t ≡ run (at machine.old w) t)
         → Leads (inside machine.old run) w result machine.new }
-    ensures small { Grows 6 machine.old.levels result machine.new }
+    ensures small { Grows value_weight machine.old.levels result machine.new }
 {
     machine.locals.append(locals)?;
     run_within(machine, outer, forms)
@@ -297,7 +281,7 @@ pub fn next_aside(
     ensures leads { (run : Run)
         → ((t : ℕ) → aside (meaning machine.old.room) machine.old.context outer plan forms.now ((name, held (value_of value)) ∷ locals) (at machine.old (seen world.now)) t ≡ run (at machine.old (seen world.now)) t)
         → Leads (inside machine.old run) (seen world.now) result machine.new }
-    ensures small { Grows 6 machine.old.levels result machine.new }
+    ensures small { Grows value_weight machine.old.levels result machine.new }
 {
     locals.push(name, value)?;
     set_aside(alloc, machine, world, outer, locals, plan, forms)
@@ -315,7 +299,7 @@ pub fn start_loop(
     ensures leads { (run : Run) (w : State)
         → ((t : ℕ) → dotimes (meaning machine.old.room) machine.old.context (length machine.old.locals) name.now has_result forms.now (at machine.old w) t ≡ run (at machine.old w) t)
         → Leads (inside machine.old run) w result machine.new }
-    ensures small { Grows 6 machine.old.levels result machine.new }
+    ensures small { Grows value_weight machine.old.levels result machine.new }
 {
     match split(forms)? {
         None => Err(Stop::Refused(plain(alloc, ConditionKind::ProgramError))),
@@ -343,7 +327,7 @@ pub fn repeat(
     ensures leads { (run : Run)
         → ((t : ℕ) → repeated (meaning machine.old.room) machine.old.context (loop_of repetition) (value_of value) (at machine.old (seen world.now)) t ≡ run (at machine.old (seen world.now)) t)
         → Leads (inside machine.old run) (seen world.now) result machine.new }
-    ensures small { Grows 8 machine.old.levels result machine.new }
+    ensures small { Grows turn_weight machine.old.levels result machine.new }
 {
     match &value {
         Value::Int(count) => {
@@ -396,7 +380,7 @@ pub fn continue_turn(
     ensures leads { (run : Run) (w : State)
         → ((t : ℕ) → then_do (sequence (meaning machine.old.room) machine.old.context forms.now (value_of value) (at machine.old w) t) (λ v. turns (meaning machine.old.room) machine.old.context (loop_of repetition) counter.0 counter.1) ≡ run (at machine.old w) t)
         → Leads (inside machine.old run) w result machine.new }
-    ensures small { Grows 8 machine.old.levels result machine.new }
+    ensures small { Grows turn_weight machine.old.levels result machine.new }
 {
     match split(forms)? {
         None => Ok(Doing::Turn(repetition, counter)),
@@ -412,7 +396,7 @@ fn run_turn(machine: &mut Machine, repetition: Repetition, counter: Counter) -> 
     ensures leads { (run : Run) (w : State)
         → ((t : ℕ) → then_do (sequence (meaning machine.old.room) machine.old.context (body_of repetition.has_result repetition.forms) (list nil) (at machine.old w) t) (λ v. turns (meaning machine.old.room) machine.old.context (loop_of repetition) counter.0 counter.1) ≡ run (at machine.old w) t)
         → Leads (inside machine.old run) w result machine.new }
-    ensures small { Grows 8 machine.old.levels result machine.new }
+    ensures small { Grows turn_weight machine.old.levels result machine.new }
 {
     let body = body_of(&repetition).copy()?;
     continue_turn(machine, repetition, counter, &body, nil())
@@ -428,7 +412,7 @@ fn begin_turn(
     ensures leads { (run : Run) (w : State)
         → ((t : ℕ) → then_do (sequence (meaning machine.old.room) machine.old.context (body_of repetition.has_result repetition.forms) (list nil) (counted (loop_of repetition) (pos counter.now.1) (at machine.old w)) t) (λ v. turns (meaning machine.old.room) machine.old.context (loop_of repetition) next.0 next.1) ≡ run (at machine.old w) t)
         → Leads (inside machine.old run) w result machine.new }
-    ensures small { Grows 8 machine.old.levels result machine.new }
+    ensures small { Grows turn_weight machine.old.levels result machine.new }
 {
     set_count(machine, &repetition, counter)?;
     run_turn(machine, repetition, next)
@@ -439,7 +423,7 @@ fn run_result(machine: &mut Machine, repetition: &Repetition) -> Result<Doing, S
     ensures leads { (run : Run) (w : State)
         → ((t : ℕ) → then_do (result_value (meaning machine.old.room) machine.old.context repetition.now.has_result repetition.now.forms (at machine.old w) t) (leaving repetition.now.outer) ≡ run (at machine.old w) t)
         → Leads (inside machine.old run) w result machine.new }
-    ensures small { Grows 6 machine.old.levels result machine.new }
+    ensures small { Grows value_weight machine.old.levels result machine.new }
 {
     if !repetition.has_result {
         machine.locals.leave(repetition.outer);
@@ -466,7 +450,7 @@ fn end_loop(
     ensures leads { (run : Run) (w : State)
         → ((t : ℕ) → then_do (result_value (meaning machine.old.room) machine.old.context repetition.now.has_result repetition.now.forms (counted (loop_of repetition.now) (pos counter.now.1) (at machine.old w)) t) (leaving repetition.now.outer) ≡ run (at machine.old w) t)
         → Leads (inside machine.old run) w result machine.new }
-    ensures small { Grows 6 machine.old.levels result machine.new }
+    ensures small { Grows value_weight machine.old.levels result machine.new }
 {
     set_count(machine, repetition, counter)?;
     run_result(machine, repetition)
@@ -482,7 +466,7 @@ pub fn turn(
     steps: &mut u64,
 ) -> Result<Doing, Stop>
     ensures turns { Turns (inside machine.old (turns (meaning machine.old.room) machine.old.context (loop_of repetition) counter.0 counter.1)) (seen world.now) steps.old result machine.new (seen world.now) steps.new }
-    ensures small { Shrinks 8 steps.old steps.new machine.old.levels result machine.new }
+    ensures small { Shrinks turn_weight steps.old steps.new machine.old.levels result machine.new }
     ensures fewer { steps.new ≤ steps.old }
 {
     match counter.next() {

@@ -3,7 +3,7 @@ ghost use Rattle.std.specs.Prelude.{◌≡◌, ℕ};
 ghost use Rattle.lisp_data.specs.ValueView.{value_of};
 ghost use Rattle.clos_machine.specs.clos_world.World.{State};
 ghost use Rattle.clos_machine.specs.clos_meaning.Control.{branch, keeping, clauses, clause, tested};
-ghost use Rattle.clos_machine.specs.Machine.{Leads, Grows, at, inside, followed, going};
+ghost use Rattle.clos_machine.specs.Machine.{Leads, Grows, at, inside, followed, going, value_weight};
 ghost use Rattle.clos_machine.specs.clos_meaning.Meaning.{meaning};
 ghost use Rattle.clos_machine.specs.clos_meaning.Outcome.{Run};
 
@@ -24,7 +24,7 @@ pub fn go_on(
     ensures leads { (run : Run) (w : State)
         → ((t : ℕ) → going (meaning machine.old.room) machine.old.context control forms.now (value_of value) (at machine.old w) t ≡ run (at machine.old w) t)
         → Leads (inside machine.old run) w result machine.new }
-    ensures small { Grows 6 machine.old.levels result machine.new }
+    ensures small { Grows value_weight machine.old.levels result machine.new }
 {
     match split(forms)? {
         None => Ok(done(machine, value)),
@@ -46,7 +46,7 @@ pub fn follow(
     ensures leads { (run : Run) (w : State)
         → ((t : ℕ) → followed (meaning machine.old.room) machine.old.context control rest.now (value_of value) (at machine.old w) t ≡ run (at machine.old w) t)
         → Leads (inside machine.old run) w result machine.new }
-    ensures small { Grows 6 machine.old.levels result machine.new }
+    ensures small { Grows value_weight machine.old.levels result machine.new }
 {
     match control {
         Control::Progn => go_on(machine, Control::Progn, rest, value),
@@ -85,7 +85,7 @@ fn branch(machine: &mut Machine, holds: bool, forms: &Forms) -> Result<Doing, St
     ensures leads { (run : Run) (w : State)
         → ((t : ℕ) → branch (meaning machine.old.room) machine.old.context holds forms.now (at machine.old w) t ≡ run (at machine.old w) t)
         → Leads (inside machine.old run) w result machine.new }
-    ensures small { Grows 6 machine.old.levels result machine.new }
+    ensures small { Grows value_weight machine.old.levels result machine.new }
 {
     match forms.split_first() {
         None => Ok(done(machine, nil())),
@@ -103,7 +103,7 @@ pub fn keep(machine: &mut Machine, forms: &Forms, value: Value) -> Result<Doing,
     ensures leads { (run : Run) (w : State)
         → ((t : ℕ) → keeping (meaning machine.old.room) machine.old.context forms.now (value_of value) (at machine.old w) t ≡ run (at machine.old w) t)
         → Leads (inside machine.old run) w result machine.new }
-    ensures small { Grows 6 machine.old.levels result machine.new }
+    ensures small { Grows value_weight machine.old.levels result machine.new }
 {
     match split(forms)? {
         None => Ok(done(machine, value)),
@@ -116,7 +116,7 @@ pub fn next_clause(machine: &mut Machine, forms: &Forms) -> Result<Doing, Stop>
     ensures leads { (run : Run) (w : State)
         → ((t : ℕ) → clauses (meaning machine.old.room) machine.old.context forms.now (at machine.old w) t ≡ run (at machine.old w) t)
         → Leads (inside machine.old run) w result machine.new }
-    ensures small { Grows 6 machine.old.levels result machine.new }
+    ensures small { Grows value_weight machine.old.levels result machine.new }
 {
     match forms.split_first() {
         None => Ok(done(machine, nil())),
@@ -129,7 +129,7 @@ fn test_clause(machine: &mut Machine, forms: &Forms, others: &Forms) -> Result<D
     ensures leads { (run : Run) (w : State)
         → ((t : ℕ) → clause (meaning machine.old.room) machine.old.context forms.now (clauses (meaning machine.old.room) machine.old.context others.now) (at machine.old w) t ≡ run (at machine.old w) t)
         → Leads (inside machine.old run) w result machine.new }
-    ensures small { Grows 6 machine.old.levels result machine.new }
+    ensures small { Grows value_weight machine.old.levels result machine.new }
 {
     match split(forms)? {
         None => Ok(done(machine, nil())),
@@ -151,7 +151,7 @@ pub fn clause_tested(
     ensures leads { (run : Run) (w : State)
         → ((t : ℕ) → tested (meaning machine.old.room) machine.old.context forms.now (clauses (meaning machine.old.room) machine.old.context others.now) (value_of value) (at machine.old w) t ≡ run (at machine.old w) t)
         → Leads (inside machine.old run) w result machine.new }
-    ensures small { Grows 6 machine.old.levels result machine.new }
+    ensures small { Grows value_weight machine.old.levels result machine.new }
 {
     if is_true(&value) {
         return go_on(machine, Control::Progn, forms, value);

@@ -1,8 +1,8 @@
-//! Forms one after another, conditionals, variables and assignment.
+//! Forms one after another, conditionals, the collecting of values, variables, names that stand for slots, and output.
 #![tactic(auto)]
 
 pub mod arguments;
-pub mod assignment;
 pub mod binding;
 pub mod control;
+pub mod output;
 pub mod slot_names;

@@ -1,48 +1,24 @@
 //! Names that stand for the slots of an object (HyperSpec 7.7 `with-slots`), and names in general.
-ghost use Rattle.std.specs.Prelude.{◌≡◌, ◌∷◌, [], ℕ, IfOk, map, None};
+ghost use Rattle.std.specs.Prelude.{◌≡◌, ℕ, map, None};
 ghost use Rattle.lisp_data.specs.ValueView.{value_of};
 ghost use Rattle.clos_forms.specs.BoundView.{bound_slot};
 ghost use Rattle.clos_forms.specs.Form.{operator_in};
-ghost use Rattle.clos_forms.specs.Quotation.{name_value};
 ghost use Rattle.clos_machine.specs.clos_world.World.{State, seen};
-ghost use Rattle.clos_machine.specs.Machine.{Grows, Leads, at, inside, slot_names};
+ghost use Rattle.clos_machine.specs.Machine.{Grows, Leads, at, inside, slot_names, act_weight, value_weight};
 ghost use Rattle.clos_machine.specs.clos_meaning.Meaning.{meaning};
 ghost use Rattle.clos_machine.specs.clos_meaning.Outcome.{Run};
 ghost use Rattle.clos_machine.specs.clos_meaning.SlotNames.{name_read, place_denoted, with_slots, within_slots};
 ghost use Rattle.clos_machine.specs.clos_meaning.Variables.{found_value};
 
-use crate::binding::{run_beside, value_of_variable};
-use clos_forms::{Form, Forms, Operator, SlotBinding, value_named};
-use clos_machine::locals::{Denotation, slots_of};
+use crate::binding::run_beside;
+use clos_forms::{Form, Forms, Operator, SlotBinding};
+use clos_machine::locals::slots_of;
 use clos_machine::machine::{Action, Doing, Frame, Machine, Target};
 use clos_machine::moves::{begin, split};
-use clos_machine::{ConditionKind, Stop, Values, World, about_name, plain};
+use clos_machine::names::{place_denoted, value_of_variable};
+use clos_machine::{ConditionKind, Stop, World, about_name, plain};
 use lisp_data::{Name, Value};
-use std::alloc::{AllocError, Global};
-
-/// The arguments of the place that a name stands for, the object and the slot's name, where it does not name a variable.
-pub fn place_denoted(
-    alloc: Global,
-    machine: &Machine,
-    name: &Name,
-) -> Result<Option<Values>, AllocError>
-    ensures { (w : State) → IfOk result (λ r. r ≡ place_denoted (at machine.now w) name.now) }
-{
-    match machine.locals.get(name) {
-        Some(Denotation::InSlot(slot, object)) => Ok(Some(slot_place(alloc, slot, object)?)),
-        Some(Denotation::Held(_)) => Ok(None),
-        None => Ok(None),
-    }
-}
-
-fn slot_place(alloc: Global, slot: &Name, object: &Value) -> Result<Values, AllocError>
-    ensures { IfOk result (λ r. r ≡ value_of object.now ∷ name_value slot.now ∷ []) }
-{
-    let mut place = Values::new(alloc);
-    place.push(object.copy()?)?;
-    place.push(value_named(slot)?)?;
-    Ok(place)
-}
+use std::alloc::Global;
 
 /// A name is read.
 pub fn read_name(
@@ -52,7 +28,7 @@ pub fn read_name(
     name: &Name,
 ) -> Result<Doing, Stop>
     ensures leads { Leads (inside machine.old (λ w. name_read (meaning machine.old.room) machine.old.context name.now (place_denoted w name.now) w)) (seen world.now) result machine.new }
-    ensures small { Grows 9 machine.old.levels result machine.new }
+    ensures small { Grows act_weight machine.old.levels result machine.new }
 {
     match value_of_variable(machine, world, name) {
         Some(value) => Ok(Doing::Give(value.copy()?)),
@@ -65,7 +41,7 @@ pub fn read_name(
 fn read_place(alloc: Global, machine: &mut Machine, name: &Name) -> Result<Doing, Stop>
     ensures leads { (w : State) → None ≡ found_value (at machine.old w) name.now
         → Leads (inside machine.old (λ w. name_read (meaning machine.old.room) machine.old.context name.now (place_denoted w name.now) w)) w result machine.new }
-    ensures small { Grows 9 machine.old.levels result machine.new }
+    ensures small { Grows act_weight machine.old.levels result machine.new }
 {
     match place_denoted(alloc, machine, name)? {
         Some(place) => Ok(Doing::Act(Action::Read(Target::SlotValue), place)),
@@ -87,7 +63,7 @@ pub fn start_slots(
     ensures leads { (run : Run) (w : State)
         → ((t : ℕ) → with_slots (meaning machine.old.room) machine.old.context (slot_names (operator_in form.now)) parts.now (at machine.old w) t ≡ run (at machine.old w) t)
         → Leads (inside machine.old run) w result machine.new }
-    ensures small { Grows 6 machine.old.levels result machine.new }
+    ensures small { Grows value_weight machine.old.levels result machine.new }
 {
     match split(parts)? {
         None => Err(Stop::Refused(plain(alloc, ConditionKind::ProgramError))),
@@ -119,7 +95,7 @@ pub fn bind_slots(
     ensures leads { (run : Run) (w : State)
         → ((t : ℕ) → within_slots (meaning machine.old.room) machine.old.context (slot_names (operator_in form.now)) body.now (value_of object.now) (at machine.old w) t ≡ run (at machine.old w) t)
         → Leads (inside machine.old run) w result machine.new }
-    ensures small { Grows 6 machine.old.levels result machine.new }
+    ensures small { Grows value_weight machine.old.levels result machine.new }
 {
     let outer = machine.locals.len();
     let locals = slots_of(alloc, slot_bindings(form), object)?;

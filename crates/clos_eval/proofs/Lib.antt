@@ -1,3 +1,1 @@
-pub mod Naming
-pub mod Shrinking
 pub mod Calling

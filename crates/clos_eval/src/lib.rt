@@ -1,7 +1,10 @@
-//! Output, and the machine that evaluates forms.
+//! The machine that evaluates forms: its turns, by what comes next, and the whole of a form.
 #![tactic(auto)]
 
+mod actions;
 pub mod eval;
-mod output;
+mod forms;
+mod frames;
+mod progress;
 
 pub use eval::evaluate;

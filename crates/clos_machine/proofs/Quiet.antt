@@ -11,7 +11,7 @@ use Rattle.clos_meaning.specs.Callee.{callee_of}
 use Rattle.clos_meaning.specs.Bodies.{parameters_run}
 use Rattle.clos_meaning.specs.GenericCalls.{invoked}
 use Rattle.clos_meaning.specs.Control.{sequence}
-use Rattle.clos_machine.specs.Machine.{access_of, acted, at, below, after, followed, resume, denote, loop_of, slot_names, slots_left, subject_of, targets}
+use Rattle.clos_machine.specs.Machine.{access_of, acted, at, below, after, doing_run, followed, resume, denote, loop_of, performed, slot_names, slots_left, subject_of, targets}
 use Rattle.clos_meaning.specs.Meaning.{collect, meaning, closed}
 use Rattle.clos_meaning.specs.Functions.{place_set}
 use Rattle.clos_meaning.specs.Outcome.{leaves, Out, then_do, is_true}
@@ -19,17 +19,31 @@ use Rattle.clos_meaning.specs.SlotNames.{place_denoted}
 use Rattle.clos_meaning.specs.Variables.{binding, in_order, turns}
 use Rattle.clos_meaning.specs.declared.arguments.Context.{Context}
 use Rattle.clos_machine.specs.declared.machine.Action.{Action}
-use Rattle.clos_machine.specs.declared.machine.Action.TheVariants.{Call, Set, Store, Change, NewValue, Amount, ChangePlace, Allocate, Fill, FillWith, Write, Read, CallNext}
+use Rattle.clos_machine.specs.declared.machine.Action.TheVariants.{Call, Set, Store, Change, NewValue, Amount, ChangePlace, Allocate, Initialize, Fill, FillWith, Read, CallNext}
+use Rattle.clos_machine.specs.declared.machine.BuiltIn.{BuiltIn}
+use Rattle.clos_machine.specs.declared.machine.BuiltIn.TheVariants.{Reader, Writer, System}
 use Rattle.clos_machine.specs.declared.machine.Control.{Control}
+use Rattle.clos_machine.specs.declared.machine.Doing.{Doing}
 use Rattle.clos_machine.specs.declared.machine.Control.TheVariants.{Progn, Prog1, If, When, Unless, And, Or}
-use Rattle.clos_machine.specs.declared.machine.Doing.TheVariants.{Start, Act, Invoke}
+use Rattle.clos_machine.specs.declared.machine.Doing.TheVariants.{Start, Act, Invoke, Perform, Give}
 use Rattle.clos_machine.specs.declared.machine.Doing.TheVariants as doing
 use Rattle.clos_machine.specs.declared.machine.Frame.{Frame}
 use Rattle.clos_machine.specs.declared.machine.Frame.TheVariants.{Rest, Keep, Clause, Collect, Body, Bind, Scope, InOrder, Aside, Count, Turn, Setq, Setf, Changed, Default, Filled, Truth, Slots}
 use Rattle.clos_machine.specs.declared.machine.Level.{Level}
 use Rattle.clos_machine.specs.declared.machine.Machine.{Machine}
 use Rattle.clos_machine.specs.declared.machine.Repetition.{Repetition}
-use Rattle.clos_meaning.proofs.Quiet.{Quiet, allocate_quiet, amount_quiet, and_quiet, applied_quiet, aside_quiet, binding_quiet, branch_quiet, change_place_quiet, changed_from_quiet, collect_quiet, default_given_quiet, fill_quiet, fill_with_quiet, follows_quiet, invoked_quiet, keeping_quiet, name_changed_quiet, name_set_quiet, next_given_quiet, or_quiet, order_quiet, parameters_quiet, read_quiet, repeated_quiet, restored_quiet, sequence_quiet, set_quiet, setf_quiet, setq_quiet, task_quiet, tested_quiet, then_quiet, turn_quiet, turns_quiet, where_false_quiet, where_true_quiet, within_quiet, within_slots_quiet, written_quiet}
+use Rattle.clos_meaning.proofs.Quiet.{Quiet, allocate_quiet, amount_quiet, and_quiet, applied_quiet, aside_quiet, binding_quiet, branch_quiet, change_place_quiet, changed_from_quiet, checked_quiet, choice_quiet, collect_quiet, defaulted_quiet, fill_quiet, follows_quiet, invoked_quiet, keeping_quiet, name_changed_quiet, name_set_quiet, next_given_quiet, or_quiet, order_quiet, parameters_quiet, read_quiet, reader_quiet, repeated_quiet, restored_quiet, sequence_quiet, set_quiet, setf_quiet, setq_quiet, system_quiet, task_quiet, tested_quiet, then_quiet, turn_quiet, turns_quiet, where_false_quiet, where_true_quiet, within_quiet, within_slots_quiet, written_quiet}
+
+-- ---- points of return
+
+fill_with_quiet : (n : ℕ) (env : Context) (f : Subject) (slots : List EffectiveSlot) (v : Val) (w : State) → Quiet (fill_with (meaning n) env f slots v w 0) w
+fill_with_quiet n env f [] v w = (refl, refl)
+fill_with_quiet n env f (slot ∷ slots) v w = choice_quiet (is_the_class f.class (class_of_instance w f.instance)) _ _ w (refl, refl) (refl, refl)
+
+default_given_quiet : (n : ℕ) (env : Context) (c : ℕ) (e : Effective) (ds : List DefaultInitarg) (vs : List Val) (v : Val) (w : State)
+    → Quiet (default_given (meaning n) env c e ds vs v w 0) w
+default_given_quiet n env c e [] vs v w = (refl, refl)
+default_given_quiet n env c e (d ∷ ds) vs v w = defaulted_quiet n env c e ds (vs ++ name_value d.name ∷ v ∷ []) w
 
 -- ---- actions
 
@@ -43,9 +57,9 @@ acted_quiet n env (NewValue t f) vs w =
 acted_quiet n env (Amount p t fs) vs w = amount_quiet n env p (access_of t) fs vs w
 acted_quiet n env (ChangePlace p t) vs w = change_place_quiet n env p (access_of t) (last_first vs) w
 acted_quiet n env (Allocate c e) vs w = allocate_quiet n env c.0 e vs w
+acted_quiet n env (Initialize c e i) vs w = checked_quiet n c.0 e vs i.0 w
 acted_quiet n env (Fill f) vs w = fill_quiet n env (subject_of f) (slots_left f) w
 acted_quiet n env (FillWith f v) vs w = fill_with_quiet n env (subject_of f) (slots_left f) (value_of v) w
-acted_quiet n env (Write slot) vs w = written_quiet n env slot vs w
 acted_quiet n env (Read t) vs w = read_quiet n env (access_of t) vs w
 acted_quiet n env CallNext vs w = next_given_quiet n env env.running vs w
 
@@ -95,28 +109,21 @@ resume_quiet : (ls : List Level) (env : Context) (o : Out) (w : State) → Quiet
 resume_quiet [] env o w h = h
 resume_quiet (l ∷ ls) env o w h = resume_quiet ls (below env l.frame) (then_do o (after (meaning l.room) env l.frame)) w (passed_quiet l.room env l.frame o w h)
 
-pub act_quiet : (m : Machine) (action : Action) (vs : List Val) (w : State) → leaves (denote m (Act action vs) w 0) (unbound w) 0
-act_quiet m action vs w =
-    resume_quiet m.levels m.context (acted (meaning m.room) m.context action vs (at m w) 0) (at m w) (acted_quiet m.room m.context action vs (at m w))
+-- ---- what comes next
 
-pub invoke_quiet : (m : Machine) (f : SystemFunction) (vs : List Val) (w : State) → leaves (denote m (Invoke f vs) w 0) (unbound w) 0
-invoke_quiet m f vs w = resume_quiet m.levels m.context (invoked (meaning m.room) f vs (at m w) 0) (at m w) (invoked_quiet m.room f vs (at m w))
+performed_quiet : (n : ℕ) (env : Context) (b : BuiltIn) (vs : List Val) (w : State) → Quiet (performed (meaning n) env b vs w 0) w
+performed_quiet n env (Reader slot) vs w = reader_quiet n env slot vs w
+performed_quiet n env (Writer slot) vs w = written_quiet n env slot vs w
+performed_quiet n env (System f) vs w = system_quiet n f vs w
 
-pub collecting_quiet : (m : Machine) (action : Action) (fs : Frms) (vs : List Val) (w : State) → leaves (denote m (doing.Collect action fs vs) w 0) (unbound w) 0
-collecting_quiet m action fs vs w =
-    resume_quiet m.levels m.context (collect (meaning m.room) m.context fs vs (acted (meaning m.room) m.context action) (at m w) 0) (at m w)
-    (collect_acted_quiet m.room m.context fs vs action (at m w))
+run_quiet : (n : ℕ) (env : Context) (d : Doing) (w : State) → Quiet (doing_run n env d w 0) w
+run_quiet n env (Start f) w = task_quiet n env f w
+run_quiet n env (doing.Collect action fs vs) w = collect_acted_quiet n env fs vs action w
+run_quiet n env (Act action vs) w = acted_quiet n env action vs w
+run_quiet n env (Invoke f vs) w = invoked_quiet n f vs w
+run_quiet n env (Perform b vs) w = performed_quiet n env b vs w
+run_quiet n env (doing.Turn l counter) w = turns_quiet n env (loop_of l) counter.0 counter.1 w
+run_quiet n env (Give v) w = (refl, refl)
 
-pub loop_quiet : (m : Machine) (l : Repetition) (counter : ℕ × ℕ) (w : State) → leaves (denote m (doing.Turn l counter) w 0) (unbound w) 0
-loop_quiet m l counter w =
-    resume_quiet m.levels m.context (turns (meaning m.room) m.context (loop_of l) counter.0 counter.1 (at m w) 0) (at m w)
-    (turns_quiet m.room m.context (loop_of l) counter.0 counter.1 (at m w))
-
--- where the machine starts a f, or gives a value
-pub start_quiet : (m : Machine) (f : Frm) (w : State) → leaves (denote m (Start f) w 0) (unbound w) 0
-start_quiet m f w =
-    resume_quiet m.levels m.context (meaning m.room m.context f (at m w) 0) (at m w) (task_quiet m.room m.context f (at m w))
-
-pub frame_quiet : (ls : List Level) (n : ℕ) (env below_it : Context) (f : Frame) (v : Val) (w : State)
-    → leaves (closed (resume ls below_it (after (meaning n) env f v w 0))) (unbound w) 0
-frame_quiet ls n env below_it f v w = resume_quiet ls below_it (after (meaning n) env f v w 0) w (after_quiet n env f v w)
+pub doing_quiet : (m : Machine) (d : Doing) (w : State) → leaves (denote m d w 0) (unbound w) 0
+doing_quiet m d w = resume_quiet m.levels m.context (doing_run m.room m.context d (at m w) 0) (at m w) (run_quiet m.room m.context d (at m w))

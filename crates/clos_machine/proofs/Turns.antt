@@ -65,30 +65,14 @@ no_method m ev env None c w t e k = stopped_through m.levels m.context (record {
 no_method m ev env (Some x) c w t e k = cc
 
 -- what adds little adds no more than something larger
-pub grows_5_6 : (old : List Level) (r : Result Doing Stop) (m : Machine) → Grows 5 old r m → Grows 6 old r m
-grows_5_6 old (Ok d) m h = omega (arith, h)
-grows_5_6 old (Err e) m h = tt
-
-pub grows_5_9 : (old : List Level) (r : Result Doing Stop) (m : Machine) → Grows 5 old r m → Grows 9 old r m
-grows_5_9 old (Ok d) m h = omega (arith, h)
-grows_5_9 old (Err e) m h = tt
-
-pub grows_6_16 : (old : List Level) (r : Result Doing Stop) (m : Machine) → Grows 6 old r m → Grows 16 old r m
-grows_6_16 old (Ok d) m h = omega (arith, h)
-grows_6_16 old (Err e) m h = tt
-
-pub grows_9_16 : (old : List Level) (r : Result Doing Stop) (m : Machine) → Grows 9 old r m → Grows 16 old r m
-grows_9_16 old (Ok d) m h = omega (arith, h)
-grows_9_16 old (Err e) m h = tt
-
-pub grows_6_7 : (old : List Level) (r : Result Doing Stop) (m : Machine) → Grows 6 old r m → Grows 7 old r m
-grows_6_7 old (Ok d) m h = omega (arith, h)
-grows_6_7 old (Err e) m h = tt
+pub grows_more : (n k : ℕ) (old : List Level) (r : Result Doing Stop) (m : Machine) → n ≤ k → Grows n old r m → Grows k old r m
+grows_more n k old (Ok d) m l h = omega (arith, l, h)
+grows_more n k old (Err e) m l h = tt
 
 -- what adds less than what comes next makes a turn, whether it takes steps or not
-pub shrinks_of : (n k s s' : ℕ) (old : List Level) (r : Result Doing Stop) (m : Machine) → n < k → s' ≤ s → Grows n old r m → Shrinks k s s' old r m
-shrinks_of n k s s' old (Ok d) m l h g = omega (arith, l, h, g)
-shrinks_of n k s s' old (Err e) m l h g = tt
+pub shrinks_by : (n k s s' : ℕ) (old : List Level) (r : Result Doing Stop) (m : Machine) → n < k → s' ≤ s → Grows n old r m → Shrinks k s s' old r m
+shrinks_by n k s s' old (Ok d) m l h g = omega (arith, l, h, g)
+shrinks_by n k s s' old (Err e) m l h g = tt
 
 -- how forms go on, in the words of the machine
 pub going_progn : (ev : Eval) (env : Context) (fs : Frms) (v : Val) (w : State) (t : ℕ) → going ev env Progn fs v w t ≡ sequence ev env fs v w t

@@ -1,7 +1,7 @@
 -- What a state of the machine stands for: the rest of the definition.
 use Rattle.std.specs.Prelude.{◌≡◌, ℕ, suc, ◌+◌, ◌*◌, ◌≤◌, ◌<◌, List, [], ◌∷◌, ◌++◌, Result, Ok, Err, Option, Some, None, drop, slice_get, true, if◌then◌else◌}
 use Rattle.lisp_data.specs.Name.{Nam}
-use Rattle.lisp_data.specs.Value.{Val, list, nil}
+use Rattle.lisp_data.specs.Value.{Val, instance, list, nil}
 use Rattle.lisp_data.specs.ValueView.{value_of}
 use Rattle.std.specs.Option.{option_map_or}
 use Rattle.lisp_data.specs.declared.ids.ClassId.{ClassId}
@@ -9,36 +9,43 @@ use Rattle.lisp_data.specs.declared.ids.InstanceId.{InstanceId}
 use Rattle.lisp_data.specs.declared.value.Value.{Value}
 use Rattle.lisp_prims.specs.Primitive.{truth}
 use Rattle.clos_forms.specs.Form.{Frm, Frms, operator_in}
+use Rattle.clos_forms.specs.Form as form
 use Rattle.clos_forms.specs.Operator as of
 use Rattle.clos_forms.specs.Operator.{Opr, Bound, BoundSlot}
+use Rattle.clos_forms.specs.Quotation.{name_value}
 use Rattle.clos_meaning.specs.clos_world.Globals.{Variables, is_global}
 use Rattle.clos_meaning.specs.clos_world.Values.{last_first}
+use Rattle.clos_meaning.specs.clos_world.clos_class.Slots.{Effective}
+use Rattle.clos_meaning.specs.clos_world.clos_class.clos_syntax.declared.class.DefaultInitarg.{DefaultInitarg}
 use Rattle.clos_meaning.specs.clos_world.clos_class.declared.effective_slots.EffectiveSlot.{EffectiveSlot}
 use Rattle.clos_meaning.specs.clos_world.World.{State, held, Local, bound_as, unbound}
 use Rattle.clos_meaning.specs.clos_world.declared.condition.Condition.{Condition}
-use Rattle.clos_meaning.specs.clos_world.declared.condition.ConditionKind.TheVariants.{Unsupported}
+use Rattle.clos_meaning.specs.clos_world.declared.condition.ConditionKind.TheVariants.{ProgramError, Unsupported}
 use Rattle.clos_meaning.specs.clos_world.declared.condition.Stop.{Stop}
 use Rattle.clos_meaning.specs.clos_world.declared.condition.Stop.TheVariants.{Refused, Storage}
-use Rattle.clos_meaning.specs.Accessors.{written_by}
+use Rattle.clos_meaning.specs.Accessors.{read_by, written_by}
 use Rattle.clos_meaning.specs.Bodies.{restoring, parameters_run}
 use Rattle.clos_meaning.specs.Control.{and_then, branch_by, clauses, first_then, keeping, or_then, sequence, tested, where_false, where_true}
-use Rattle.clos_meaning.specs.Filling.{Subject, fill, fill_with}
+use Rattle.clos_meaning.specs.Filling.{Subject, fill, filled_with}
 use Rattle.clos_meaning.specs.GenericCalls.{invoked}
-use Rattle.clos_meaning.specs.Initialization.{allocate, default_given}
+use Rattle.clos_meaning.specs.Initialization.{allocate, checked, defaulted}
 use Rattle.clos_meaning.specs.Functions.{Access, call_access, called, place_read, place_set, slot_access}
 use Rattle.clos_meaning.specs.Meaning.{changed_from, changed_place, collect, setq, setf, meaning, closed, name_changed_by, place_changed_by, place_set_to}
 use Rattle.clos_meaning.specs.NextMethods.{next_with}
-use Rattle.clos_meaning.specs.Outcome.{Out, Gave, Stopped, Run, Eval, then_do, step_then, gave, is_true, leaves}
+use Rattle.clos_meaning.specs.Outcome.{Out, Gave, Stopped, Run, Eval, then_do, step_then, gave, is_true, leaves, stopped}
 use Rattle.clos_meaning.specs.Parameters.{Sources, argument, refused, init}
 use Rattle.clos_meaning.specs.SlotNames.{name_stored, within_slots}
+use Rattle.clos_meaning.specs.SystemMethods.{system_method_run}
 use Rattle.clos_meaning.specs.Variables.{Loop, found_value, in_order, binding, within, aside, repeated, turns}
 use Rattle.clos_meaning.specs.declared.arguments.Context.{Context}
 use Rattle.clos_machine.specs.declared.machine.Action.{Action}
-use Rattle.clos_machine.specs.declared.machine.Action.TheVariants.{Call, Set, Store, Change, NewValue, Amount, ChangePlace, Allocate, Fill, FillWith, Write, Read, CallNext}
+use Rattle.clos_machine.specs.declared.machine.Action.TheVariants.{Call, Set, Store, Change, NewValue, Amount, ChangePlace, Allocate, Initialize, Fill, FillWith, Read, CallNext}
+use Rattle.clos_machine.specs.declared.machine.BuiltIn.{BuiltIn}
+use Rattle.clos_machine.specs.declared.machine.BuiltIn.TheVariants.{Reader, Writer, System}
 use Rattle.clos_machine.specs.declared.machine.Control.{Control}
 use Rattle.clos_machine.specs.declared.machine.Control.TheVariants.{Progn, Prog1, If, When, Unless, And, Or}
 use Rattle.clos_machine.specs.declared.machine.Doing.{Doing}
-use Rattle.clos_machine.specs.declared.machine.Doing.TheVariants.{Start, Act, Invoke, Give}
+use Rattle.clos_machine.specs.declared.machine.Doing.TheVariants.{Start, Act, Invoke, Perform, Give}
 use Rattle.clos_machine.specs.declared.machine.Doing.TheVariants as doing
 use Rattle.clos_machine.specs.declared.machine.Filling.{Filling}
 use Rattle.clos_machine.specs.declared.machine.Frame.{Frame}
@@ -70,6 +77,16 @@ subject_of f = record { instance = f.instance.0; class = f.class.0; names = name
 abbrev pub slots_left : Filling → List EffectiveSlot
 slots_left f = drop f.place f.effective.slots
 
+-- the slots that come next, where the value of the first one's initform is there
+abbrev pub fill_with : Eval → Context → Subject → List EffectiveSlot → Val → Run
+fill_with ev env f [] v w s = Gave (instance f.instance) w s
+fill_with ev env f (slot ∷ slots) v w s = filled_with f slot (λ u k. fill ev env f slots u k) v w s
+
+-- the default initargs that come next, where the value of the first one is there
+abbrev pub default_given : Eval → Context → ℕ → Effective → List DefaultInitarg → List Val → Val → Run
+default_given ev env c e [] vs v w s = stopped ProgramError [] w s
+default_given ev env c e (d ∷ ds) vs v w s = defaulted ev env c e ds (vs ++ name_value d.name ∷ v ∷ []) w s
+
 -- what is done with the values
 abbrev pub acted : Eval → Context → Action → List Val → Run
 acted ev env (Call name) = called ev env name
@@ -80,11 +97,17 @@ acted ev env (NewValue t f) = place_set_to ev env (access_of t) f
 acted ev env (Amount p t fs) = place_changed_by ev env p (access_of t) fs
 acted ev env (ChangePlace p t) = λ vs. changed_place ev env p (access_of t) (last_first vs)
 acted ev env (Allocate c e) = allocate ev env c.0 e
+acted ev env (Initialize c e i) = λ vs. checked ev c.0 e vs i.0
 acted ev env (Fill f) = λ vs. fill ev env (subject_of f) (slots_left f)
 acted ev env (FillWith f v) = λ vs. fill_with ev env (subject_of f) (slots_left f) (value_of v)
-acted ev env (Write slot) = written_by ev env slot
 acted ev env (Read t) = place_read ev env (access_of t)
 acted ev env CallNext = next_with ev env
+
+-- what a method without forms does with the arguments of its call
+abbrev pub performed : Eval → Context → BuiltIn → List Val → Run
+performed ev env (Reader slot) = read_by ev env slot
+performed ev env (Writer slot) = written_by ev env slot
+performed ev env (System f) = system_method_run ev f
 
 -- these forms, and then what is done with their values
 abbrev pub collected : Eval → Context → Frms → Action → Run
@@ -178,6 +201,7 @@ doing_run room env (Start f) w s = meaning room env f w s
 doing_run room env (doing.Collect action forms values) w s = collect (meaning room) env forms values (acted (meaning room) env action) w s
 doing_run room env (Act action values) w s = acted (meaning room) env action values w s
 doing_run room env (Invoke f values) w s = invoked (meaning room) f values w s
+doing_run room env (Perform b arguments) w s = performed (meaning room) env b arguments w s
 doing_run room env (doing.Turn l counter) w s = turns (meaning room) env (loop_of l) counter.0 counter.1 w s
 doing_run room env (Give value) w s = Gave (value_of value) w s
 
@@ -192,6 +216,15 @@ denote m d w s = closed (resume m.levels m.context (doing_run m.room m.context d
 -- how it ends where a form has begun, or its level was taken off, and `run` is left to do
 abbrev pub inside : Machine → Run → Run
 inside m run w s = closed (resume m.levels m.context (run (at m w) s))
+
+-- the machine in this context and with no variables, where its own come back after what comes next
+abbrev pub apart : Machine → Context → Machine
+apart m env = record {
+  levels = (record { frame = Body form.nil m.context m.locals; room = m.room }) ∷ m.levels;
+  context = env;
+  locals = [];
+  room = m.room;
+}
 
 -- A control handler changes the machine alone.
 abbrev pub Leads : Run → State → Result Doing Stop → Machine → Type 0
@@ -222,57 +255,118 @@ abbrev pub Takes : Run → State → ℕ → Result Value Stop → State → ℕ
 Takes run w s (Ok v) w' s' = (k : ℕ) × (s ≡ k + s') × ((t : ℕ) → run w (k + t) ≡ Gave (value_of v) w' t)
 Takes run w s (Err e) w' s' = Unit {0}
 
--- What an action weighs more than others, since some may follow it with no step between.
+-- ---- What is left to do has a weight, and each turn makes it less
+
+-- a value to be given
+abbrev pub value_weight : ℕ
+value_weight = 6
+
+-- what a value leads to adds less, beside the weight of the frame that waits for it
+abbrev pub follow_growth : ℕ
+follow_growth = 5
+
+-- a frame after whose value another form begins, or a value is given
+abbrev pub waiting_weight : ℕ
+waiting_weight = 2
+
+-- a place that is read before it is changed
+abbrev pub changed_weight : ℕ
+changed_weight = 6
+
+-- the call of a generic function of the system's
+abbrev pub invoke_weight : ℕ
+invoke_weight = 3
+
+-- what a call of a generic function adds at most
+abbrev pub call_growth : ℕ
+call_growth = 2
+
+-- the next turn of a loop
+abbrev pub turn_weight : ℕ
+turn_weight = 8
+
+-- an action that no other action follows without a step between
+abbrev pub act_weight : ℕ
+act_weight = 8
+
+-- what a method without forms adds at most: an action, and the frame of its variables
+abbrev pub built_in_growth : ℕ
+built_in_growth = 9
+
+-- a method without forms, which weighs more than that; so what runs a method adds at most as much
+abbrev pub perform_weight : ℕ
+perform_weight = 10
+
+-- What an action weighs more than others, since some may follow it with no step between: another action that sets, reads or
+-- changes the place that a name stands for, or a method without forms.
 abbrev pub lift : Action → ℕ
 lift (Call name) = 0
 lift (Set t) = 0
-lift (Store name) = 0
-lift (Change p name) = 5
+lift (Store name) = 1
+lift (Change p name) = 8
 lift (NewValue t f) = 0
-lift (Amount p t fs) = 7
-lift (ChangePlace p t) = 5
+lift (Amount p t fs) = 9
+lift (ChangePlace p t) = 7
 lift (Allocate c e) = 0
+lift (Initialize c e i) = 0
 lift (Fill f) = 0
 lift (FillWith f v) = 0
-lift (Write slot) = 0
 lift (Read t) = 0
-lift CallNext = 4
+lift CallNext = 3
 
--- What is left to do, which each turn makes smaller: a frame that may lead to an action weighs more, an action yet more.
+abbrev pub action_weight : Action → ℕ
+action_weight a = act_weight + lift a
+
+-- an action whose values are collected first
+abbrev pub collect_weight : Action → ℕ
+collect_weight a = 1 + action_weight a
+
+-- what a form adds at most as it begins, with the heaviest of actions
+abbrev pub form_growth : ℕ
+form_growth = 18
+
+-- a step, which weighs more than that
+abbrev pub step_weight : ℕ
+step_weight = 20
+
+-- a frame, by what may follow the value that it waits for
 abbrev pub weight_of : Frame → ℕ
-weight_of (Rest c fs) = 2
-weight_of (Keep fs v) = 2
-weight_of (Clause fs cs) = 2
+weight_of (Rest c fs) = waiting_weight
+weight_of (Keep fs v) = waiting_weight
+weight_of (Clause fs cs) = waiting_weight
 weight_of (Collect action rest values) = 4 + lift action
 weight_of (Body rest saved locals) = 1
-weight_of (Bind name plan body saved locals) = 2
-weight_of (Scope outer rest) = 2
-weight_of (InOrder outer name plan forms) = 2
-weight_of (Aside outer locals name plan forms) = 2
+weight_of (Bind name plan body saved locals) = waiting_weight
+weight_of (Scope outer rest) = waiting_weight
+weight_of (InOrder outer name plan forms) = waiting_weight
+weight_of (Aside outer locals name plan forms) = waiting_weight
 weight_of (Count l) = 4
 weight_of (Turn l counter rest) = 4
-weight_of (Setq f place rest) = 2
-weight_of (Setf rest) = 2
-weight_of (Changed p t vs amount) = 6
+weight_of (Setq f place rest) = waiting_weight
+weight_of (Setf rest) = waiting_weight
+weight_of (Changed p t vs amount) = changed_weight
 weight_of (Default c e place vs) = 5
 weight_of (Filled f) = 4
-weight_of Truth = 2
-weight_of (Slots f rest) = 2
+weight_of Truth = waiting_weight
+weight_of (Slots f rest) = waiting_weight
 
+-- all frames
 abbrev pub load : List Level → ℕ
 load [] = 0
 load (l ∷ ls) = weight_of l.frame + load ls
 
+-- what comes next
 abbrev pub given : Doing → ℕ
 given (Start f) = 0
-given (doing.Collect action forms values) = 9 + lift action
-given (Act action values) = 8 + lift action
-given (Invoke f values) = 3
-given (doing.Turn l counter) = 8
-given (Give value) = 6
+given (doing.Collect action forms values) = collect_weight action
+given (Act action values) = action_weight action
+given (Invoke f values) = invoke_weight
+given (Perform b arguments) = perform_weight
+given (doing.Turn l counter) = turn_weight
+given (Give value) = value_weight
 
 abbrev pub weight : ℕ → Machine → Doing → ℕ
-weight steps m d = 18 * steps + (load m.levels + given d)
+weight steps m d = step_weight * steps + (load m.levels + given d)
 
 -- A handler adds no more than this to what is left to do.
 abbrev pub Grows : ℕ → List Level → Result Doing Stop → Machine → Type 0
@@ -281,7 +375,7 @@ Grows n old (Err e) m = Unit {0}
 
 -- A turn makes less what is left to do, of which so much is what comes next, whether it takes a step or not.
 abbrev pub Shrinks : ℕ → ℕ → ℕ → List Level → Result Doing Stop → Machine → Type 0
-Shrinks n s s' old (Ok d) m = 18 * s' + (load m.levels + given d) < 18 * s + (load old + n)
+Shrinks n s s' old (Ok d) m = step_weight * s' + (load m.levels + given d) < step_weight * s + (load old + n)
 Shrinks n s s' old (Err e) m = Unit {0}
 
 -- the class that a value designates, or why there is none

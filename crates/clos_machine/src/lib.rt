@@ -7,6 +7,7 @@ pub mod finalized;
 pub mod locals;
 pub mod machine;
 pub mod moves;
+pub mod names;
 pub mod parameters;
 pub mod truth;
 

@@ -52,16 +52,27 @@ pub enum Action {
     ChangePlace(Primitive, Target),
     /// They are the initargs with which an instance of this class is made, which has these slots.
     Allocate(ClassId, Finalized),
+    /// They are the initargs with which this instance of this class, which has these slots and was just made, is initialized.
+    Initialize(ClassId, Finalized, InstanceId),
     /// The next slot is filled.
     Fill(Filling),
     /// The next slot is filled with this value, that of its initform.
     FillWith(Filling, Value),
-    /// They are a new value and an instance, whose slot of this name gets it.
-    Write(Name),
     /// They are the arguments of a place, which is read.
     Read(Target),
     /// The next method is called with them.
     CallNext,
+}
+
+/// What a method does that has no forms.
+#[derive(Drop)]
+pub enum BuiltIn {
+    /// The slot of this name is read, of the instance that is the argument.
+    Reader(Name),
+    /// The slot of this name gets the first argument, of the instance that is the second.
+    Writer(Name),
+    /// What the system's method of this function does.
+    System(SystemFunction),
 }
 
 /// A loop of `dotimes`: how many variables are outside it, its own, whether it has a result form, and that form, where
@@ -84,6 +95,8 @@ pub enum Doing {
     Act(Action, Values),
     /// This generic function of the system is called with these arguments.
     Invoke(SystemFunction, Values),
+    /// A method without forms runs on these arguments.
+    Perform(BuiltIn, Arguments),
     /// The next turn of a loop, or its end.
     Turn(Repetition, Counter),
     /// The value goes to the top level.

@@ -5,16 +5,17 @@ ghost use Rattle.clos_forms.specs.Form.{cons, nil};
 ghost use Rattle.clos_meaning.specs.clos_world.World.{State};
 ghost use Rattle.clos_meaning.specs.clos_world.declared.condition.Stop.TheVariants.{Storage};
 ghost use Rattle.clos_meaning.specs.GenericCalls.{invoked};
-ghost use Rattle.clos_machine.specs.Machine.{Leads, Grows, at, inside, below, after, given, lift, weight_of, acted};
+ghost use Rattle.clos_machine.specs.Machine.{apart, Leads, Grows, at, inside, below, after, weight_of, acted, action_weight, collect_weight, invoke_weight, value_weight};
 ghost use Rattle.clos_meaning.specs.Meaning.{collect, meaning};
 ghost use Rattle.clos_meaning.specs.Outcome.{Run, Gave, then_do};
-ghost use Rattle.clos_machine.specs.declared.machine.Doing.TheVariants.{Act};
 
+use crate::locals::Locals;
 use crate::machine::{Action, Doing, Frame, Level, Levels, Machine};
 use clos_forms::{Form, Forms};
-use clos_meaning::{Stop, SystemFunction, Values};
+use clos_meaning::{Context, Stop, SystemFunction, Values};
 use lisp_data::Value;
-use std::alloc::AllocError;
+use std::alloc::{AllocError, Global};
+use std::mem;
 
 /// An action is not done, since memory was refused. A function of its own: each way out that drops an action is proved
 /// variant by variant.
@@ -37,6 +38,17 @@ pub fn split(forms: &Forms) -> Result<Option<(Form, Forms)>, AllocError>
             Ok(Some((first, others.copy()?)))
         }
     }
+}
+
+/// What comes next is done in this context and with no variables; the machine's come back after it.
+pub fn set_apart(alloc: Global, machine: &mut Machine, context: Context) -> Result<(), AllocError>
+    ensures { IfOk result (λ u. machine.new ≡ apart machine.old context) }
+{
+    let saved = mem::replace(&mut machine.context, context);
+    let outer = mem::replace(&mut machine.locals, Locals::new(alloc));
+    let frame = Frame::Body(Forms::new(), saved, outer);
+    let room = machine.room;
+    machine.levels.push(Level { frame, room })
 }
 
 /// Evaluates this next, and then does what the frame does with its value.
@@ -92,7 +104,7 @@ pub fn act_under(
     ensures leads { (run : Run) (w : State) → below machine.old.context frame ≡ machine.old.context
         → ((t : ℕ) → then_do (acted (meaning machine.old.room) machine.old.context action values (at machine.old w) t) (after (meaning machine.old.room) machine.old.context frame) ≡ run (at machine.old w) t)
         → Leads (inside machine.old run) w result machine.new }
-    ensures small { Grows (weight_of frame + given (Act action values)) machine.old.levels result machine.new }
+    ensures small { Grows (weight_of frame + action_weight action) machine.old.levels result machine.new }
 {
     let room = machine.room;
     let Ok(()) = machine.levels.push(Level { frame, room }) else {
@@ -111,7 +123,7 @@ pub fn invoke_under(
     ensures leads { (run : Run) (w : State) → below machine.old.context frame ≡ machine.old.context
         → ((t : ℕ) → then_do (invoked (meaning machine.old.room) function arguments (at machine.old w) t) (after (meaning machine.old.room) machine.old.context frame) ≡ run (at machine.old w) t)
         → Leads (inside machine.old run) w result machine.new }
-    ensures small { Grows (weight_of frame + 3) machine.old.levels result machine.new }
+    ensures small { Grows (weight_of frame + invoke_weight) machine.old.levels result machine.new }
 {
     let room = machine.room;
     machine.levels.push(Level { frame, room })?;
@@ -122,7 +134,7 @@ pub fn invoke_under(
 pub fn done(machine: &Machine, value: Value) -> Doing
     ensures leads { (run : Run) (w : State) → ((t : ℕ) → run (at machine.now w) t ≡ Gave (value_of value) (at machine.now w) t)
         → Leads (inside machine.now run) w (Ok result) machine.now }
-    ensures small { Grows 6 machine.now.levels (Ok result) machine.now }
+    ensures small { Grows value_weight machine.now.levels (Ok result) machine.now }
 {
     let _ = machine;
     Doing::Give(value)
@@ -132,7 +144,7 @@ pub fn done(machine: &Machine, value: Value) -> Doing
 pub fn turn_to(machine: &Machine, next: Form) -> Doing
     ensures leads { (run : Run) (w : State) → ((t : ℕ) → meaning machine.now.room machine.now.context next (at machine.now w) t ≡ run (at machine.now w) t)
         → Leads (inside machine.now run) w (Ok result) machine.now }
-    ensures small { Grows 6 machine.now.levels (Ok result) machine.now }
+    ensures small { Grows value_weight machine.now.levels (Ok result) machine.now }
 {
     let _ = machine;
     Doing::Start(next)
@@ -148,7 +160,7 @@ pub fn collect_next(
     ensures leads { (run : Run) (w : State)
         → ((t : ℕ) → collect (meaning machine.old.room) machine.old.context forms.now values (acted (meaning machine.old.room) machine.old.context action) (at machine.old w) t ≡ run (at machine.old w) t)
         → Leads (inside machine.old run) w result machine.new }
-    ensures small { Grows (9 + lift action) machine.old.levels result machine.new }
+    ensures small { Grows (collect_weight action) machine.old.levels result machine.new }
 {
     let _ = machine;
     let Ok(forms) = forms.copy() else {

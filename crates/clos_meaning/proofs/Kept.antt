@@ -54,7 +54,7 @@ use Rattle.clos_meaning.specs.Control.{keeping, sequence, while_true, until_true
 use Rattle.clos_meaning.specs.Fault.{answered}
 use Rattle.clos_meaning.specs.Meaning.{collect, alone, setq, setf, assigned, place_in, next_method, with_amount, set_place, changed_from, changed_place, changing, changed_by, other_function, is_plain_function, symbol_function, setter_function, function_value, operated, body, meaning, closed, evaluation, name_changed, name_changed_by, place_set_to, place_changed_by}
 use Rattle.clos_meaning.specs.Objects.{designated}
-use Rattle.clos_meaning.specs.Filling.{are_slot_names, Filler, nothing, initform, filler, filled, filled_with, filled_by, fill, fill_with, is_the_class, Subject}
+use Rattle.clos_meaning.specs.Filling.{are_slot_names, Filler, nothing, initform, filler, filled, filled_with, filled_by, fill, is_the_class, Subject}
 use Rattle.clos_meaning.specs.Filling as filler
 use Rattle.clos_meaning.specs.Functions.{Access, applied, call_access, called, place_read, place_set, slot_access}
 use Rattle.clos_meaning.specs.Initialization.{allocate, checked, initialized, invalid_initarg, is_given, made, methods_reached, defaulted, making_of, making, instance_made}
@@ -333,10 +333,6 @@ fill_kept : (ev : Eval) → Keeps ev → (env : Context) (f : Subject) (slots : 
 fill_kept ev h env f [] w k = same w
 fill_kept ev h env f (slot ∷ slots) w k =
     filled_kept ev h env f slot (λ u j. fill ev env f slots u j) (λ u j. fill_kept ev h env f slots u j) (filler w f slot) w k
-
-fill_with_kept : (ev : Eval) → Keeps ev → (env : Context) (f : Subject) (slots : List EffectiveSlot) (v : Val) (w : State) (k : ℕ) → Kept w (fill_with ev env f slots v w k)
-fill_with_kept ev h env f [] v w k = same w
-fill_with_kept ev h env f (slot ∷ slots) v w k = filled_with_kept f slot (λ u j. fill ev env f slots u j) (λ u j. fill_kept ev h env f slots u j) v w k
 
 initialized_kept : (ev : Eval) → Keeps ev → (c : ℕ) (vs : List Val) (i : ℕ) (o : Option Val) (w : State) (k : ℕ) → Kept w (initialized ev c vs i o w k)
 initialized_kept ev h c vs i (Some x) w k = same w

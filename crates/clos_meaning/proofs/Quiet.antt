@@ -50,10 +50,10 @@ use Rattle.clos_meaning.specs.Control.{keeping, sequence, while_true, until_true
 use Rattle.clos_meaning.specs.Fault.{answered}
 use Rattle.clos_meaning.specs.Meaning.{collect, alone, with_amount, set_place, changed_from, changed_place, setq, setf, assigned, place_in, meaning, closed, name_changed, place_set_to}
 use Rattle.clos_meaning.specs.Objects.{designated}
-use Rattle.clos_meaning.specs.Filling.{are_slot_names, Filler, nothing, initform, filler, filled_with, filled_by, fill, fill_with, is_the_class, Subject}
+use Rattle.clos_meaning.specs.Filling.{are_slot_names, Filler, nothing, initform, filler, filled_with, filled_by, fill, is_the_class, Subject}
 use Rattle.clos_meaning.specs.Filling as filler
 use Rattle.clos_meaning.specs.Functions.{Access, applied, call_access, place_read, place_set, slot_access}
-use Rattle.clos_meaning.specs.Initialization.{allocate, invalid_initarg, is_given, defaulted, default_given, making_of, making, methods_reached, instance_made}
+use Rattle.clos_meaning.specs.Initialization.{allocate, checked, initialized, invalid_initarg, is_given, defaulted, making_of, making, methods_reached, instance_made}
 use Rattle.clos_meaning.specs.Slots.{class_value, operation_name, missing_called, missing_changed, instance_in, slot_designated, slot_read, slot_tested, slot_changed, slot_answer, slot_applied, slot_called, slot_given, slot_set}
 use Rattle.clos_meaning.specs.declared.callee.SlotFunction as of_slots
 use Rattle.clos_meaning.specs.declared.callee.SlotFunction.TheVariants.{SlotValue, SlotBoundp, SlotMakunbound, SlotExistsP}
@@ -266,23 +266,24 @@ fill_quiet n env f [] w = (refl, refl)
 fill_quiet n env f (slot ∷ slots) w =
     filled_quiet n env f slot (λ u k. fill (meaning n) env f slots u k) (filler w f slot) w (fill_quiet n env f slots w)
 
-pub fill_with_quiet : (n : ℕ) (env : Context) (f : Subject) (slots : List EffectiveSlot) (v : Val) (w : State) → Quiet (fill_with (meaning n) env f slots v w 0) w
-fill_with_quiet n env f [] v w = (refl, refl)
-fill_with_quiet n env f (slot ∷ slots) v w = choice_quiet (is_the_class f.class (class_of_instance w f.instance)) _ _ w (refl, refl) (refl, refl)
-
 pub allocate_quiet : (n : ℕ) (env : Context) (c : ℕ) (e : Whole) (vs : List Val) (w : State) → Quiet (allocate (meaning n) env c e vs w 0) w
 allocate_quiet n env c e vs w = choice_quiet (has_room w.store) _ _ w (refl, refl) (refl, refl)
+
+initialized_quiet : (n : ℕ) (c : ℕ) (vs : List Val) (i : ℕ) (o : Option Val) (w : State) → Quiet (initialized (meaning n) c vs i o w 0) w
+initialized_quiet n c vs i (Some k) w = (refl, refl)
+initialized_quiet n c vs i None w =
+    follows_quiet (invoked (meaning n) InitializeInstance (value.instance i ∷ vs) w 0) (λ v. gave (value.instance i)) w
+    (invoked_quiet n InitializeInstance (value.instance i ∷ vs) w) (λ v u. (refl, refl))
+
+pub checked_quiet : (n : ℕ) (c : ℕ) (e : Whole) (vs : List Val) (i : ℕ) (w : State) → Quiet (checked (meaning n) c e vs i w 0) w
+checked_quiet n c e vs i w =
+    initialized_quiet n c vs i (invalid_initarg w.generics.methods (methods_reached w InitializeInstance i (truth true)) e.slots vs) w
 
 pub defaulted_quiet : (n : ℕ) (env : Context) (c : ℕ) (e : Whole) (ds : List DefaultInitarg) (vs : List Val) (w : State) → Quiet (defaulted (meaning n) env c e ds vs w 0) w
 defaulted_quiet n env c e [] vs w = allocate_quiet n env c e vs w
 defaulted_quiet n env c e (d ∷ ds) vs w =
     choice_quiet (is_given vs d) (defaulted (meaning n) env c e ds vs w 0) _ w (defaulted_quiet n env c e ds vs w)
     (then_quiet n env d.form (λ v. defaulted (meaning n) env c e ds (vs ++ name_value d.name ∷ v ∷ [])) w)
-
-pub default_given_quiet : (n : ℕ) (env : Context) (c : ℕ) (e : Whole) (ds : List DefaultInitarg) (vs : List Val) (v : Val) (w : State)
-    → Quiet (default_given (meaning n) env c e ds vs v w 0) w
-default_given_quiet n env c e [] vs v w = (refl, refl)
-default_given_quiet n env c e (d ∷ ds) vs v w = defaulted_quiet n env c e ds (vs ++ name_value d.name ∷ v ∷ []) w
 
 pub making_of_quiet : (n : ℕ) (vs : List Val) (c : ℕ) (o : Option Whole) (w : State) → Quiet (making_of (meaning n) vs c o w 0) w
 making_of_quiet n vs c None w = (refl, refl)

@@ -103,8 +103,3 @@ filled_by ev env f slot rest (initform g) w s = then_do (ev env g w s) (λ v. fi
 abbrev pub fill : Eval → Context → Subject → List EffectiveSlot → Run
 fill ev env f [] w s = Gave (instance f.instance) w s
 fill ev env f (slot ∷ slots) w s = filled_by ev env f slot (λ u k. fill ev env f slots u k) (filler w f slot) w s
-
--- the same, where the value of the first one's initform is there
-abbrev pub fill_with : Eval → Context → Subject → List EffectiveSlot → Val → Run
-fill_with ev env f [] v w s = Gave (instance f.instance) w s
-fill_with ev env f (slot ∷ slots) v w s = filled_with f slot (λ u k. fill ev env f slots u k) v w s

@@ -99,11 +99,6 @@ defaulted ev env c e (d ∷ ds) vs w s =
     if is_given vs d then defaulted ev env c e ds vs w s
     else then_do (ev env d.form w s) (λ v. defaulted ev env c e ds (vs ++ name_value d.name ∷ v ∷ []))
 
--- the value of the first of these is there
-abbrev pub default_given : Eval → Context → ℕ → Effective → List DefaultInitarg → List Val → Val → Run
-default_given ev env c e [] vs v w s = stopped ProgramError [] w s
-default_given ev env c e (d ∷ ds) vs v w s = defaulted ev env c e ds (vs ++ name_value d.name ∷ v ∷ []) w s
-
 -- ---- make-instance (7.7), whose forms are evaluated with no variables
 
 abbrev pub making_of : Eval → List Val → ℕ → Option Effective → Run

@@ -3,7 +3,8 @@ use Rattle.std.proofs.Common.{◌≡◌, ℕ, zero, suc, ◌+◌, ◌<◌, List,
 use Rattle.std.specs.Prelude.{if◌then◌else◌}
 use Rattle.std.proofs.Math.Seq.{drop-cons}
 use Rattle.clos_forms.specs.Form.{Frm}
-use Rattle.lisp_data.specs.Value.{Val}
+use Rattle.lisp_data.specs.Value.{Val, instance}
+use Rattle.lisp_data.specs.declared.ids.ClassId.{ClassId}
 use Rattle.lisp_data.specs.declared.ids.InstanceId.{InstanceId}
 use Rattle.clos_forms.specs.Quotation.{name_value}
 use Rattle.clos_forms.specs.Form.{nil}
@@ -19,23 +20,29 @@ use Rattle.clos_machine.specs.clos_world.declared.condition.Stop.{Stop}
 use Rattle.clos_machine.specs.clos_world.declared.condition.Stop.TheVariants.{Refused, Storage}
 use Rattle.clos_machine.specs.clos_meaning.Bodies.{restoring}
 use Rattle.clos_machine.specs.clos_meaning.Contexts.{known}
-use Rattle.clos_machine.specs.clos_meaning.Initialization.{allocate, default_given, defaulted, instance_made, making, initialized, invalid_for, invalid_initarg, is_given, made, making_of}
-use Rattle.clos_machine.specs.Machine.{Designates, Leads, Turns, at, inside, resume}
+use Rattle.clos_machine.specs.clos_meaning.GenericCalls.{invoked}
+use Rattle.clos_machine.specs.clos_meaning.Initialization.{allocate, checked, defaulted, instance_made, making, initialized, invalid_for, invalid_initarg, is_given, made, making_of, methods_reached}
+use Rattle.clos_machine.specs.Machine.{apart, Designates, Leads, Turns, at, inside, resume, default_given}
 use Rattle.clos_machine.specs.clos_meaning.Meaning.{closed, meaning}
 use Rattle.clos_machine.specs.clos_meaning.Objects.{designated}
 use Rattle.clos_machine.specs.clos_meaning.Parameters.{are_pairs}
-use Rattle.clos_machine.specs.clos_meaning.Outcome.{Run, Eval, Stopped, then_do, step_then, stopped}
+use Rattle.clos_machine.specs.clos_meaning.Outcome.{Run, Eval, Stopped, gave, then_do, step_then, stopped}
 use Rattle.clos_machine.specs.clos_meaning.declared.arguments.Context.{Context}
+use Rattle.clos_machine.specs.declared.finalized.Finalized.{Finalized}
+use Rattle.clos_machine.specs.declared.machine.Action.TheVariants.{Initialize}
 use Rattle.clos_machine.specs.declared.machine.Doing.{Doing}
+use Rattle.clos_machine.specs.declared.machine.Doing.TheVariants.{Act}
 use Rattle.clos_machine.specs.declared.machine.Frame.TheVariants.{Body}
 use Rattle.clos_machine.specs.declared.machine.Machine.{Machine}
 use Rattle.clos_machine.proofs.Runs.{turns_of_leads, stops_at_once, turns_same}
 use Rattle.clos_machine.proofs.Turns.{bare, bare_same, leads_same, stopped_through}
-use Rattle.clos_objects.specs.Objects.{Enters, TellsCondition, default_first, ungiven}
-use Rattle.clos_objects.specs.Reached.{invalid_for_new, reached_by_new}
+use Rattle.clos_machine.specs.Fault.{TellsCondition}
+use Rattle.clos_objects.specs.Objects.{Enters, default_first, ungiven}
+use Rattle.clos_objects.proofs.Methods.{leads_refused_after}
 use Rattle.clos_class.specs.declared.effective_slots.EffectiveSlot.{EffectiveSlot}
 use Rattle.clos_generic_core.specs.declared.method.Method.{Method}
-use Rattle.clos_objects.proofs.Reaching.{new_reached}
+use Rattle.clos_generic_core.specs.declared.system.SystemFunction.TheVariants.{InitializeInstance}
+use Rattle.lisp_prims.specs.Primitive.{truth}
 
 -- ---- default initargs
 
@@ -131,46 +138,45 @@ module _ (m : Machine) (c : ℕ) (e : Effective) (vs : List Val) where
   pub room_for : (i : InstanceId) (w : State) → Some i.0 ≡ next_instance w.store → has_room w.store ≡ true
   room_for i w h = sym (some_room (has_room w.store) _ i.0 h).0
 
-  -- the rest, with the instance made
-  abbrev pub next_of : State → InstanceId → Run
-  next_of w i u k = initialized (meaning m.room) c vs i.0 (invalid_for_new w c i.0 e.slots vs) u k
-
   after_step : (i : InstanceId) (w w' : State) (t : ℕ) → Some i.0 ≡ next_instance w.store → w' ≡ record w { store = with_instance (allocated c e.layout) w.store }
-      → inside m (next_of w i) w' t ≡ inside m allocating w (1 + t)
+      → inside m (checked (meaning m.room) c e vs i.0) w' t ≡ inside m allocating w (1 + t)
   after_step i w w' t h k =
       let made_in : State = record (at m w) { store = with_instance (allocated c e.layout) w.store } in
-      ap (λ u. inside m (next_of w i) u t) k
-      ∙ bare_same m.levels m.context (next_of w i made_in t) (allocating (at m w) (1 + t))
-      (ap (λ j. bare (initialized (meaning m.room) c vs j (invalid_for_new w c j e.slots vs) made_in t)) (some_room (has_room w.store) _ i.0 h).1
-      ∙ ap (λ ms. bare (initialized (meaning m.room) c vs (length w.store.instances + 1) (invalid_initarg w.generics.methods ms e.slots vs) made_in t)) (new_reached w c e.layout)
-      ∙ sym (ap bare (has_room_then i w (1 + t) h ∙ ap (step_then (made (meaning m.room) m.context c e vs) (at m w)) (one_more t))))
+      ap (λ u. inside m (checked (meaning m.room) c e vs i.0) u t) k
+      ∙ ap (λ j. closed (resume m.levels m.context (checked (meaning m.room) c e vs j made_in t))) (some_room (has_room w.store) _ i.0 h).1
+      ∙ sym (ap (λ o. closed (resume m.levels m.context o)) (has_room_then i w (1 + t) h ∙ ap (step_then (made (meaning m.room) m.context c e vs) (at m w)) (one_more t)))
 
-  pub allocate_goes : (n : Machine) (i : InstanceId) (d : Doing) (w w' : State) (s s' : ℕ) → Some i.0 ≡ next_instance w.store → s ≡ 1 + s'
-      → w' ≡ record w { store = with_instance (allocated c e.layout) w.store } → Leads (inside m (next_of w i)) w' (Ok d) n → Turns (inside m allocating) w s (Ok d) n w' s'
-  allocate_goes n i d w w' s s' h z k l = (1, z, λ t. l t ∙ after_step i w w' t h k)
+pub allocate_goes : (m : Machine) (class : ClassId) (e : Finalized) (vs : List Val) (i : InstanceId) (w w' : State) (s s' : ℕ) → Some i.0 ≡ next_instance w.store → s ≡ 1 + s'
+    → w' ≡ record w { store = with_instance (allocated class.0 e.layout) w.store } → Turns (inside m (allocating m class.0 e vs)) w s (Ok (Act (Initialize class e i) vs)) m w' s'
+allocate_goes m class e vs i w w' s s' h z k = (1, z, λ t. after_step m class.0 e vs i w w' t h k)
 
-  pub allocate_stops : (n : Machine) (i : InstanceId) (d : Condition) (w w' : State) (s s' : ℕ) → Some i.0 ≡ next_instance w.store → s ≡ 1 + s'
-      → w' ≡ record w { store = with_instance (allocated c e.layout) w.store } → Leads (inside m (next_of w i)) w' (Err (Refused d)) n
-      → Turns (inside m allocating) w s (Err (Refused d)) n w' s'
-  allocate_stops n i d w w' s s' h z k l = ap (inside m allocating w) z ∙ sym (after_step i w w' s' h k) ∙ l s'
+-- ---- an instance that was made is initialized
 
--- the leftmost that is not valid, of what is at hand
-pub invalid_given : (w : State) (c i : ℕ) (methods : List Method) (ms : List ℕ) (slots all : List EffectiveSlot) (us vs : List Val) → methods ≡ w.generics.methods → ms ≡ reached_by_new w c i
-    → slots ≡ all → us ≡ vs → invalid_initarg methods ms slots us ≡ invalid_for_new w c i all vs
-invalid_given w c i methods ms slots all us vs e h k l =
-    ap (λ x. invalid_initarg x ms slots us) e ∙ ap (λ x. invalid_initarg w.generics.methods x slots us) h
-    ∙ ap (λ x. invalid_initarg w.generics.methods (reached_by_new w c i) x us) k ∙ ap (invalid_initarg w.generics.methods (reached_by_new w c i) all) l
+module _ (m n : Machine) (ev : Eval) (c : ℕ) (e : Effective) (vs : List Val) (i : ℕ) (w : State) where
+  -- the leftmost initarg that is not valid
+  abbrev pub wrong_new : Option Val
+  wrong_new = invalid_initarg w.generics.methods (methods_reached w InitializeInstance i (truth true)) e.slots vs
 
--- an initarg that is not valid
-pub refused_initarg : (m n : Machine) (ev : Eval) (c : ℕ) (vs : List Val) (i : ℕ) (x : Option Val) (k : Val) (cs : Table) (stop : Stop) (run : Run) (w : State)
-    → w.classes ≡ cs → Some k ≡ x → TellsCondition (invalid_for k (class_name cs c)) stop
-    → ((t : ℕ) → initialized ev c vs i x (at m w) t ≡ run (at m w) t) → Leads (inside m run) w (Err stop) n
-refused_initarg m n ev c vs i x k cs Storage run w a b d h = tt
-refused_initarg m n ev c vs i x k cs (Refused y) run w a b d h = λ t.
-    ap (λ o. closed (resume m.levels m.context o))
-    (sym (h t) ∙ ap (λ o. initialized ev c vs i o (at m w) t) (sym b)
-    ∙ ap (λ z. Stopped (invalid_for k (class_name z c)) (at m w) t) a ∙ ap (λ z. Stopped z (at m w) t) (sym d))
-    ∙ stopped_through m.levels m.context y (at m w) t
+  -- the same, of what is at hand
+  pub new_given : (methods : List Method) (ms : List ℕ) (names : Val) (slots : List EffectiveSlot) (us : List Val) → methods ≡ w.generics.methods → ms ≡ methods_reached w InitializeInstance i names
+      → names ≡ truth true → slots ≡ e.slots → us ≡ vs → invalid_initarg methods ms slots us ≡ wrong_new
+  new_given methods ms names slots us h k l j q =
+      ap (λ x. invalid_initarg x ms slots us) h
+      ∙ ap (λ x. invalid_initarg w.generics.methods x slots us) (k ∙ ap (methods_reached w InitializeInstance i) l)
+      ∙ ap (λ x. invalid_initarg w.generics.methods (methods_reached w InitializeInstance i (truth true)) x us) j
+      ∙ ap (invalid_initarg w.generics.methods (methods_reached w InitializeInstance i (truth true)) e.slots) q
+
+  pub invalid_new : (k : Val) (stop : Stop) → Some k ≡ wrong_new → TellsCondition (invalid_for k (class_name w.classes c)) stop → Leads (inside m (checked ev c e vs i)) w (Err stop) n
+  invalid_new k Storage h d = tt
+  invalid_new k (Refused x) h d =
+      leads_refused_after m n w (checked ev c e vs i) x (invalid_for k (class_name w.classes c)) (λ t. ap (λ o. bare (initialized ev c vs i o (at m w) t)) (sym h)) d
+
+  pub valid_new : (r : Result Doing Stop) → None ≡ wrong_new
+      → Leads (inside m (λ u k. then_do (invoked ev InitializeInstance (instance i ∷ vs) u k) (λ v. gave (instance i)))) w r n → Leads (inside m (checked ev c e vs i)) w r n
+  valid_new r h l =
+      leads_same (inside m (initialized ev c vs i None)) (inside m (checked ev c e vs i)) w r n
+      (λ t. ap (λ o. inside m (initialized ev c vs i o) w t) h
+      ∙ bare_same m.levels m.context (initialized ev c vs i wrong_new (at m w) t) (checked ev c e vs i (at m w) t) refl) l
 
 -- ---- within a body without variables
 
@@ -178,7 +184,7 @@ module _ (m n k : Machine) (vs : List Val) (c : ℕ) (e : Effective) (w : State)
   pub makes_at_once : (w' : State) (s' : ℕ) → Enters m n → ungiven vs e.defaults ≡ [] → Turns (inside n (allocate (meaning n.room) n.context c e vs)) w s r k w' s'
       → Turns (inside m (making_of (meaning m.room) vs c (Some e))) w s r k w' s'
   makes_at_once w' s' h g l =
-      turns_same (inside (record { levels = (record { frame = Body nil m.context m.locals; room = m.room }) ∷ m.levels; context = known []; locals = []; room = m.room }) (allocate (meaning m.room) (known []) c e vs))
+      turns_same (inside (apart m (known [])) (allocate (meaning m.room) (known []) c e vs))
       (inside m (making_of (meaning m.room) vs c (Some e))) w s r k w' s'
       (λ t. ap (λ o. closed (resume m.levels m.context (then_do o (restoring m.locals)))) (defaulted_none vs (meaning m.room) (known []) c e (bound_as [] w) t e.defaults g))
       (subst (λ x. Turns (inside x (allocate (meaning x.room) x.context c e vs)) w s r k w' s') h l)
@@ -190,15 +196,15 @@ module _ (m n k : Machine) (vs : List Val) (c : ℕ) (e : Effective) (w : State)
       turns_of_leads (inside m (making_of (meaning m.room) vs c (Some e))) w s r k
       (leads_to (subst (λ x. Leads (inside x (default_first (meaning x.room) x.context c e (drop p e.defaults) vs)) w r k) h l))
     where
-      same_at : (t : ℕ) → inside (record { levels = (record { frame = Body nil m.context m.locals; room = m.room }) ∷ m.levels; context = known []; locals = []; room = m.room })
+      same_at : (t : ℕ) → inside (apart m (known []))
           (default_first (meaning m.room) (known []) c e (drop p e.defaults) vs) w t ≡ inside m (making_of (meaning m.room) vs c (Some e)) w t
       same_at t =
           ap (λ o. closed (resume m.levels m.context (then_do o (restoring m.locals))))
           (defaulted_first vs (meaning m.room) (known []) c e (bound_as [] w) t e.defaults e.defaults p q g)
 
-      leads_to : Leads (inside (record { levels = (record { frame = Body nil m.context m.locals; room = m.room }) ∷ m.levels; context = known []; locals = []; room = m.room })
+      leads_to : Leads (inside (apart m (known []))
           (default_first (meaning m.room) (known []) c e (drop p e.defaults) vs)) w r k → Leads (inside m (making_of (meaning m.room) vs c (Some e))) w r k
-      leads_to x = leads_same (inside (record { levels = (record { frame = Body nil m.context m.locals; room = m.room }) ∷ m.levels; context = known []; locals = []; room = m.room })
+      leads_to x = leads_same (inside (apart m (known []))
           (default_first (meaning m.room) (known []) c e (drop p e.defaults) vs)) (inside m (making_of (meaning m.room) vs c (Some e))) w r k same_at x
 
 -- ---- make-instance

@@ -25,7 +25,7 @@ use Rattle.clos_machine.specs.clos_meaning.SystemMethods.{class_in, filled_as, i
 use Rattle.clos_machine.specs.declared.machine.Doing.{Doing}
 use Rattle.clos_machine.specs.declared.machine.Machine.{Machine}
 use Rattle.clos_machine.proofs.Turns.{bare, bare_same, bare_through, leads_same, stopped_through}
-use Rattle.clos_objects.specs.Objects.{TellsCondition}
+use Rattle.clos_machine.specs.Fault.{TellsCondition}
 
 module _ (m n : Machine) (w : State) where
   -- a run that stops at once
@@ -36,7 +36,7 @@ module _ (m n : Machine) (w : State) where
   leads_refused run c d h e = leads_stops run c (λ t. h t ∙ ap (λ x. Stopped x (at m w) t) (sym e))
 
   -- the same after something was noted
-  leads_refused_after : (run : Run) (c d : Condition) → ((t : ℕ) → bare (run (at m w) t) ≡ Stopped d (at m w) t) → c ≡ d → Leads (inside m run) w (Err (Refused c)) n
+  pub leads_refused_after : (run : Run) (c d : Condition) → ((t : ℕ) → bare (run (at m w) t) ≡ Stopped d (at m w) t) → c ≡ d → Leads (inside m run) w (Err (Refused c)) n
   leads_refused_after run c d h e = λ t.
       bare_through m.levels m.context (run (at m w) t)
       ∙ ap (λ o. closed (resume m.levels m.context o)) (h t ∙ ap (λ x. Stopped x (at m w) t) (sym e)) ∙ stopped_through m.levels m.context c (at m w) t

@@ -13,7 +13,7 @@ use Rattle.clos_machine.specs.clos_world.declared.condition.Condition.{Condition
 use Rattle.clos_machine.specs.clos_world.declared.condition.ConditionKind.TheVariants.{StepLimit}
 use Rattle.clos_machine.specs.clos_world.declared.condition.Stop.{Stop}
 use Rattle.clos_machine.specs.clos_world.declared.condition.Stop.TheVariants.{Refused}
-use Rattle.clos_machine.specs.Machine.{Leads, Turns, at, denote, inside, resume, slots_left, subject_of}
+use Rattle.clos_machine.specs.Machine.{Leads, Turns, at, denote, inside, resume, slots_left, subject_of, fill_with}
 use Rattle.clos_machine.specs.clos_meaning.Meaning.{closed, meaning}
 use Rattle.clos_machine.specs.declared.machine.Action.TheVariants.{Fill}
 use Rattle.clos_machine.specs.declared.machine.Doing.{Doing}
@@ -24,7 +24,7 @@ use Rattle.clos_machine.proofs.Runs.{turns_of_leads, stops_at_once, turns_same}
 use Rattle.clos_machine.proofs.Turns.{leads_same}
 use Rattle.clos_class.specs.declared.effective_slots.EffectiveSlot.{EffectiveSlot}
 use Rattle.clos_machine.specs.clos_world.World.{State, Local, bound_as}
-use Rattle.clos_machine.specs.clos_meaning.Filling.{Filler, Subject, fill, fill_with, filled_by, filler, nothing, initform}
+use Rattle.clos_machine.specs.clos_meaning.Filling.{Filler, Subject, fill, filled_by, filler, nothing, initform}
 use Rattle.clos_machine.specs.clos_meaning.Filling as filler
 use Rattle.clos_machine.specs.clos_meaning.Outcome.{Gave, Stopped, Run, Eval, then_do}
 use Rattle.clos_machine.specs.clos_meaning.declared.arguments.Context.{Context}

@@ -12,9 +12,9 @@ use Rattle.clos_machine.specs.clos_meaning.Filling.{Filler, Subject, fill, fille
 use Rattle.clos_class.specs.Slots.{Effective}
 use Rattle.clos_forms.specs.Form.{Frm, nil}
 use Rattle.clos_machine.specs.clos_meaning.Contexts.{known}
-use Rattle.clos_machine.specs.clos_meaning.Initialization.{default_given, is_given}
+use Rattle.clos_machine.specs.clos_meaning.Initialization.{is_given}
 use Rattle.clos_machine.specs.clos_meaning.Outcome.{Gave, Run, Eval, then_do, stopped}
-use Rattle.clos_machine.specs.declared.machine.Frame.TheVariants.{Body}
+use Rattle.clos_machine.specs.Machine.{apart, default_given}
 use Rattle.clos_machine.specs.declared.machine.Machine.{Machine}
 use Rattle.clos_machine.specs.clos_world.declared.condition.ConditionKind.TheVariants.{NoNextMethod, ProgramError}
 use Rattle.clos_machine.specs.clos_meaning.declared.arguments.Context.{Context}
@@ -75,12 +75,7 @@ default_first ev env c e (d ∷ ds) vs w s = then_do (ev env d.form w s) (λ v. 
 
 -- the machine has no variables, and those from before come back
 abbrev pub Enters : Machine → Machine → Type 0
-Enters m n = n ≡ record { levels = (record { frame = Body nil m.context m.locals; room = m.room }) ∷ m.levels; context = known []; locals = []; room = m.room }
-
--- this condition is told, unless memory ran out
-abbrev pub TellsCondition : Condition → Stop → Type 0
-TellsCondition d (Refused c) = c ≡ d
-TellsCondition d Storage = Unit {0}
+Enters m n = n ≡ apart m (known [])
 
 -- what no-next-method signals of a method, which its arguments begin with after the generic function
 abbrev pub next_condition : List Val → Condition

@@ -1,33 +1,31 @@
 //! The making of instances (HyperSpec 7.1.3, 7.1.7, 7.7 `make-instance`).
 ghost use Rattle.std.specs.Prelude.{◌≡◌, ℕ, ◌+◌, ◌≤◌, ◌<◌, ◌∷◌, [], true, OnOk, OnErr, IfOk, IfSome, MatchOption, drop, length, map, Some};
 ghost use Rattle.lisp_data.specs.ValueView.{value_of};
-ghost use Rattle.clos_machine.specs.clos_world.clos_store.Store.{allocated, has_room, with_instance};
 ghost use Rattle.clos_machine.specs.clos_world.Class.{class_name, effective};
 ghost use Rattle.clos_machine.specs.clos_world.World.{State, seen};
-ghost use Rattle.clos_machine.specs.clos_meaning.Initialization.{allocate, default_given, defaulted, initialized, instance_made, invalid_for, making_of};
-ghost use Rattle.clos_machine.specs.Machine.{Grows, Leads, Turns, at, inside};
+ghost use Rattle.clos_machine.specs.clos_meaning.Initialization.{allocate, checked, defaulted, instance_made, invalid_for, making_of};
+ghost use Rattle.clos_machine.specs.Machine.{Grows, Leads, Turns, at, inside, act_weight, value_weight, default_given, Shrinks};
 ghost use Rattle.clos_machine.specs.clos_meaning.Meaning.{meaning};
 ghost use Rattle.clos_machine.specs.clos_meaning.Outcome.{Run};
-ghost use Rattle.clos_objects.specs.Objects.{Enters, TellsCondition, default_first, ungiven};
-ghost use Rattle.clos_objects.specs.Reached.{invalid_for_new};
+ghost use Rattle.clos_machine.specs.Fault.{TellsCondition};
+ghost use Rattle.clos_objects.specs.Objects.{Enters, default_first, ungiven};
 
 use crate::classes::designate;
 use crate::initargs::{invalid_initarg, is_given};
-use crate::reached::reached_by_new;
+use crate::reached::methods_reached;
 use clos_forms::{Forms, value_named};
 use clos_generic_core::SystemFunction;
 use clos_machine::finalized::Finalized;
-use clos_machine::locals::Locals;
-use clos_machine::machine::{Action, Doing, Frame, Level, Machine};
-use clos_machine::moves::{begin, invoke_under};
+use clos_machine::machine::{Action, Doing, Frame, Machine};
+use clos_machine::moves::{begin, invoke_under, set_apart};
 use clos_machine::parameters::are_pairs;
+use clos_machine::truth::t;
 use clos_machine::{
     Arguments, Condition, ConditionKind, Context, Stop, Values, World, about, about_both, plain,
 };
 use clos_syntax::DefaultInitarg;
 use lisp_data::{ClassId, InstanceId, Value};
 use std::alloc::{AllocError, Global};
-use std::mem;
 
 /// A call of `make-instance`.
 pub fn make_instance(
@@ -38,7 +36,7 @@ pub fn make_instance(
     steps: &mut u64,
 ) -> Result<Doing, Stop>
     ensures turns { Turns (inside machine.old (instance_made (meaning machine.old.room) values)) (seen world.old) steps.old result machine.new (seen world.new) steps.new }
-    ensures small { Grows 6 machine.old.levels result machine.new }
+    ensures small { Shrinks act_weight steps.old steps.new machine.old.levels result machine.new }
     ensures fewer { steps.new ≤ steps.old }
 {
     match values.take_first() {
@@ -57,7 +55,7 @@ fn make(
     steps: &mut u64,
 ) -> Result<Doing, Stop>
     ensures turns { Turns (inside machine.old (instance_made (meaning machine.old.room) (value_of class ∷ initargs))) (seen world.old) steps.old result machine.new (seen world.new) steps.new }
-    ensures small { Grows 6 machine.old.levels result machine.new }
+    ensures small { Shrinks act_weight steps.old steps.new machine.old.levels result machine.new }
     ensures fewer { steps.new ≤ steps.old }
 {
     if !are_pairs(initargs.as_slice()) {
@@ -79,7 +77,7 @@ fn make_of(
     steps: &mut u64,
 ) -> Result<Doing, Stop>
     ensures turns { Turns (inside machine.old (λ w. making_of (meaning machine.old.room) initargs class.0 (effective w.classes class.0) w)) (seen world.old) steps.old result machine.new (seen world.new) steps.new }
-    ensures small { Grows 6 machine.old.levels result machine.new }
+    ensures small { Shrinks act_weight steps.old steps.new machine.old.levels result machine.new }
     ensures fewer { steps.new ≤ steps.old }
 {
     match Finalized::find(world, class)? {
@@ -93,13 +91,10 @@ pub fn enter(alloc: Global, machine: &mut Machine) -> Result<(), AllocError>
     ensures { IfOk result (λ u. Enters machine.old machine.new) }
 {
     let arguments = Arguments::new(alloc, Values::new(alloc))?;
-    let saved = mem::replace(&mut machine.context, Context::of_function(arguments));
-    let outer = mem::replace(&mut machine.locals, Locals::new(alloc));
-    let frame = Frame::Body(Forms::new(), saved, outer);
-    let room = machine.room;
-    machine.levels.push(Level { frame, room })
+    set_apart(alloc, machine, Context::of_function(arguments))
 }
 
+#[tactic(auto, using(clos_machine::proofs::Turns::shrinks_by))]
 fn make_within(
     alloc: Global,
     machine: &mut Machine,
@@ -110,7 +105,7 @@ fn make_within(
     steps: &mut u64,
 ) -> Result<Doing, Stop>
     ensures turns { Turns (inside machine.old (making_of (meaning machine.old.room) initargs class.0 (Some effective))) (seen world.old) steps.old result machine.new (seen world.new) steps.new }
-    ensures small { Grows 6 machine.old.levels result machine.new }
+    ensures small { Shrinks act_weight steps.old steps.new machine.old.levels result machine.new }
     ensures fewer { steps.new ≤ steps.old }
 {
     enter(alloc, machine)?;
@@ -138,6 +133,7 @@ fn next_ungiven(effective: &Finalized, from: usize, initargs: &[Value]) -> Optio
 }
 
 /// The default initarg at this place is evaluated.
+#[tactic(auto, using(clos_machine::proofs::Turns::grows_more))]
 fn evaluate_default(
     machine: &mut Machine,
     class: ClassId,
@@ -149,7 +145,7 @@ fn evaluate_default(
     ensures leads { (run : Run) (w : State)
         → ((t : ℕ) → default_first (meaning machine.old.room) machine.old.context class.0 effective (drop place effective.defaults) initargs (at machine.old w) t ≡ run (at machine.old w) t)
         → Leads (inside machine.old run) w result machine.new }
-    ensures small { Grows 5 machine.old.levels result machine.new }
+    ensures small { Grows value_weight machine.old.levels result machine.new }
 {
     let form = effective.defaults()[place].form.copy()?;
     begin(
@@ -170,7 +166,7 @@ pub fn next_default(
     value: Value,
 ) -> Result<Doing, Stop>
     ensures leads { (w : State) → Leads (inside machine.old (default_given (meaning machine.old.room) machine.old.context class.0 effective (drop place effective.defaults) initargs (value_of value))) w result machine.new }
-    ensures small { Grows 8 machine.old.levels result machine.new }
+    ensures small { Grows act_weight machine.old.levels result machine.new }
 {
     let Some((default, next)) = default_at(&effective, place) else {
         drop(value);
@@ -208,7 +204,7 @@ fn go_on(
     initargs: Values,
 ) -> Result<Doing, Stop>
     ensures leads { (w : State) → Leads (inside machine.old (defaulted (meaning machine.old.room) machine.old.context class.0 effective (drop from effective.defaults) initargs)) w result machine.new }
-    ensures small { Grows 8 machine.old.levels result machine.new }
+    ensures small { Grows act_weight machine.old.levels result machine.new }
 {
     match next_ungiven(&effective, from, initargs.as_slice()) {
         None => Ok(Doing::Act(Action::Allocate(class, effective), initargs)),
@@ -216,7 +212,7 @@ fn go_on(
     }
 }
 
-/// An instance is made, in one step, and then initialized.
+/// An instance is made, in one step; what follows looks at its initargs.
 pub fn allocate(
     alloc: Global,
     machine: &mut Machine,
@@ -227,77 +223,49 @@ pub fn allocate(
     steps: &mut u64,
 ) -> Result<Doing, Stop>
     ensures turns { Turns (inside machine.old (allocate (meaning machine.old.room) machine.old.context class.0 effective initargs)) (seen world.old) steps.old result machine.new (seen world.new) steps.new }
-    ensures small { Grows 5 machine.old.levels result machine.new }
+    ensures small { Shrinks act_weight steps.old steps.new machine.old.levels result machine.new }
     ensures fewer { steps.new ≤ steps.old }
 {
+    let _ = machine;
     let Some(id) = world.store.next_instance() else {
         return Err(Stop::Refused(plain(alloc, ConditionKind::TableLimit)));
     };
     if *steps == 0 {
         return Err(Stop::Refused(plain(alloc, ConditionKind::StepLimit)));
     }
-    match initialize(alloc, machine, world, class, &effective, initargs, id) {
-        Err(Stop::Storage) => Err(Stop::Storage),
-        Err(Stop::Refused(condition)) => {
-            let Ok(()) = add_instance(alloc, world, class, &effective, steps) else {
-                drop(condition);
-                return Err(Stop::Storage);
-            };
-            Err(Stop::Refused(condition))
-        }
-        Ok(doing) => {
-            let Ok(()) = add_instance(alloc, world, class, &effective, steps) else {
-                drop(doing);
-                return Err(Stop::Storage);
-            };
-            Ok(doing)
-        }
-    }
-}
-
-/// The instance is made, in one step.
-fn add_instance(
-    alloc: Global,
-    world: &mut World,
-    class: ClassId,
-    effective: &Finalized,
-    steps: &mut u64,
-) -> Result<(), AllocError>
-    requires room { has_room (seen world.old).store ≡ true }
-    requires step { 0 < steps.old }
-    ensures ok { OnOk result ((steps.old ≡ 1 + steps.new) × (seen world.new ≡ record (seen world.old) { store = with_instance (allocated class.0 effective.now.layout) (seen world.old).store })) }
-    ensures err { OnErr result ((seen world.new ≡ seen world.old) × (steps.new ≡ steps.old)) }
-{
     let Ok(_) = world.store.allocate(alloc, class, effective.layout()) else {
-        return Err(AllocError);
+        return Err(Stop::Storage);
     };
     *steps -= 1;
-    Ok(())
+    Ok(Doing::Act(
+        Action::Initialize(class, effective, id),
+        initargs,
+    ))
 }
 
-/// The instance of this number, which is about to be made, is initialized, or an initarg is not valid.
-fn initialize(
+/// The instance that was made is initialized, unless an initarg is not valid; then it is given.
+#[tactic(auto, using(clos_machine::proofs::Turns::grows_more))]
+pub fn initialize(
     alloc: Global,
     machine: &mut Machine,
     world: &World,
     class: ClassId,
     effective: &Finalized,
-    mut initargs: Values,
     id: InstanceId,
+    mut initargs: Values,
 ) -> Result<Doing, Stop>
-    ensures leads { (run : Run) (w : State) → w.classes ≡ (seen world.now).classes
-        → ((t : ℕ) → initialized (meaning machine.old.room) class.0 initargs id.0 (invalid_for_new (seen world.now) class.0 id.0 effective.now.slots initargs) (at machine.old w) t ≡ run (at machine.old w) t)
-        → Leads (inside machine.old run) w result machine.new }
-    ensures small { Grows 5 machine.old.levels result machine.new }
+    ensures leads { Leads (inside machine.old (checked (meaning machine.old.room) class.0 effective.now initargs id.0)) (seen world.now) result machine.new }
+    ensures small { Grows value_weight machine.old.levels result machine.new }
 {
-    let reached = reached_by_new(alloc, world, class, id)?;
+    let function = SystemFunction::InitializeInstance;
+    let reached = methods_reached(alloc, world, function, id, t())?;
     let methods = world.generics.methods();
     if let Some(name) = invalid_initarg(methods, &reached, effective.slots(), initargs.as_slice()) {
         return Err(refuse(alloc, world, class, name));
     }
     initargs.push_first(Value::Instance(id))?;
     let frame = Frame::Keep(Forms::new(), Value::Instance(id));
-    invoke_under(machine, SystemFunction::InitializeInstance, initargs, frame)
+    invoke_under(machine, function, initargs, frame)
 }
 
 /// Why no instance of a class is initialized with this initarg.

@@ -5,8 +5,8 @@ ghost use Rattle.lisp_data.specs.Value.{list, nil};
 ghost use Rattle.lisp_data.specs.ValueView.{value_of};
 ghost use Rattle.clos_machine.specs.clos_world.clos_store.Store.{slot_found};
 ghost use Rattle.clos_machine.specs.clos_world.World.{class_of_instance, seen};
-ghost use Rattle.clos_machine.specs.clos_meaning.Filling.{is_named, fill, fill_with, filler, is_the_class, unbound_filler};
-ghost use Rattle.clos_machine.specs.Machine.{Grows, Leads, Shrinks, Turns, inside, slots_left, subject_of};
+ghost use Rattle.clos_machine.specs.clos_meaning.Filling.{is_named, fill, filler, is_the_class, unbound_filler};
+ghost use Rattle.clos_machine.specs.Machine.{Grows, Leads, Shrinks, Turns, inside, slots_left, subject_of, act_weight, fill_with};
 ghost use Rattle.clos_machine.specs.clos_meaning.Meaning.{meaning};
 ghost use Rattle.clos_machine.specs.declared.machine.Filling.{Filling};
 ghost use Rattle.clos_objects.specs.Objects.{Finds, filler_found, filler_of_form, first_filled};
@@ -94,7 +94,7 @@ pub fn fill(
     steps: &mut u64,
 ) -> Result<Doing, Stop>
     ensures turns { Turns (inside machine.old (fill (meaning machine.old.room) machine.old.context (subject_of filling) (slots_left filling))) (seen world.old) steps.old result machine.new (seen world.new) steps.new }
-    ensures small { Shrinks 8 steps.old steps.new machine.old.levels result machine.new }
+    ensures small { Shrinks act_weight steps.old steps.new machine.old.levels result machine.new }
     ensures fewer { steps.new ≤ steps.old }
 {
     match next_filler(world, &filling)? {
@@ -119,7 +119,7 @@ fn fill_first(
     steps: &mut u64,
 ) -> Result<Doing, Stop>
     ensures turns { Turns (inside machine.now (first_filled (meaning machine.now.room) machine.now.context (subject_of filling) (slots_left filling) (value_of value))) (seen world.old) steps.old result machine.now (seen world.new) steps.new }
-    ensures small { Shrinks 8 steps.old steps.new machine.now.levels result machine.now }
+    ensures small { Shrinks act_weight steps.old steps.new machine.now.levels result machine.now }
     ensures fewer { steps.new ≤ steps.old }
 {
     let _ = machine;
@@ -159,7 +159,7 @@ pub fn fill_with(
     steps: &mut u64,
 ) -> Result<Doing, Stop>
     ensures turns { Turns (inside machine.old (fill_with (meaning machine.old.room) machine.old.context (subject_of filling) (slots_left filling) (value_of value))) (seen world.old) steps.old result machine.new (seen world.new) steps.new }
-    ensures small { Shrinks 8 steps.old steps.new machine.old.levels result machine.new }
+    ensures small { Shrinks act_weight steps.old steps.new machine.old.levels result machine.new }
     ensures fewer { steps.new ≤ steps.old }
 {
     if !is_the_class(world, &filling) {

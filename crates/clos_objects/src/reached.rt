@@ -1,17 +1,14 @@
 //! The methods that the initargs of an instance reach (HyperSpec 7.1.2).
-ghost use Rattle.std.specs.Prelude.{◌≡◌, IfOk, length, map};
+ghost use Rattle.std.specs.Prelude.{◌≡◌, IfOk};
 ghost use Rattle.std.specs.List.{list_any};
 ghost use Rattle.lisp_data.specs.ValueView.{value_of};
 ghost use Rattle.clos_generic_core.specs.Keywords.{method_allows, method_names};
-ghost use Rattle.clos_machine.specs.clos_world.clos_precedence.PrecedenceView.{numbers};
 ghost use Rattle.clos_machine.specs.clos_world.World.{seen};
 ghost use Rattle.clos_machine.specs.clos_meaning.Initialization.{methods_reached};
-ghost use Rattle.clos_objects.specs.Reached.{ordered_as, reached_by_new, required_of};
 
-use clos_generic_core::{Arguments, Method, MethodIds, SystemFunction, any_allows, any_names};
-use clos_machine::truth::t;
+use clos_generic_core::{Method, MethodIds, SystemFunction, any_allows, any_names};
 use clos_machine::{Values, World};
-use lisp_data::{ClassId, GenericId, InstanceId, Name, Value};
+use lisp_data::{InstanceId, Name, Value};
 use std::alloc::{AllocError, Global};
 use std::marker::Model;
 
@@ -72,74 +69,4 @@ pub fn methods_reached(
         function: own,
         shared,
     })
-}
-
-/// Those that the initargs reach of an instance of this class, which is about to be made.
-pub fn reached_by_new(
-    alloc: Global,
-    world: &World,
-    class: ClassId,
-    id: InstanceId,
-) -> Result<Reached, AllocError>
-    ensures { IfOk result (λ r. r ≡ reached_by_new (seen world.now) class.0 id.0) }
-{
-    let mut arguments = Values::new(alloc);
-    let mut classes = Vec::with_capacity(alloc, 2)?;
-    arguments.push(Value::Instance(id))?;
-    classes.push(class)?;
-    let called = SystemFunction::InitializeInstance.id();
-    let own = ordered_as(
-        alloc,
-        world,
-        called,
-        classes.as_slice(),
-        arguments.as_slice(),
-    )?;
-    let all = t();
-    classes.push(world.class_of_value(&all))?;
-    arguments.push(all)?;
-    let called = SystemFunction::SharedInitialize.id();
-    let shared = ordered_as(
-        alloc,
-        world,
-        called,
-        classes.as_slice(),
-        arguments.as_slice(),
-    )?;
-    Ok(Reached {
-        function: own,
-        shared,
-    })
-}
-
-/// The methods of a generic function that are applicable to arguments of these classes, the most specific first.
-fn ordered_as(
-    alloc: Global,
-    world: &World,
-    id: GenericId,
-    classes: &[ClassId],
-    values: &[Value],
-) -> Result<MethodIds, AllocError>
-    requires { length classes.now ≡ length values.now }
-    ensures { IfOk result (λ r. r ≡ ordered_as (seen world.now) id.0 (numbers classes.now) (map value_of values.now)) }
-{
-    let count = required_of(world, id, values.len());
-    let arguments = Arguments::new(&world.classes, &classes[..count], &values[..count]);
-    world.generics.ordered(alloc, id, &arguments)
-}
-
-/// How many of so many arguments are those of required parameters.
-fn required_of(world: &World, id: GenericId, count: usize) -> usize
-    ensures { result ≡ required_of (seen world.now) id.0 count }
-{
-    match world.generics.function(id) {
-        None => 0,
-        Some(function) => {
-            let required = function.shape().required;
-            if required < count as u64 {
-                return required as usize;
-            }
-            count
-        }
-    }
 }

@@ -3,11 +3,12 @@ ghost use Rattle.std.specs.Prelude.{◌≡◌, ◌∷◌, [], IfOk, MatchOption,
 ghost use Rattle.lisp_data.specs.Value.{instance};
 ghost use Rattle.lisp_data.specs.ValueView.{value_of};
 ghost use Rattle.clos_machine.specs.clos_world.World.{seen};
-ghost use Rattle.clos_machine.specs.Machine.{Grows, Leads, inside, initargs_in, names_in};
+ghost use Rattle.clos_machine.specs.Machine.{Grows, Leads, inside, initargs_in, names_in, built_in_growth, value_weight};
 ghost use Rattle.clos_machine.specs.clos_meaning.Meaning.{meaning};
 ghost use Rattle.clos_machine.specs.clos_meaning.Slots.{instance_in};
 ghost use Rattle.clos_machine.specs.clos_meaning.SystemMethods.{class_in, initialize, initialize_slots, filled_as, reinitialize, reinitialize_as, shared_initialized, slot_condition, system_method_run, told};
-ghost use Rattle.clos_objects.specs.Objects.{TellsCondition, next_condition};
+ghost use Rattle.clos_machine.specs.Fault.{TellsCondition};
+ghost use Rattle.clos_objects.specs.Objects.{next_condition};
 ghost use Rattle.clos_machine.specs.clos_world.declared.condition.ConditionKind.TheVariants.{NoApplicableMethod};
 ghost use Rattle.clos_generic_core.specs.declared.system.SystemFunction.TheVariants.{SharedInitialize};
 
@@ -39,7 +40,7 @@ pub fn run_system_method(
     arguments: &Arguments,
 ) -> Result<Doing, Stop>
     ensures leads { Leads (inside machine.old (system_method_run (meaning machine.old.room) function arguments.now)) (seen world.now) result machine.new }
-    ensures small { Grows 9 machine.old.levels result machine.new }
+    ensures small { Grows built_in_growth machine.old.levels result machine.new }
 {
     match split(arguments.as_slice()) {
         None => Err(Stop::Refused(plain(alloc, ConditionKind::ProgramError))),
@@ -48,7 +49,7 @@ pub fn run_system_method(
 }
 
 /// The same with arguments that begin with this one.
-#[tactic(auto, using(clos_machine::proofs::Turns::grows_5_9, clos_machine::proofs::Turns::stopped_through))]
+#[tactic(auto, using(clos_machine::proofs::Turns::grows_more, clos_machine::proofs::Turns::stopped_through))]
 fn run_with(
     alloc: Global,
     machine: &mut Machine,
@@ -60,7 +61,7 @@ fn run_with(
 ) -> Result<Doing, Stop>
     requires { arguments.now ≡ value_of first.now ∷ map value_of rest.now }
     ensures leads { Leads (inside machine.old (system_method_run (meaning machine.old.room) function arguments.now)) (seen world.now) result machine.new }
-    ensures small { Grows 9 machine.old.levels result machine.new }
+    ensures small { Grows built_in_growth machine.old.levels result machine.new }
 {
     match function {
         SystemFunction::InitializeInstance => initialize(alloc, machine, world, first, rest),
@@ -91,6 +92,7 @@ fn split(values: &[Value]) -> Option<(&Value, &[Value])>
 }
 
 /// Shared-initialize is called with these arguments, and then the instance is given.
+#[tactic(auto, using(clos_machine::proofs::Turns::grows_more))]
 fn initialize_shared(
     alloc: Global,
     machine: &mut Machine,
@@ -100,7 +102,7 @@ fn initialize_shared(
     initargs: &[Value],
 ) -> Result<Doing, Stop>
     ensures leads { Leads (inside machine.old (shared_initialized (meaning machine.old.room) id.0 (value_of names) (map value_of initargs.now))) (seen world.now) result machine.new }
-    ensures small { Grows 5 machine.old.levels result machine.new }
+    ensures small { Grows value_weight machine.old.levels result machine.new }
 {
     let _ = world;
     let arguments = shared_arguments(alloc, id, names, initargs)?;
@@ -136,7 +138,7 @@ fn initialize(
     initargs: &[Value],
 ) -> Result<Doing, Stop>
     ensures leads { Leads (inside machine.old (initialize (meaning machine.old.room) (map value_of initargs.now) (instance_in (value_of object.now)))) (seen world.now) result machine.new }
-    ensures small { Grows 5 machine.old.levels result machine.new }
+    ensures small { Grows value_weight machine.old.levels result machine.new }
 {
     match instance_in(alloc, object) {
         Err(stop) => Err(stop),
@@ -166,7 +168,7 @@ fn reinitialize(
     initargs: &[Value],
 ) -> Result<Doing, Stop>
     ensures leads { Leads (inside machine.old (reinitialize (meaning machine.old.room) (map value_of initargs.now) (instance_in (value_of object.now)))) (seen world.now) result machine.new }
-    ensures small { Grows 5 machine.old.levels result machine.new }
+    ensures small { Grows value_weight machine.old.levels result machine.new }
 {
     match instance_in(alloc, object) {
         Err(stop) => Err(stop),
@@ -183,7 +185,7 @@ fn reinitialize_instance(
     initargs: &[Value],
 ) -> Result<Doing, Stop>
     ensures leads { Leads (inside machine.old (λ w. reinitialize_as (meaning machine.old.room) (map value_of initargs.now) id.0 (class_in w id.0) w)) (seen world.now) result machine.new }
-    ensures small { Grows 5 machine.old.levels result machine.new }
+    ensures small { Grows value_weight machine.old.levels result machine.new }
 {
     match class_in(world, id)? {
         None => Err(Stop::Refused(plain(alloc, ConditionKind::ProgramError))),
@@ -210,7 +212,7 @@ fn initialize_slots(
 ) -> Result<Doing, Stop>
     requires { arguments.now ≡ value_of object.now ∷ map value_of rest.now }
     ensures leads { Leads (inside machine.old (system_method_run (meaning machine.old.room) SharedInitialize arguments.now)) (seen world.now) result machine.new }
-    ensures small { Grows 9 machine.old.levels result machine.new }
+    ensures small { Grows built_in_growth machine.old.levels result machine.new }
 {
     match split(rest) {
         None => Err(Stop::Refused(plain(alloc, ConditionKind::ProgramError))),
@@ -240,7 +242,7 @@ fn fill_instance(
     arguments: &Arguments,
 ) -> Result<Doing, Stop>
     ensures leads { Leads (inside machine.old (λ w. filled_as (meaning machine.old.room) id.0 (names_in arguments.now) (initargs_in arguments.now) (class_in w id.0) w)) (seen world.now) result machine.new }
-    ensures small { Grows 9 machine.old.levels result machine.new }
+    ensures small { Grows built_in_growth machine.old.levels result machine.new }
 {
     match class_in(world, id)? {
         None => Err(Stop::Refused(plain(alloc, ConditionKind::ProgramError))),

@@ -7,7 +7,7 @@ ghost use Rattle.clos_machine.specs.clos_world.clos_precedence.PrecedenceView.{n
 ghost use Rattle.clos_machine.specs.clos_world.Class.{named, class_name, precedence};
 ghost use Rattle.clos_machine.specs.clos_world.World.{class_of, seen};
 ghost use Rattle.clos_machine.specs.clos_meaning.ClassFunctions.{Tells, class_answer, class_by_symbol, class_designated, class_name_of, class_of_value, classes_listed, comes_to, found_class, incomplete_class, is_subclass, listed_if_complete, missing, name_of_class, named_by, of_class, of_type, precedence_list_of, precedence_of_class, symbol_in, undefined_class, wrong_number, wrong_type};
-ghost use Rattle.clos_machine.specs.Machine.{Designates, Grows, Leads, inside};
+ghost use Rattle.clos_machine.specs.Machine.{Designates, Grows, Leads, inside, value_weight};
 
 use clos_forms::value_named;
 use clos_machine::fault::{incomplete_class, of_function, wrong_type};
@@ -30,7 +30,7 @@ pub fn call_class_function(
     values: &Values,
 ) -> Result<Doing, Stop>
     ensures leads { Leads (inside machine.old (λ w. comes_to (class_answer function w.classes (class_of w) values.now) w)) (seen world.now) result machine.new }
-    ensures small { Grows 6 machine.old.levels result machine.new }
+    ensures small { Grows value_weight machine.old.levels result machine.new }
 {
     let _ = machine;
     match answer(alloc, world, function, values.as_slice()) {

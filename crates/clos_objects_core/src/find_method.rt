@@ -6,7 +6,7 @@ ghost use Rattle.clos_generic_core.specs.Specializer.{specializer_of};
 ghost use Rattle.clos_machine.specs.clos_world.World.{seen};
 ghost use Rattle.clos_machine.specs.clos_meaning.ClassFunctions.{Tells, comes_to};
 ghost use Rattle.clos_machine.specs.clos_meaning.FindMethod.{designator, designators, eql_designator, found_method, is_eql_symbol, method_answer, method_designated, method_with, no_such_method, qualifiers_given, specializer_for, specializers_for, specializers_given, values_of};
-ghost use Rattle.clos_machine.specs.Machine.{Grows, Leads, inside};
+ghost use Rattle.clos_machine.specs.Machine.{Grows, Leads, inside, value_weight};
 ghost use Rattle.clos_objects_core.specs.Designators.{Specializes, SpecializesAll, designator_of, designators_of};
 
 use crate::class_functions::{symbol_in, undefined_class, wrong_number};
@@ -38,7 +38,7 @@ pub fn call_find_method(
     values: &Values,
 ) -> Result<Doing, Stop>
     ensures leads { Leads (inside machine.old (λ w. comes_to (method_answer w.classes w.generics values.now) w)) (seen world.now) result machine.new }
-    ensures small { Grows 6 machine.old.levels result machine.new }
+    ensures small { Grows value_weight machine.old.levels result machine.new }
 {
     let _ = machine;
     match answer(alloc, world, values.as_slice()) {

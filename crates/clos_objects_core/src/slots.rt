@@ -9,7 +9,7 @@ ghost use Rattle.clos_machine.specs.clos_world.clos_store.Store.{slot_found};
 ghost use Rattle.clos_machine.specs.clos_world.Values.{only_value};
 ghost use Rattle.clos_machine.specs.clos_world.World.{State, class_of_instance, seen};
 ghost use Rattle.clos_machine.specs.clos_meaning.Accessors.{read_by, written_by};
-ghost use Rattle.clos_machine.specs.Machine.{Grows, Leads, Turns, at, inside};
+ghost use Rattle.clos_machine.specs.Machine.{Grows, Leads, Turns, at, inside, value_weight};
 ghost use Rattle.clos_machine.specs.clos_meaning.Meaning.{meaning};
 ghost use Rattle.clos_machine.specs.clos_meaning.Outcome.{Gave, Run};
 ghost use Rattle.clos_machine.specs.clos_meaning.Slots.{class_value, operation_name, has_slot, instance_in, slot_answer, slot_called, slot_changed, slot_designated, slot_read, slot_set, slot_tested};
@@ -117,7 +117,7 @@ pub fn call_reader(
     values: &[Value],
 ) -> Result<Doing, Stop>
     ensures leads { Leads (inside machine.now (read_by (meaning machine.now.room) machine.now.context slot.now (map value_of values.now))) (seen world.now) result machine.now }
-    ensures small { Grows 6 machine.now.levels result machine.now }
+    ensures small { Grows value_weight machine.now.levels result machine.now }
 {
     match only(values) {
         None => Err(Stop::Refused(plain(alloc, ConditionKind::ProgramError))),
@@ -134,14 +134,14 @@ pub fn call_writer(
     machine: &mut Machine,
     world: &mut World,
     slot: Name,
-    values: &Values,
+    values: &[Value],
     steps: &mut u64,
 ) -> Result<Doing, Stop>
-    ensures turns { Turns (inside machine.old (written_by (meaning machine.old.room) machine.old.context slot values.now)) (seen world.old) steps.old result machine.new (seen world.new) steps.new }
-    ensures small { Grows 6 machine.old.levels result machine.new }
+    ensures turns { Turns (inside machine.old (written_by (meaning machine.old.room) machine.old.context slot (map value_of values.now))) (seen world.old) steps.old result machine.new (seen world.new) steps.new }
+    ensures small { Grows value_weight machine.old.levels result machine.new }
     ensures fewer { steps.new ≤ steps.old }
 {
-    match two(values.as_slice()) {
+    match two(values) {
         None => Err(Stop::Refused(plain(alloc, ConditionKind::ProgramError))),
         Some((new, object)) => match instance_in(alloc, object) {
             Ok(id) => {
@@ -164,7 +164,7 @@ pub fn call_slot_function(
     steps: &mut u64,
 ) -> Result<Doing, Stop>
     ensures turns { Turns (inside machine.old (slot_called (meaning machine.old.room) machine.old.context function values.now)) (seen world.old) steps.old result machine.new (seen world.new) steps.new }
-    ensures small { Grows 6 machine.old.levels result machine.new }
+    ensures small { Grows value_weight machine.old.levels result machine.new }
     ensures fewer { steps.new ≤ steps.old }
 {
     match two(values.as_slice()) {
@@ -187,7 +187,7 @@ fn answer(
     steps: &mut u64,
 ) -> Result<Doing, Stop>
     ensures turns { Turns (inside machine.old (slot_answer (meaning machine.old.room) machine.old.context function id.0 name)) (seen world.old) steps.old result machine.new (seen world.new) steps.new }
-    ensures small { Grows 6 machine.old.levels result machine.new }
+    ensures small { Grows value_weight machine.old.levels result machine.new }
     ensures fewer { steps.new ≤ steps.old }
 {
     match function {
@@ -218,7 +218,7 @@ fn read(
     name: &Name,
 ) -> Result<Doing, Stop>
     ensures leads { Leads (inside machine.now (λ w. slot_read (meaning machine.now.room) machine.now.context id.0 name.now (slot_found w.store id.0 name.now) w)) (seen world.now) result machine.now }
-    ensures small { Grows 6 machine.now.levels result machine.now }
+    ensures small { Grows value_weight machine.now.levels result machine.now }
 {
     let _ = machine;
     match world.store.slot(id, name) {
@@ -237,7 +237,7 @@ fn read(
 }
 
 /// Whether a slot has a value.
-#[tactic(auto, using(clos_machine::proofs::Turns::grows_5_6))]
+#[tactic(auto, using(clos_machine::proofs::Turns::grows_more))]
 fn test(
     alloc: Global,
     machine: &mut Machine,
@@ -246,7 +246,7 @@ fn test(
     name: &Name,
 ) -> Result<Doing, Stop>
     ensures leads { Leads (inside machine.old (λ w. slot_tested (meaning machine.old.room) machine.old.context id.0 name.now (slot_found w.store id.0 name.now) w)) (seen world.now) result machine.new }
-    ensures small { Grows 6 machine.old.levels result machine.new }
+    ensures small { Grows value_weight machine.old.levels result machine.new }
 {
     match world.store.slot(id, name) {
         None => {
@@ -265,7 +265,7 @@ fn test(
 /// Whether the class of an instance has such a slot.
 fn exists(machine: &Machine, world: &World, id: InstanceId, name: &Name) -> Doing
     ensures leads { Leads (inside machine.now (λ w s. Gave (truth (has_slot w.classes (class_of_instance w id.0) name.now)) w s)) (seen world.now) (Ok result) machine.now }
-    ensures small { Grows 6 machine.now.levels (Ok result) machine.now }
+    ensures small { Grows value_weight machine.now.levels (Ok result) machine.now }
 {
     let _ = machine;
     Doing::Give(truth(has_slot(world, id, name)))
@@ -292,7 +292,7 @@ fn change(
     steps: &mut u64,
 ) -> Result<Doing, Stop>
     ensures turns { Turns (inside machine.old (λ w. slot_changed (meaning machine.old.room) machine.old.context id.0 name (option_map value_of value) (value_of given) (slot_found w.store id.0 name) w)) (seen world.old) steps.old result machine.new (seen world.new) steps.new }
-    ensures small { Grows 6 machine.old.levels result machine.new }
+    ensures small { Grows value_weight machine.old.levels result machine.new }
     ensures fewer { steps.new ≤ steps.old }
 {
     if world.store.slot(id, &name).is_none() {
@@ -307,7 +307,7 @@ fn change(
 }
 
 /// Slot-missing is called in place of the change of a slot, and then this value is given.
-#[tactic(auto, using(clos_machine::proofs::Turns::grows_5_6, clos_machine::proofs::Turns::then_then))]
+#[tactic(auto, using(clos_machine::proofs::Turns::grows_more, clos_machine::proofs::Turns::then_then))]
 fn change_missing(
     alloc: Global,
     machine: &mut Machine,
@@ -318,7 +318,7 @@ fn change_missing(
     given: Value,
 ) -> Result<Doing, Stop>
     ensures leads { Leads (inside machine.old (slot_changed (meaning machine.old.room) machine.old.context id.0 name.now (option_map value_of value) (value_of given) None)) (seen world.now) result machine.new }
-    ensures small { Grows 6 machine.old.levels result machine.new }
+    ensures small { Grows value_weight machine.old.levels result machine.new }
 {
     match changed_arguments(alloc, world, id, name, value) {
         Err(_) => {
@@ -364,7 +364,7 @@ pub fn set_slot_value(
     steps: &mut u64,
 ) -> Result<Doing, Stop>
     ensures turns { Turns (inside machine.old (slot_set (meaning machine.old.room) machine.old.context values.now)) (seen world.old) steps.old result machine.new (seen world.new) steps.new }
-    ensures small { Grows 6 machine.old.levels result machine.new }
+    ensures small { Grows value_weight machine.old.levels result machine.new }
     ensures fewer { steps.new ≤ steps.old }
 {
     match three(values.as_slice()) {

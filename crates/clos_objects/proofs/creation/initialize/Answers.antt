@@ -5,29 +5,29 @@ use Rattle.clos_machine.specs.clos_world.World.{seen}
 use Rattle.clos_generic_core.specs.declared.system.SystemFunction.TheVariants.{InitializeInstance}
 use Rattle.clos_machine.specs.clos_meaning.Control.{keeping}
 use Rattle.clos_machine.specs.clos_meaning.GenericCalls.{invoked}
-use Rattle.clos_machine.specs.clos_meaning.Initialization.{initialized}
 use Rattle.clos_machine.specs.Machine.{at}
 use Rattle.clos_machine.specs.clos_meaning.Meaning.{meaning}
-use Rattle.clos_machine.specs.clos_meaning.Outcome.{then_do}
+use Rattle.clos_machine.specs.clos_meaning.Outcome.{gave, then_do}
 use Rattle.clos_machine.specs.declared.machine.Machine.{Machine}
-use Rattle.clos_objects.specs.Reached.{invalid_for_new}
-use Rattle.clos_objects.proofs.Making.{invalid_given, refused_initarg}
+use Rattle.clos_objects.proofs.Making.{invalid_new, new_given, valid_new}
 use Rattle.clos_objects.proofs.creation.initialize.Goals as goal
 
 pub returns-in-Some-clause-leads : goal.returns-in-Some-clause-leads
-returns-in-Some-clause-leads c = λ run w a h.
-    refused_initarg c.args.machine.now c.args.machine.now (meaning c.args.machine.now.room) c.args.class.0 c.args.initargs c.args.id.0
-    (invalid_for_new (seen c.args.world.now) c.args.class.0 c.args.id.0 c.args.effective.now.slots c.args.initargs) (value_of c.in-Some.name.now) c.args.world.now.classes c.refuse.result run w a
+returns-in-Some-clause-leads c =
+    invalid_new c.args.machine.now c.args.machine.now (meaning c.args.machine.now.room) c.args.class.0 c.args.effective.now c.args.initargs c.args.id.0 (seen c.args.world.now)
+    (value_of c.in-Some.name.now) c.refuse.result
     (c.in-Some.ensures
-    ∙ invalid_given (seen c.args.world.now) c.args.class.0 c.args.id.0 _ _ _ _ _ _ c.methods-methods.ensures c.in_ok-reached.ensures c.slots.ensures c.as_slice.ensures) c.refuse.ensures h
+    ∙ new_given c.args.machine.now c.args.machine.now (meaning c.args.machine.now.room) c.args.class.0 c.args.effective.now c.args.initargs c.args.id.0 (seen c.args.world.now) _ _ _ _ _
+    c.methods-methods.ensures c.in_ok-reached.ensures c.t.ensures c.slots.ensures c.as_slice.ensures) c.refuse.ensures
 
 pub returns-clause-leads : goal.returns-clause-leads
-returns-clause-leads c = λ run w a h.
+returns-clause-leads c =
     let m : Machine = c.args.machine.now in
-    c.invoke_under.ensures.leads run w refl (λ t.
-    ap (λ vs. then_do (invoked (meaning m.room) InitializeInstance vs (at m w) t) (λ u. keeping (meaning m.room) m.context c.new.result (instance c.args.id.0))) c.in_ok-push_first.ensures
-    ∙ ap (λ x. then_do (invoked (meaning m.room) InitializeInstance (instance c.args.id.0 ∷ c.args.initargs) (at m w) t) (λ u. keeping (meaning m.room) m.context x (instance c.args.id.0))) c.new.ensures
-    ∙ ap (λ o. initialized (meaning m.room) c.args.class.0 c.args.initargs c.args.id.0 o (at m w) t)
+    valid_new m c.invoke_under.new.machine (meaning m.room) c.args.class.0 c.args.effective.now c.args.initargs c.args.id.0 (seen c.args.world.now) c.invoke_under.result
     (c.in_default.ensures
-    ∙ invalid_given (seen c.args.world.now) c.args.class.0 c.args.id.0 _ _ _ _ _ _ c.methods-methods.ensures c.in_ok-reached.ensures c.slots.ensures c.as_slice.ensures)
-    ∙ h t)
+    ∙ new_given m m (meaning m.room) c.args.class.0 c.args.effective.now c.args.initargs c.args.id.0 (seen c.args.world.now) _ _ _ _ _
+    c.methods-methods.ensures c.in_ok-reached.ensures c.t.ensures c.slots.ensures c.as_slice.ensures)
+    (c.invoke_under.ensures.leads (λ u k. then_do (invoked (meaning m.room) InitializeInstance (instance c.args.id.0 ∷ c.args.initargs) u k) (λ v. gave (instance c.args.id.0)))
+    (seen c.args.world.now) refl (λ t.
+    ap (λ vs. then_do (invoked (meaning m.room) InitializeInstance vs (at m (seen c.args.world.now)) t) (λ u. keeping (meaning m.room) m.context c.new.result (instance c.args.id.0))) c.in_ok-push_first.ensures
+    ∙ ap (λ x. then_do (invoked (meaning m.room) InitializeInstance (instance c.args.id.0 ∷ c.args.initargs) (at m (seen c.args.world.now)) t) (λ u. keeping (meaning m.room) m.context x (instance c.args.id.0))) c.new.ensures))

@@ -1,8 +1,7 @@
-use Rattle.clos_machine.specs.Machine.{slots_left, subject_of}
+use Rattle.clos_machine.specs.Machine.{slots_left, subject_of, fill_with}
 use Rattle.std.proofs.Common.{ap, drop, refl, subst}
 use Rattle.lisp_data.specs.ValueView.{value_of}
 use Rattle.clos_machine.specs.clos_world.World.{seen}
-use Rattle.clos_machine.specs.clos_meaning.Filling.{fill_with}
 use Rattle.clos_machine.specs.clos_meaning.Meaning.{meaning}
 use Rattle.clos_machine.specs.clos_meaning.Outcome.{then_do}
 use Rattle.clos_objects.specs.Objects.{Finds, filler_in}

@@ -1,8 +1,0 @@
-use Rattle.clos_machine.specs.clos_world.Values.{only_value}
-use Rattle.clos_machine.specs.clos_world.World.{seen}
-use Rattle.clos_machine.proofs.Runs.{nothing_changed}
-use Rattle.clos_control.proofs.assignment.change_only.Goals as goal
-
-pub returns-in-None-clause-turns : goal.returns-in-None-clause-turns
-returns-in-None-clause-turns c =
-    nothing_changed c.args.machine.now c.args.primitive c.args.name.now (only_value c.args.values.now) c.plain.result (seen c.args.world.now) c.args.steps.now c.in-None.ensures c.plain.ensures

@@ -1,0 +1,174 @@
+//! Actions: what is called, set, read and changed with values that are there; and what methods do that have no forms.
+ghost use Rattle.std.specs.Prelude.{◌≡◌, ◌≤◌};
+ghost use Rattle.clos_machine.specs.clos_world.World.{seen};
+ghost use Rattle.clos_machine.specs.clos_meaning.Functions.{called, place_read, place_set};
+ghost use Rattle.clos_machine.specs.Machine.{access_of, acted, act_weight, action_weight, built_in_growth, Grows, inside, performed, Shrinks, Turns, value_weight};
+ghost use Rattle.clos_machine.specs.clos_meaning.Meaning.{meaning};
+
+use clos_calls::functions::{call, call_setter, compute};
+use clos_calls::next_methods::call_next_given;
+use clos_control::output::{end_line, print};
+use clos_machine::machine::{Action, BuiltIn, Doing, Machine, Target};
+use clos_machine::{Arguments, Callee, SlotFunction, Stop, Values, World, callee_named};
+use clos_objects::creation::{allocate, initialize, make_instance};
+use clos_objects::filling::{fill, fill_with};
+use clos_objects::system_methods::run_system_method;
+use clos_objects_core::class_functions::call_class_function;
+use clos_objects_core::find_method::call_find_method;
+use clos_objects_core::slots::{call_reader, call_slot_function, call_writer, set_slot_value};
+use clos_places::assignment::with_amount;
+use clos_places::places::{change_name, change_place, new_value, set_name};
+use lisp_data::Name;
+use std::alloc::Global;
+
+/// A function is called.
+#[tactic(auto, using(clos_machine::proofs::Turns::shrinks_by))]
+fn apply(
+    alloc: Global,
+    machine: &mut Machine,
+    world: &mut World,
+    name: &Name,
+    values: Values,
+    steps: &mut u64,
+) -> Result<Doing, Stop>
+    ensures turns { Turns (inside machine.old (called (meaning machine.old.room) machine.old.context name.now values)) (seen world.old) steps.old result machine.new (seen world.new) steps.new }
+    ensures small { Shrinks act_weight steps.old steps.new machine.old.levels result machine.new }
+    ensures fewer { steps.new ≤ steps.old }
+{
+    match callee_named(name) {
+        Callee::Output(output) => print(alloc, machine, world, output, &values, steps),
+        Callee::Terpri => end_line(alloc, machine, world, &values, steps),
+        Callee::Primitive(primitive) => compute(alloc, machine, world, primitive, &values),
+        Callee::MakeInstance => make_instance(alloc, machine, world, values, steps),
+        Callee::FindMethod => call_find_method(alloc, machine, world, &values),
+        Callee::ClassFunction(function) => {
+            call_class_function(alloc, machine, world, function, &values)
+        }
+        Callee::SlotFunction(function) => {
+            call_slot_function(alloc, machine, world, function, &values, steps)
+        }
+        Callee::Defined => call(alloc, machine, world, name, values),
+    }
+}
+
+/// A place is set with its arguments and the new value.
+#[tactic(auto, using(crate::proofs::Calling::turns_of_call))]
+fn set_place(
+    alloc: Global,
+    machine: &mut Machine,
+    world: &mut World,
+    target: &Target,
+    values: Values,
+    steps: &mut u64,
+) -> Result<Doing, Stop>
+    ensures turns { Turns (inside machine.old (place_set (meaning machine.old.room) machine.old.context (access_of target.now) values)) (seen world.old) steps.old result machine.new (seen world.new) steps.new }
+    ensures small { Grows value_weight machine.old.levels result machine.new }
+    ensures fewer { steps.new ≤ steps.old }
+{
+    match target {
+        Target::Call(name) => call_setter(alloc, machine, world, name, values),
+        Target::SlotValue => set_slot_value(alloc, machine, world, &values, steps),
+    }
+}
+
+/// A place is read with its arguments.
+#[tactic(auto, using(clos_machine::proofs::Turns::shrinks_by))]
+fn read_place(
+    alloc: Global,
+    machine: &mut Machine,
+    world: &mut World,
+    target: &Target,
+    values: Values,
+    steps: &mut u64,
+) -> Result<Doing, Stop>
+    ensures turns { Turns (inside machine.old (place_read (meaning machine.old.room) machine.old.context (access_of target.now) values)) (seen world.old) steps.old result machine.new (seen world.new) steps.new }
+    ensures small { Shrinks act_weight steps.old steps.new machine.old.levels result machine.new }
+    ensures fewer { steps.new ≤ steps.old }
+{
+    match target {
+        Target::Call(name) => apply(alloc, machine, world, name, values, steps),
+        Target::SlotValue => {
+            call_slot_function(
+                alloc,
+                machine,
+                world,
+                SlotFunction::SlotValue,
+                &values,
+                steps,
+            )
+        }
+    }
+}
+
+/// A method without forms runs on these arguments.
+#[tactic(auto, using(clos_machine::proofs::Runs::turns_of_leads, clos_machine::proofs::Turns::grows_more))]
+pub fn perform(
+    alloc: Global,
+    machine: &mut Machine,
+    world: &mut World,
+    method: BuiltIn,
+    arguments: &Arguments,
+    steps: &mut u64,
+) -> Result<Doing, Stop>
+    ensures turns { Turns (inside machine.old (performed (meaning machine.old.room) machine.old.context method arguments.now)) (seen world.old) steps.old result machine.new (seen world.new) steps.new }
+    ensures small { Grows built_in_growth machine.old.levels result machine.new }
+    ensures fewer { steps.new ≤ steps.old }
+{
+    match method {
+        BuiltIn::Reader(slot) => call_reader(alloc, machine, world, &slot, arguments.as_slice()),
+        BuiltIn::Writer(slot) => {
+            call_writer(alloc, machine, world, slot, arguments.as_slice(), steps)
+        }
+        BuiltIn::System(function) => {
+            run_system_method(alloc, machine, world, function, arguments)
+        }
+    }
+}
+
+/// An action is done with its values.
+#[tactic(auto, using(clos_machine::proofs::Runs::turns_of_leads, clos_machine::proofs::Turns::shrinks_by))]
+pub fn act(
+    alloc: Global,
+    machine: &mut Machine,
+    world: &mut World,
+    action: Action,
+    values: Values,
+    steps: &mut u64,
+) -> Result<Doing, Stop>
+    ensures turns { Turns (inside machine.old (acted (meaning machine.old.room) machine.old.context action values)) (seen world.old) steps.old result machine.new (seen world.new) steps.new }
+    ensures small { Shrinks (action_weight action) steps.old steps.new machine.old.levels result machine.new }
+    ensures fewer { steps.new ≤ steps.old }
+{
+    match action {
+        Action::Call(name) => apply(alloc, machine, world, &name, values, steps),
+        Action::Set(target) => set_place(alloc, machine, world, &target, values, steps),
+        Action::Store(name) => set_name(alloc, machine, world, &name, values, steps),
+        Action::Change(primitive, name) => {
+            change_name(alloc, machine, world, primitive, &name, values, steps)
+        }
+        Action::NewValue(target, form) => new_value(machine, target, &form, values),
+        Action::Amount(primitive, target, form) => {
+            with_amount(
+                machine,
+                Action::ChangePlace(primitive, target),
+                &form,
+                values,
+            )
+        }
+        Action::ChangePlace(primitive, target) => {
+            change_place(alloc, machine, primitive, target, values)
+        }
+        Action::Allocate(class, effective) => {
+            allocate(alloc, machine, world, class, effective, values, steps)
+        }
+        Action::Initialize(class, effective, id) => {
+            initialize(alloc, machine, world, class, &effective, id, values)
+        }
+        Action::Fill(filling) => fill(alloc, machine, world, filling, steps),
+        Action::FillWith(filling, value) => {
+            fill_with(alloc, machine, world, filling, value, steps)
+        }
+        Action::Read(target) => read_place(alloc, machine, world, &target, values, steps),
+        Action::CallNext => call_next_given(alloc, machine, world, values),
+    }
+}
