@@ -29,24 +29,29 @@ takes_effect value u = step_then (λ w k. Gave value u k)
 
 -- ---- defmethod
 
+-- with the values of the eql forms, which may refuse it too; the method is given
 abbrev pub method_made : FunctionName → MethodDefinition → List (Option Val) → Run
 method_made name m vs w k =
     unless (method_refusal name m (Some vs) w) (takes_effect (method (length w.generics.methods)) (with_defined_method name m vs w)) w k
 
+-- the eql forms are evaluated only where nothing stands against it without their values
 abbrev pub define_method : FunctionName → MethodDefinition → Run
 define_method name m w k = unless (method_refusal name m None w) (forms_evaluated (map eql_form m.specializers) [] (method_made name m)) w k
 
 -- ---- defgeneric
 
+-- with the values of the eql forms of its own methods; the generic function is given
 abbrev pub generic_made : GenericDefinition → List (Option Val) → Run
 generic_made d vs w k =
     unless (generic_refusal d (Some vs) w) (takes_effect (generic (number w.generics d.name)) (with_defined_generic d vs w)) w k
 
+-- the eql forms of its :method options, in order, where nothing stands against it without their values
 abbrev pub define_generic : GenericDefinition → Run
 define_generic d w k = unless (generic_refusal d None w) (forms_evaluated (eql_forms d.methods) [] (generic_made d)) w k
 
 -- ---- defclass
 
+-- with the values of the initforms of its shared slots, evaluated this once; the class is given
 abbrev pub class_made : ClassDefinition → List (Option Val) → Run
 class_made d vs w k = unless (class_refusal d (length vs) w) (takes_effect (class (class_number d w)) (with_defined_class d vs w)) w k
 
@@ -61,23 +66,29 @@ define_class d (Some n) w k = stopped Unsupported [] w k
 
 -- ---- remove-method: both forms are evaluated first
 
+-- the function is given, also where the method is not one of its own
 abbrev pub removed_if : Val → Result (ℕ × ℕ) Condition → Run
 removed_if function (Err c) w k = Stopped c w k
 removed_if function (Ok p) w k = takes_effect function (with_removed p.0 p.1 w) w k
 
+-- a value of a wrong type, or a method of the system, is a condition, and takes no step
 abbrev pub method_removed : Val → Val → Run
 method_removed function m w k = removed_if function (removable function m) w k
 
+-- the value that a form gave; NIL where there was no form
 abbrev pub object_in : Option (Option Val) → Val
 object_in None = list nil
 object_in (Some None) = list nil
 object_in (Some (Some v)) = v
 
+-- by the place of its form among those that were evaluated
 abbrev pub value_at : List (Option Val) → ℕ → Val
 value_at vs n = object_in (slice_get vs n)
 
+-- the value of the first form is the function, that of the second the method
 abbrev pub values_removed : List (Option Val) → Run
 values_removed vs w k = method_removed (value_at vs 0) (value_at vs 1) w k
 
+-- from left to right, each form by itself
 abbrev pub remove_method : Frm → Frm → Run
 remove_method function m w k = forms_evaluated (Some function ∷ Some m ∷ []) [] values_removed w k

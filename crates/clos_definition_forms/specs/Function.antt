@@ -16,9 +16,11 @@ use Rattle.clos_machine.specs.clos_meaning.Outcome.{Gave, Run, stopped, step_the
 abbrev pub has_room : State → Bool
 has_room w = nat_lt (length w.functions + length w.setters) w.limits.functions
 
+-- the symbol names this function from now on, and is given
 abbrev pub function_defined : Nam → Function → Run
 function_defined name f w k = Gave (name_value name) (record w { functions = with_function name f w.functions }) k
 
+-- the same of a function (setf name); that list is given
 abbrev pub setter_defined : Nam → Function → Run
 setter_defined name f w k = Gave (setter_value name) (record w { setters = with_function name f w.setters }) k
 
@@ -29,12 +31,14 @@ new_function_defined name f w k =
     else if is_some (function_in w.functions name) || has_room w then step_then (function_defined name f) w k
     else stopped TableLimit [] w k
 
+-- the same of a function (setf name); functions of both kinds count towards the one limit
 abbrev pub new_setter_defined : Nam → Function → Run
 new_setter_defined name f w k =
     if is_some (named w.generics (Setf name)) then stopped ProgramError [] w k
     else if is_some (function_in w.setters name) || has_room w then step_then (setter_defined name f) w k
     else stopped TableLimit [] w k
 
+-- by what names it: a symbol, or (setf symbol)
 abbrev pub define_function : FunctionName → Function → Run
 define_function (Symbol name) f w k = new_function_defined name f w k
 define_function (Setf name) f w k = new_setter_defined name f w k

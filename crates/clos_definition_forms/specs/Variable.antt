@@ -22,6 +22,7 @@ abbrev pub keeps_value : State → Definer → Nam → Bool
 keeps_value w DefVar name = is_some (global_value w.globals name)
 keeps_value w DefParameter name = false
 
+-- the name is given, and nothing is changed
 abbrev pub named : Nam → Run
 named name w k = Gave (name_value name) w k
 
@@ -30,16 +31,20 @@ abbrev pub declared : Nam → Run
 declared name w k =
     if is_global w.globals name then named name w k else Gave (name_value name) (record w { globals = with_global name None w.globals }) k
 
+-- the variable has this value, whether it was there or not; its name is given
 abbrev pub value_given : Nam → Val → Run
 value_given name v w k = Gave (name_value name) (record w { globals = with_global name (Some v) w.globals }) k
 
+-- the form is evaluated first; where that ends with a condition, the definition has no effect
 abbrev pub given_value : Nam → Frm → Run
 given_value name f w k = then_do (evaluation (room_below w) f w k) (λ v. step_then (value_given name v))
 
+-- a defvar alone may be without a form: there is the variable then, but no value
 abbrev pub new_value : Nam → Option Frm → Run
 new_value name None w k = step_then (declared name) w k
 new_value name (Some f) w k = given_value name f w k
 
+-- a new variable needs room in the table; a defvar that leaves the value evaluates no form
 abbrev pub variable_defined : VariableDefinition → Run
 variable_defined d w k =
     if is_global w.globals d.name || nat_lt (length w.globals) w.limits.globals

@@ -17,9 +17,11 @@ abbrev pub with_local : Nam → Val → List Local → List Local
 with_local name v [] = []
 with_local name v (l ∷ ls) = if same_name l.0 name then (l.0, held v) ∷ ls else l ∷ with_local name v ls
 
+-- the global variable of this name has this value, which is given
 abbrev pub global_set : Nam → Val → Run
 global_set name v w s = Gave v (record w { globals = with_global name (Some v) w.globals }) s
 
+-- where no lexical variable has the name; an assignment makes no new variable: UNBOUND-VARIABLE
 abbrev pub stored_globally : Nam → Val → Run
 stored_globally name v w s = if is_global w.globals name then step_then (global_set name v) w s else stopped UnboundVariable (name_value name ∷ []) w s
 
@@ -28,6 +30,7 @@ abbrev pub stored : Nam → Val → Run
 stored name v w s =
     if is_some (local_named w.locals name) then Gave v (bound_as (with_local name v w.locals) w) s else stored_globally name v w s
 
+-- the same of the one value that is there; where there is none, or more, PROGRAM-ERROR
 abbrev pub stored_only : Nam → Option Val → Run
 stored_only name None w s = stopped ProgramError [] w s
 stored_only name (Some v) w s = stored name v w s
@@ -40,6 +43,7 @@ made_of p name amount w s = then_do (variable_value name (found_value w name) w 
 abbrev pub changed : Primitive → Nam → Val → Run
 changed p name amount w s = then_do (made_of p name amount w s) (λ v. stored name v)
 
+-- the same by the one amount that is there; where there is none, or more, PROGRAM-ERROR
 abbrev pub changed_only : Primitive → Nam → Option Val → Run
 changed_only p name None w s = stopped ProgramError [] w s
 changed_only p name (Some amount) w s = changed p name amount w s

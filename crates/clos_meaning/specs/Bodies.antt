@@ -13,6 +13,7 @@ use Rattle.clos_meaning.specs.declared.arguments.Context.{Context}
 abbrev pub restoring : List Local → Val → Run
 restoring locals v w s = Gave v (bound_as locals w) s
 
+-- what runs sees these alone; those from before come back with a value, but not after a condition
 abbrev pub scoped : Run → List Local → Run
 scoped run locals w s = then_do (run (bound_as locals w) s) (restoring w.locals)
 

@@ -12,10 +12,12 @@ use Rattle.clos_meaning.specs.declared.callee.SlotFunction as of_slots
 use Rattle.clos_meaning.specs.declared.callee.SlotFunction.TheVariants.{SlotValue, SlotBoundp, SlotMakunbound, SlotExistsP}
 use Rattle.clos_meaning.specs.declared.callee.Output.TheVariants.{Princ, Prin1, Print}
 
+-- a function of values, where the name is that of one; else what the program or the system may have defined
 abbrev pub value_function : Option of_values.Primitive → Callee
 value_function None = Defined
 value_function (Some p) = Primitive p
 
+-- class-of, class-name, find-class and typep; and class-precedence-list, which the standard does not have
 abbrev pub class_function_of : Nam → Option of_classes.ClassFunction
 class_function_of name =
     if is_called (codes "CLASS-OF") name then Some ClassOf
@@ -25,10 +27,12 @@ class_function_of name =
     else if is_called (codes "TYPEP") name then Some Typep
     else None
 
+-- where the name is that of no function of classes, what it calls otherwise
 abbrev pub class_function : Option of_classes.ClassFunction → Callee → Callee
 class_function None other = other
 class_function (Some f) other = ClassFunction f
 
+-- slot-value, slot-boundp, slot-makunbound and slot-exists-p (7.7)
 abbrev pub slot_function_of : Nam → Option of_slots.SlotFunction
 slot_function_of name =
     if is_called (codes "SLOT-VALUE") name then Some SlotValue
@@ -37,6 +41,7 @@ slot_function_of name =
     else if is_called (codes "SLOT-EXISTS-P") name then Some SlotExistsP
     else None
 
+-- where the name is that of no function of slots, a function of values or a defined one
 abbrev pub slot_function : Option of_slots.SlotFunction → Nam → Callee
 slot_function None name = value_function (primitive_of name)
 slot_function (Some f) name = SlotFunction f

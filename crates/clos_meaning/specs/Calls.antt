@@ -27,6 +27,7 @@ use Rattle.clos_meaning.specs.declared.arguments.Context.{Context}
 
 -- ---- functions of the program's
 
+-- the body runs where the arguments fit the lambda list (3.5.1); else PROGRAM-ERROR, before any is bound
 abbrev pub applied_to : Eval → List Val → Function → Run
 applied_to ev vs f w s = if fits f.lambda_list vs then body_run ev (known vs) (sources f.lambda_list vs) f.body w s else stopped ProgramError [] w s
 
@@ -37,6 +38,7 @@ called_defined ev vs name (Some f) w s = applied_to ev vs f w s
 
 -- ---- functions by their symbols
 
+-- the generic function of this name, else what a defun defined: no name has both
 abbrev pub called_function : Eval → Nam → List Val → Option ℕ → Run
 called_function ev name vs None w s = called_defined ev vs (name_value name) (function_in w.functions name) w s
 called_function ev name vs (Some g) w s = called_generic ev vs g (slice_get w.generics.functions g) w s
@@ -55,6 +57,7 @@ method_body_run ev env (Reader slot) w s = read_by ev env slot env.arguments w s
 method_body_run ev env (Writer slot) w s = written_by ev env slot env.arguments w s
 method_body_run ev env (System f) w s = system_method_run ev f env.arguments w s
 
+-- the method that was found by its number; where there is none, PROGRAM-ERROR
 abbrev pub method_run : Eval → Context → Option Method → Run
 method_run ev env None w s = stopped ProgramError [] w s
 method_run ev env (Some m) w s = method_body_run ev env m.body w s
@@ -76,5 +79,6 @@ abbrev pub called_setter_by : Eval → Nam → List Val → Option ℕ → Run
 called_setter_by ev name vs None w s = called_defined ev vs (setter_value name) (function_in w.setters name) w s
 called_setter_by ev name vs (Some g) w s = called_generic ev vs g (slice_get w.generics.functions g) w s
 
+-- the values come as they were evaluated: those of the subforms of the place, and the new one last
 abbrev pub called_setter : Eval → Nam → List Val → Run
 called_setter ev name vs w s = called_setter_by ev name (last_first vs) (named w.generics (Setf name)) w s

@@ -41,6 +41,7 @@ branch_by ev env fs v w s = branch ev env (is_true v) fs w s
 abbrev pub where_true : Eval → Context → Frms → Val → Run
 where_true ev env fs v w s = if is_true v then sequence ev env fs (list nil) w s else Gave (list nil) w s
 
+-- the same turned round, for unless: these forms where a value is NIL, and NIL where it is not
 abbrev pub where_false : Eval → Context → Frms → Val → Run
 where_false ev env fs v w s = if is_true v then Gave (list nil) w s else sequence ev env fs (list nil) w s
 
@@ -48,6 +49,7 @@ where_false ev env fs v w s = if is_true v then Gave (list nil) w s else sequenc
 abbrev pub and_then : Eval → Context → Frms → Val → Run
 and_then ev env fs v w s = if is_true v then while_true ev env fs v w s else Gave v w s
 
+-- a true value ends or: it is given, and the forms after it are not evaluated
 abbrev pub or_then : Eval → Context → Frms → Val → Run
 or_then ev env fs v w s = if is_true v then Gave v w s else until_true ev env fs v w s
 
@@ -62,10 +64,12 @@ first_then ev env (form.cons f fs) go v w s = then_do (ev env f w s) (λ u. go f
 abbrev pub tested : Eval → Context → Frms → Run → Val → Run
 tested ev env fs rest v w s = if is_true v then sequence ev env fs v w s else rest w s
 
+-- the test of one clause is evaluated; the clauses after it are come to only where it does not hold
 abbrev pub clause : Eval → Context → Frms → Run → Run
 clause ev env form.nil rest w s = Gave (list nil) w s
 clause ev env (form.cons f fs) rest w s = then_do (ev env f w s) (λ v. tested ev env fs rest v)
 
+-- one after another; NIL where the test of none holds
 abbrev pub clauses : Eval → Context → Frms → Run
 clauses ev env form.nil w s = Gave (list nil) w s
 clauses ev env (form.cons c cs) w s = clause ev env (parts_in c) (λ t k. clauses ev env cs t k) w s

@@ -21,6 +21,7 @@ use Rattle.clos_meaning.specs.declared.callee.Callee.{Callee}
 use Rattle.clos_meaning.specs.declared.callee.Callee.TheVariants.{Output, Terpri, Primitive, MakeInstance, FindMethod, ClassFunction, SlotFunction, Defined}
 use Rattle.clos_meaning.specs.declared.callee.SlotFunction.TheVariants.{SlotValue}
 
+-- what the function does with the values of its arguments; a defined one is found by its name
 abbrev pub applied : Eval → Context → Callee → Nam → List Val → Run
 applied ev env (Output o) name vs w s = output_of o (only_value vs) w s
 applied ev env Terpri name vs w s = line_ended vs w s
@@ -31,6 +32,7 @@ applied ev env (ClassFunction f) name vs w s = comes_to (class_answer f w.classe
 applied ev env (SlotFunction f) name vs w s = slot_called ev env f vs w s
 applied ev env Defined name vs w s = called_function ev name vs (named w.generics (Symbol name)) w s
 
+-- the function is looked up after its arguments were evaluated
 abbrev pub called : Eval → Context → Nam → List Val → Run
 called ev env name vs w s = applied ev env (callee_of name) name vs w s
 
@@ -41,10 +43,12 @@ pub data Access : Type 0 where
   slot_access : Access
   call_access : Nam → Access
 
+-- the value of the place, as its form would give it with these values of its subforms
 abbrev pub place_read : Eval → Context → Access → List Val → Run
 place_read ev env (call_access name) vs w s = called ev env name vs w s
 place_read ev env slot_access vs w s = slot_called ev env SlotValue vs w s
 
+-- the new value comes last; given is what the function (setf name) gives, or the new value of the slot
 abbrev pub place_set : Eval → Context → Access → List Val → Run
 place_set ev env (call_access name) vs w s = called_setter ev name vs w s
 place_set ev env slot_access vs w s = slot_set ev env vs w s

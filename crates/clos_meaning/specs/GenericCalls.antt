@@ -28,6 +28,7 @@ use Rattle.clos_meaning.specs.declared.arguments.Context.{Context}
 abbrev pub after_positional : Shape → List Val → List Val
 after_positional s vs = drop (s.required + s.optional) vs
 
+-- a symbol, where it is accepted as a name (7.6.5); another value in the place of a name never is
 abbrev pub is_accepted : Table → ℕ → List ℕ → Option Nam → Bool
 is_accepted t g ms None = false
 is_accepted t g ms (Some name) = accepts t g ms name
@@ -38,9 +39,11 @@ are_accepted t g ms [] = true
 are_accepted t g ms (k ∷ []) = true
 are_accepted t g ms (k ∷ (v ∷ vs)) = is_accepted t g ms (symbol_in k) && are_accepted t g ms vs
 
+-- pairs, of which each name is accepted, unless a lambda list or the call itself allows all names
 abbrev pub keys_fit : Table → ℕ → List ℕ → List Val → Bool
 keys_fit t g ms vs = are_pairs vs && (allows_all t g ms || (is_allowing vs || are_accepted t g ms vs))
 
+-- nothing is checked where neither the function nor one of the methods has &key
 abbrev pub keywords_fit : Table → ℕ → List ℕ → List Val → Bool
 keywords_fit t g ms vs = not (checks_keywords t g ms) || keys_fit t g ms vs
 
@@ -66,6 +69,7 @@ matched_or ev vs g f other (m ∷ ms) w s = matched ev vs g f (m ∷ ms) w s
 
 -- ---- no-applicable-method, whose own method takes any arguments
 
+-- it is called like any generic function: the program may have methods on it
 abbrev pub unmatched_by : Eval → List Val → Option Function → Run
 unmatched_by ev vs None w s = stopped ProgramError [] w s
 unmatched_by ev vs (Some f) w s =

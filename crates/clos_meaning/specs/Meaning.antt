@@ -37,6 +37,7 @@ abbrev pub collect : Eval → Context → Frms → List Val → (List Val → Ru
 collect ev env form.nil vs go w s = go vs w s
 collect ev env (form.cons f fs) vs go w s = then_do (ev env f w s) (λ v. collect ev env fs (vs ++ v ∷ []) go)
 
+-- a single form, where several could stand
 abbrev pub alone : Frm → Frms
 alone f = form.cons f form.nil
 
@@ -51,6 +52,7 @@ with_amount ev env (form.cons f fs) vs go w s = collect ev env (form.cons f fs) 
 abbrev pub set_place : Eval → Context → Access → List Val → Val → Run
 set_place ev env t vs v w s = then_do (place_set ev env t (vs ++ v ∷ []) w s) (λ u. gave v)
 
+-- the place had the old value: it gets what the function makes of that and the amount
 abbrev pub changed_from : Eval → Context → Primitive → Access → List Val → Val → Val → Run
 changed_from ev env p t vs amount old w s = then_do (answered (answer p (old ∷ amount ∷ [])) w s) (λ v. set_place ev env t vs v)
 
@@ -78,11 +80,13 @@ place_changed_by ev env p a fs vs w s = with_amount ev env fs vs (λ us u k. cha
 
 -- ---- setq, setf, incf and decf: assignments one after another, of which the last gives the value
 
+-- each variable is set before the next form is evaluated; this value is given where no more are left
 abbrev pub setq : Eval → Context → List Nam → Frms → Val → Run
 setq ev env [] fs v w s = Gave v w s
 setq ev env (n ∷ ns) form.nil v w s = stopped ProgramError [] w s
 setq ev env (n ∷ ns) (form.cons f fs) v w s = then_do (collect ev env (alone f) [] (name_stored ev env n) w s) (λ u. setq ev env ns fs u)
 
+-- the place that a form is, where setf, incf or decf has it; other forms are none
 abbrev pub place_in : Opr → Option Plc
 place_in (of.place p) = Some p
 place_in o = None
@@ -94,6 +98,7 @@ assigned ev env (Some (variable_place n)) ps f w s = collect ev env (alone f) []
 assigned ev env (Some slot_value_place) ps f w s = collect ev env ps [] (place_set_to ev env slot_access f) w s
 assigned ev env (Some (call_place n)) ps f w s = collect ev env ps [] (place_set_to ev env (call_access n) f) w s
 
+-- the same of places, each form of a new value after the subforms of its place
 abbrev pub setf : Eval → Context → Frms → Val → Run
 setf ev env form.nil v w s = Gave v w s
 setf ev env (form.cons p form.nil) v w s = stopped ProgramError [] w s
@@ -106,6 +111,7 @@ changed_by ev env p (Some (variable_place n)) ps fs w s = with_amount ev env fs 
 changed_by ev env p (Some slot_value_place) ps fs w s = collect ev env ps [] (place_changed_by ev env p slot_access fs) w s
 changed_by ev env p (Some (call_place n)) ps fs w s = collect ev env ps [] (place_changed_by ev env p (call_access n) fs) w s
 
+-- incf with the sum, decf with the difference; the first form is the place, and the amount may follow
 abbrev pub changing : Eval → Context → Primitive → Frms → Run
 changing ev env p form.nil w s = stopped ProgramError [] w s
 changing ev env p (form.cons place fs) w s = changed_by ev env p (place_in (operator_in place)) (parts_in place) fs w s
@@ -117,23 +123,28 @@ abbrev pub other_function : Bool → Val → Run
 other_function true name w s = stopped Unsupported [] w s
 other_function false name w s = stopped UndefinedFunction (name ∷ []) w s
 
+-- a function of the language, or one that a defun defined
 abbrev pub is_plain_function : State → Nam → Bool
 is_plain_function w name = is_one_of functions name || is_some (function_in w.functions name)
 
+-- of #'name: the generic function of that name, or one of the conditions above
 abbrev pub symbol_function : Nam → Option ℕ → Run
 symbol_function name None w s = other_function (is_plain_function w name) (name_value name) w s
 symbol_function name (Some g) w s = Gave (generic g) w s
 
+-- of #'(setf name): the same; a defun alone makes a function of such a name that is not generic
 abbrev pub setter_function : Nam → Option ℕ → Run
 setter_function name None w s = other_function (is_some (function_in w.setters name)) (setter_value name) w s
 setter_function name (Some g) w s = Gave (generic g) w s
 
+-- by what the form names: a symbol, or (setf symbol)
 abbrev pub function_value : Called → Run
 function_value (by_symbol name) w s = symbol_function name (named w.generics (Symbol name)) w s
 function_value (by_setf name) w s = setter_function name (named w.generics (Setf name)) w s
 
 -- ---- call-next-method: without forms, with the arguments with which the method was called
 
+-- where there are forms, their values are the arguments of the next method instead
 abbrev pub next_method : Eval → Context → Frms → Run
 next_method ev env form.nil w s = next_called ev env env.running env.arguments w s
 next_method ev env (form.cons f fs) w s = collect ev env (form.cons f fs) [] (next_with ev env) w s
@@ -169,6 +180,7 @@ operated ev env of.next_method_p ps w s = Gave (truth (has_next env.running)) w 
 operated ev env (of.call name) ps w s = collect ev env ps [] (called ev env name) w s
 operated ev env (of.call_method m ns) ps w s = method_called ev env m ns ps w s
 
+-- what a form gives once its own step is taken: what its operator does with its parts
 abbrev pub body : Eval → Context → Frm → Run
 body ev env f w s = operated ev env (operator_in f) (parts_in f) w s
 

@@ -20,6 +20,7 @@ use Rattle.clos_meaning.specs.declared.arguments.Running.{Running}
 
 -- ---- next-method-p
 
+-- whether the method that runs has a next one; what runs outside of a method has none
 abbrev pub has_next : Option Running → Bool
 has_next None = false
 has_next (Some r) = not (is_empty r.next)
@@ -36,6 +37,7 @@ abbrev pub next_run : Eval → Context → Running → List Callable → List Va
 next_run ev env r [] vs w s = none_next ev env.call r.method.0 vs w s
 next_run ev env r (n ∷ ns) vs w s = method_called ev (with_arguments vs env) n ns r.forms w s
 
+-- with the arguments of the method itself, which need no check; outside of a method it is PROGRAM-ERROR
 abbrev pub next_called : Eval → Context → Option Running → List Val → Run
 next_called ev env None vs w s = stopped ProgramError [] w s
 next_called ev env (Some r) vs w s = next_run ev env r r.next vs w s
@@ -49,10 +51,12 @@ next_by ev env r d (Some f) vs w s =
     (if bytes_eq (ordered w d.generic vs) d.methods then next_run ev env r r.next vs w s else stopped NextArguments (method r.method.0 ∷ []) w s)
     else stopped ProgramError [] w s
 
+-- by the call of a generic function for which the method runs; where there is none, PROGRAM-ERROR
 abbrev pub next_in : Eval → Context → Running → Option Dispatch → List Val → Run
 next_in ev env r None vs w s = stopped ProgramError [] w s
 next_in ev env r (Some d) vs w s = next_by ev env r d (slice_get w.generics.functions d.generic) vs w s
 
+-- with other arguments, which are checked; outside of a method it is PROGRAM-ERROR
 abbrev pub next_given : Eval → Context → Option Running → List Val → Run
 next_given ev env None vs w s = stopped ProgramError [] w s
 next_given ev env (Some r) vs w s = next_in ev env r env.call vs w s

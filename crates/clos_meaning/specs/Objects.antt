@@ -11,6 +11,7 @@ use Rattle.clos_world.specs.declared.condition.Condition.{Condition}
 use Rattle.clos_world.specs.declared.condition.ConditionKind.TheVariants.{TypeError, UndefinedClass, Unsupported}
 use Rattle.clos_meaning.specs.ClassFunctions.{incomplete_class}
 
+-- a class without a class precedence list is not complete; the condition tells its name
 abbrev pub if_complete : ℕ → Option Nam → Option (List ℕ) → Result ℕ Condition
 if_complete n name None = Err (incomplete_class name)
 if_complete n name (Some l) = Ok n
@@ -19,6 +20,7 @@ if_complete n name (Some l) = Ok n
 abbrev pub instantiable : Table → ℕ → Result ℕ Condition
 instantiable cs n = if is_standard cs.table n then if_complete n (class_name cs n) (precedence cs n) else Err (record { kind = Unsupported; items = [] })
 
+-- the class that a symbol names; where it names none, UNDEFINED-CLASS
 abbrev pub class_found : Table → Nam → Option ℕ → Result ℕ Condition
 class_found cs name None = Err (record { kind = UndefinedClass; items = name_value name ∷ [] })
 class_found cs name (Some n) = instantiable cs n

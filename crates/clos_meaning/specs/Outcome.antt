@@ -33,9 +33,11 @@ then_do (Gave v w s) go = go v w s
 then_do (Stopped c w s) go = Stopped c w s
 then_do (Noted n o) go = Noted n (then_do o go)
 
+-- a value at once: the state stays, and no step is taken
 abbrev pub gave : Val → Run
 gave v w s = Gave v w s
 
+-- a condition of this kind, about these values; what was done before stays done
 abbrev pub stopped : ConditionKind → List Val → Run
 stopped kind items w s = Stopped (record { kind = kind; items = items }) w s
 

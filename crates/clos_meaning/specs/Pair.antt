@@ -9,10 +9,12 @@ use Rattle.clos_world.specs.World.{State, class_of}
 abbrev pub Spot : Type 0
 Spot = ℕ × Option Val
 
+-- one such use: the number of the function, and what counts of each argument
 pub record Pair : Type 0 where
   pub generic : ℕ
   pub places : List Spot
 
+-- of these arguments, the first of which is that of the required parameter at this place
 abbrev pub spots : State → ℕ → ℕ → List Val → List Spot
 spots w g i [] = []
 spots w g i (v ∷ vs) = (class_of w v, if has_eql w.generics g i v then Some v else None) ∷ spots w g (suc i) vs

@@ -15,15 +15,19 @@ use Rattle.clos_meaning.specs.declared.arguments.Context.{Context}
 
 -- ---- with-slots: the first form gives an object, for whose slots the names stand in the body
 
+-- a name with the slot for which it stands; whether the object has it is asked when it is used
 abbrev pub slot_local : Val → BoundSlot → Local
 slot_local object b = (b.variable, in_slot b.slot object)
 
+-- all of one object, whose form was evaluated once
 abbrev pub slot_locals : List BoundSlot → Val → List Local
 slot_locals bs object = map (slot_local object) bs
 
+-- in the body these names hide all that are like them, global variables too; after it they are gone
 abbrev pub within_slots : Eval → Context → List BoundSlot → Frms → Val → Run
 within_slots ev env bs fs object w s = within ev env (length w.locals) fs (list nil) (bound_as (slot_locals bs object ++ w.locals) w) s
 
+-- the form of the object is evaluated outside of the names
 abbrev pub with_slots : Eval → Context → List BoundSlot → Frms → Run
 with_slots ev env bs fs w s = init_form ev env fs (λ rest object. within_slots ev env bs rest object) w s
 
@@ -35,6 +39,7 @@ slot_place None = None
 slot_place (Some (held v)) = None
 slot_place (Some (in_slot slot object)) = Some (object ∷ name_value slot ∷ [])
 
+-- none where the innermost of this name is a variable, or where there is no such lexical name
 abbrev pub place_denoted : State → Nam → Option (List Val)
 place_denoted w name = slot_place (local_named w.locals name)
 
@@ -43,6 +48,7 @@ abbrev pub name_read : Eval → Context → Nam → Option (List Val) → Run
 name_read ev env name None w s = variable_value name (found_value w name) w s
 name_read ev env name (Some place) w s = place_read ev env slot_access place w s
 
+-- the same, where it is set: the new value follows the arguments of the place
 abbrev pub name_set : Eval → Context → Nam → Option (List Val) → List Val → Run
 name_set ev env name None vs w s = stored_only name (only_value vs) w s
 name_set ev env name (Some place) vs w s = place_set ev env slot_access (place ++ vs) w s

@@ -23,18 +23,22 @@ use Rattle.clos_meaning.specs.declared.callee.SlotFunction.TheVariants.{SlotValu
 
 -- ---- an instance and the name of a slot
 
+-- an instance that make-instance made; any other value has no slots, and is of a wrong type
 abbrev pub instance_in : Val → Result ℕ Condition
 instance_in (instance i) = Ok i
 instance_in v = Err (wrong_type v)
 
+-- a slot is named by a symbol; another value is of a wrong type
 abbrev pub slot_by : ℕ → Val → Option Nam → Result (ℕ × Nam) Condition
 slot_by i v None = Err (wrong_type v)
 slot_by i v (Some name) = Ok (i, name)
 
+-- the instance is looked at before the name, so its condition comes first
 abbrev pub slot_of : Result ℕ Condition → Val → Result (ℕ × Nam) Condition
 slot_of (Err c) name = Err c
 slot_of (Ok i) name = slot_by i name (symbol_in name)
 
+-- what the two arguments designate, whether the instance has such a slot or not
 abbrev pub slot_designated : Val → Val → Result (ℕ × Nam) Condition
 slot_designated v name = slot_of (instance_in v) name
 
@@ -44,6 +48,7 @@ slot_designated v name = slot_of (instance_in v) name
 abbrev pub operation_name : List ℕ → Val
 operation_name text = symbol (record { text = text; keyword = false })
 
+-- the class of the instance, which both functions are told first
 abbrev pub class_value : State → ℕ → Val
 class_value w i = class (class_of w (instance i))
 
@@ -51,6 +56,7 @@ class_value w i = class (class_of w (instance i))
 abbrev pub missing_called : Eval → ℕ → Nam → List ℕ → List Val → Run
 missing_called ev i name operation new w s = invoked ev SlotMissing (class_value w i ∷ instance i ∷ name_value name ∷ operation_name operation ∷ new) w s
 
+-- slot-unbound; what it gives is the value of the access
 abbrev pub unbound_called : Eval → ℕ → Nam → Run
 unbound_called ev i name w s = invoked ev SlotUnbound (class_value w i ∷ instance i ∷ name_value name ∷ []) w s
 
@@ -67,6 +73,7 @@ abbrev pub slot_tested : Eval → Context → ℕ → Nam → Option (Option Val
 slot_tested ev env i name None w s = then_do (missing_called ev i name (codes "SLOT-BOUNDP") [] w s) (λ v. gave (truth (is_true v)))
 slot_tested ev env i name (Some value) w s = Gave (truth (is_some value)) w s
 
+-- a missing slot is to be changed: slot-missing is told SLOT-MAKUNBOUND, or SETF and the new value
 abbrev pub missing_changed : Eval → ℕ → Nam → Option Val → Run
 missing_changed ev i name None w s = missing_called ev i name (codes "SLOT-MAKUNBOUND") [] w s
 missing_changed ev i name (Some new) w s = missing_called ev i name (codes "SETF") (new ∷ []) w s
@@ -87,16 +94,19 @@ has_slot t (Some c) name = is_some (find (λ s. same_name name s.name) (effectiv
 
 -- ---- the functions of slots
 
+-- slot-exists-p asks the class of the instance alone, and never calls slot-missing
 abbrev pub slot_answer : Eval → Context → SlotFunction → ℕ → Nam → Run
 slot_answer ev env SlotValue i name w s = slot_read ev env i name (slot_found w.store i name) w s
 slot_answer ev env SlotBoundp i name w s = slot_tested ev env i name (slot_found w.store i name) w s
 slot_answer ev env SlotMakunbound i name w s = slot_changed ev env i name None (instance i) (slot_found w.store i name) w s
 slot_answer ev env SlotExistsP i name w s = Gave (truth (has_slot w.classes (class_of_instance w i) name)) w s
 
+-- where the arguments are an instance and a symbol, else the condition
 abbrev pub slot_applied : Eval → Context → SlotFunction → Result (ℕ × Nam) Condition → Run
 slot_applied ev env f (Err c) w s = Stopped c w s
 slot_applied ev env f (Ok p) w s = slot_answer ev env f p.0 p.1 w s
 
+-- of just two arguments; another number of them is PROGRAM-ERROR
 abbrev pub slot_called : Eval → Context → SlotFunction → List Val → Run
 slot_called ev env f [] w s = stopped ProgramError [] w s
 slot_called ev env f (v ∷ []) w s = stopped ProgramError [] w s
@@ -105,10 +115,12 @@ slot_called ev env f (v ∷ (name ∷ (x ∷ vs))) w s = stopped ProgramError []
 
 -- ---- slot-value as a place: an instance, a name and the new value
 
+-- the new value is given, also where slot-missing was called
 abbrev pub slot_given : Eval → Context → Val → Result (ℕ × Nam) Condition → Run
 slot_given ev env x (Err c) w s = Stopped c w s
 slot_given ev env x (Ok p) w s = slot_changed ev env p.0 p.1 (Some x) x (slot_found w.store p.0 p.1) w s
 
+-- of just three arguments; another number of them is PROGRAM-ERROR
 abbrev pub slot_set : Eval → Context → List Val → Run
 slot_set ev env [] w s = stopped ProgramError [] w s
 slot_set ev env (v ∷ []) w s = stopped ProgramError [] w s

@@ -25,14 +25,17 @@ use Rattle.clos_meaning.specs.Slots.{instance_in}
 
 -- ---- the class of an instance, and what the class has
 
+-- the class with its slots and default initargs; nothing of a class that is not complete
 abbrev pub with_effective : ℕ → Option Effective → Option (ℕ × Effective)
 with_effective c None = None
 with_effective c (Some e) = Some (c, e)
 
+-- the same, where there is an instance that has a class
 abbrev pub class_with : State → Option ℕ → Option (ℕ × Effective)
 class_with w None = None
 class_with w (Some c) = with_effective c (effective w.classes c)
 
+-- both for the instance of this number
 abbrev pub class_in : State → ℕ → Option (ℕ × Effective)
 class_in w i = class_with w (class_of_instance w i)
 
@@ -42,6 +45,7 @@ class_in w i = class_with w (class_of_instance w i)
 abbrev pub shared_initialized : Eval → ℕ → Val → List Val → Run
 shared_initialized ev i names initargs w s = then_do (invoked ev SharedInitialize (instance i ∷ names ∷ initargs) w s) (λ v. gave (instance i))
 
+-- initialize-instance hands on T, by which all slots may take their initforms, and checks no initargs
 abbrev pub initialize : Eval → List Val → Result ℕ Condition → Run
 initialize ev initargs (Err c) w s = Stopped c w s
 initialize ev initargs (Ok i) w s = shared_initialized ev i (truth true) initargs w s
@@ -51,23 +55,27 @@ abbrev pub if_valid : ℕ → Option Val → Run → Run
 if_valid c None go w s = go w s
 if_valid c (Some k) go w s = Stopped (invalid_for k (class_name w.classes c)) w s
 
+-- reinitialize-instance checks its initargs (7.3), and hands on NIL: no slot takes its initform
 abbrev pub reinitialize_as : Eval → List Val → ℕ → Option (ℕ × Effective) → Run
 reinitialize_as ev initargs i None w s = stopped ProgramError [] w s
 reinitialize_as ev initargs i (Some p) w s =
     with_uses w ReinitializeInstance i (list nil)
     (if_valid p.0 (invalid_initarg w.generics.methods (methods_reached w ReinitializeInstance i (list nil)) p.1.slots initargs) (shared_initialized ev i (list nil) initargs) w s)
 
+-- the same; the condition where the value is no instance
 abbrev pub reinitialize : Eval → List Val → Result ℕ Condition → Run
 reinitialize ev initargs (Err c) w s = Stopped c w s
 reinitialize ev initargs (Ok i) w s = reinitialize_as ev initargs i (class_in w i) w s
 
 -- ---- shared-initialize fills the slots; their initforms see no variables
 
+-- the slots of the class that the instance has, with the initargs of the call
 abbrev pub filled_as : Eval → ℕ → Val → List Val → Option (ℕ × Effective) → Run
 filled_as ev i names initargs None w s = stopped ProgramError [] w s
 filled_as ev i names initargs (Some p) w s =
     scoped (fill ev (known []) (record { instance = i; class = p.0; names = names; initargs = initargs }) p.1.slots) [] w s
 
+-- names that are not T or a list of symbols are of a wrong type; the instance is looked at first
 abbrev pub initialize_slots : Eval → Val → List Val → Result ℕ Condition → Run
 initialize_slots ev names initargs (Err c) w s = Stopped c w s
 initialize_slots ev names initargs (Ok i) w s =
@@ -79,22 +87,26 @@ shared_initialize ev v names initargs w s = if are_even initargs then initialize
 
 -- ---- slot-unbound and slot-missing signal that, of the name of a slot and an instance, which follow a class
 
+-- it tells the slot and then the instance; too few arguments are PROGRAM-ERROR
 abbrev pub slot_condition : ConditionKind → List Val → Condition
 slot_condition kind (c ∷ (i ∷ (name ∷ vs))) = record { kind = kind; items = name ∷ i ∷ [] }
 slot_condition kind vs = record { kind = ProgramError; items = [] }
 
 -- ---- no-applicable-method signals that, of a generic function, which is told by its name, and the arguments of its call
 
+-- the name of a function that there is, else the value itself
 abbrev pub name_or : Val → Option Function → Val
 name_or v None = v
 name_or v (Some f) = called_value f.name
 
+-- a generic function is told by its name; another value, which a program may give, is told as it is
 abbrev pub told : State → Val → Val
 told w (generic n) = name_or (generic n) (slice_get w.generics.functions n)
 told w v = v
 
 -- ---- any of them
 
+-- by the function; those that update instances are not served, and too few arguments are PROGRAM-ERROR
 abbrev pub system_method_run : Eval → SystemFunction → List Val → Run
 system_method_run ev InitializeInstance (v ∷ initargs) w s = initialize ev initargs (instance_in v) w s
 system_method_run ev ReinitializeInstance (v ∷ initargs) w s = reinitialize ev initargs (instance_in v) w s

@@ -19,9 +19,11 @@ or_global (Some (held v)) global = Some v
 or_global (Some (in_slot slot object)) global = None
 or_global None global = global
 
+-- the value of a symbol as a form (3.1.2.1.1); none where it names no variable, or one without a value
 abbrev pub found_value : State → Nam → Option Val
 found_value w name = or_global (local_named w.locals name) (global_value w.globals name)
 
+-- where there is none: UNBOUND-VARIABLE, also for a global variable that was given no value
 abbrev pub variable_value : Nam → Option Val → Run
 variable_value name None w s = stopped UnboundVariable (name_value name ∷ []) w s
 variable_value name (Some v) w s = Gave v w s
@@ -49,6 +51,7 @@ init_form ev env (form.cons f fs) go w s = then_do (ev env f w s) (λ v. go fs v
 
 -- ---- let*: each variable is bound to the value of its init form, or to NIL, before the next; then the body
 
+-- the bindings that are left, with their init forms and the body; so many names are outside of let*
 abbrev pub in_order : Eval → Context → ℕ → List Bound → Frms → Run
 in_order ev env n [] fs w s = within ev env n fs (list nil) w s
 in_order ev env n (b ∷ bs) fs w s =
@@ -57,9 +60,11 @@ in_order ev env n (b ∷ bs) fs w s =
 
 -- ---- let: first all values; then all variables are bound, and then the body
 
+-- the name that is bound, without what it denotes
 abbrev pub name_in : Local → Nam
 name_in l = l.0
 
+-- all at once; where one of the names is that of a global variable, none is bound: UNSUPPORTED
 abbrev pub together : Eval → Context → ℕ → List Local → Frms → Run
 together ev env n ls fs w s =
     if any_global w.globals (map name_in ls) then stopped Unsupported [] w s
@@ -81,11 +86,13 @@ pub record Loop : Type 0 where
   pub has_result : Bool
   pub forms : Frms
 
+-- the forms of each turn: those after the result form, where one is written
 abbrev pub body_of : Bool → Frms → Frms
 body_of false fs = fs
 body_of true form.nil = form.nil
 body_of true (form.cons f fs) = fs
 
+-- what the loop gives after its last turn; NIL where no result form is written
 abbrev pub result_value : Eval → Context → Bool → Frms → Run
 result_value ev env false fs w s = Gave (list nil) w s
 result_value ev env true form.nil w s = Gave (list nil) w s
@@ -95,6 +102,7 @@ result_value ev env true (form.cons f fs) w s = ev env f w s
 abbrev pub with_count : Loop → ℤ → List Local → List Local
 with_count l done ls = (l.name, held (integer done)) ∷ outermost l.outer ls
 
+-- the state before a turn or the result: whatever was assigned to the variable is gone
 abbrev pub counted : Loop → ℤ → State → State
 counted l done w = bound_as (with_count l done w.locals) w
 
@@ -104,10 +112,12 @@ turns ev env l zero done w s = then_do (result_value ev env l.has_result l.forms
 turns ev env l (suc left) done w s =
     step_then (λ u k. then_do (sequence ev env (body_of l.has_result l.forms) (list nil) (counted l (pos done) u) k) (λ v. turns ev env l left (suc done))) w s
 
+-- a count below 0 makes no turn
 abbrev pub turns_in : ℤ → ℕ
 turns_in (pos n) = n
 turns_in (negsuc n) = 0
 
+-- the count has to be an integer, and the name not that of a global variable; then the turns
 abbrev pub repeated : Eval → Context → Loop → Val → Run
 repeated ev env l (integer n) w s = if is_global w.globals l.name then stopped Unsupported [] w s else turns ev env l (turns_in n) 0 w s
 repeated ev env l (symbol name) w s = stopped TypeError (symbol name ∷ []) w s

@@ -31,6 +31,7 @@ abbrev pub is_served_as : Callee → Nam → Bool
 is_served_as Defined name = not (is_one_of functions name) && not (is_update name)
 is_served_as _ name = true
 
+-- by the name that is called, whatever the arguments
 abbrev pub calls : Nam → Bool
 calls name = is_served_as (callee_of name) name
 
@@ -39,6 +40,7 @@ abbrev pub reads : Opr → Bool
 reads (of.place (call_place name)) = calls name
 reads _ = true
 
+-- the first of the forms of incf or decf, which is the place
 abbrev pub reads_first : Frms → Bool
 reads_first nil = true
 reads_first (cons f fs) = reads (operator_in f)
@@ -52,31 +54,39 @@ serves _ parts = true
 
 -- whether a form is served, with all that is evaluated in it
 abbrev mutual
+  -- its operator, and each of its parts
   pub is_served : Frm → Bool
   is_served (form o ps) = serves o ps && are_served ps
 
+  -- all of these forms
   pub are_served : Frms → Bool
   are_served nil = true
   are_served (cons f fs) = is_served f && are_served fs
 
+-- where no form is written, there is nothing that is not served
 abbrev pub is_served_if_any : Option Frm → Bool
 is_served_if_any None = true
 is_served_if_any (Some f) = is_served f
 
 -- ---- top-level forms
 
+-- its initforms, and the forms of its default initargs
 abbrev pub is_served_class : ClassDefinition → Bool
 is_served_class c = list_all (λ s. is_served_if_any s.initform) c.slots && list_all (λ i. is_served i.form) c.defaults
 
+-- the init form of an optional or keyword parameter
 abbrev pub is_served_optional : Optional → Bool
 is_served_optional o = is_served_if_any o.init
 
+-- the init forms of all optional and keyword parameters; the others have none
 abbrev pub are_inits_served : LambdaList → Bool
 are_inits_served l = list_all is_served_optional l.optional && list_all (λ k. is_served_optional k.variable) (entries_of l.keys)
 
+-- its init forms and its body, though its definition evaluates none of them
 abbrev pub is_served_function : LambdaList → Frms → Bool
 is_served_function l body = are_inits_served l && are_served body
 
+-- the forms of its eql specializers, its init forms and its body
 abbrev pub is_served_method : MethodDefinition → Bool
 is_served_method m = list_all (λ s. is_served_if_any (eql_form s)) m.specializers && is_served_function m.lambda_list m.body
 
@@ -85,9 +95,11 @@ abbrev pub is_standard : Option CombinationUse → Bool
 is_standard None = true
 is_standard (Some c) = is_called (codes "STANDARD") c.name
 
+-- its method combination, and the methods of its :method options
 abbrev pub is_served_generic : GenericDefinition → Bool
 is_served_generic g = is_standard g.combination && list_all is_served_method g.methods
 
+-- all forms that stand in it, evaluated at once or later; add-dependent and remove-dependent are not
 abbrev pub is_served_top : Top → Bool
 is_served_top (DefClass c) = is_served_class c
 is_served_top (DefGeneric g) = is_served_generic g
@@ -109,10 +121,12 @@ names_combination (list l) = false
 names_combination (dotted l d) = false
 names_combination (method n) = false
 
+-- by the first element of a list
 abbrev pub heads_combination : Dats → Bool
 heads_combination datum.nil = false
 heads_combination (datum.cons d l) = names_combination d
 
+-- a list that begins with that name, well-formed or not; no other datum
 abbrev pub is_combination : Dat → Bool
 is_combination (integer n) = false
 is_combination (symbol s) = false

@@ -19,6 +19,7 @@ use Rattle.clos_definition_forms.specs.Variable.{variable_defined}
 abbrev pub room_of : State → ℕ
 room_of w = min w.limits.depth 4_000
 
+-- by the kind of the form; in-package does nothing, and gives NIL
 abbrev pub performed : Top → Run
 performed (DefClass d) w k = define_class d (named w.classes d.name) w k
 performed (DefGeneric d) w k = define_generic d w k

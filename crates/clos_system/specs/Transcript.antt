@@ -48,6 +48,7 @@ told echo w (Gave v w' s) out =
 told echo w (Stopped c w' s) out = fresh_line (with_written w w' out) ++ condition_text (names_of w') c
 told echo w (Noted n o) out = told echo w o out
 
+-- the line for want of memory, which is no condition: the number 0, and the steps that were taken
 abbrev pub storage_text : ℕ → List ℕ
 storage_text k = codes "; 0 (STORAGE " ++ (decimal k ++ (codes ")" ++ 10 ∷ []))
 
@@ -55,19 +56,23 @@ storage_text k = codes "; 0 (STORAGE " ++ (decimal k ++ (codes ")" ++ 10 ∷ [])
 abbrev pub told_cut : State → State → ℕ → List ℕ → List ℕ
 told_cut w w' k out = fresh_line (with_written w w' out) ++ storage_text k
 
+-- the state in which the next form begins
 abbrev pub state_after : Out → State
 state_after (Gave v w s) = w
 state_after (Stopped c w s) = w
 state_after (Noted n o) = state_after o
 
+-- one more form, and one more condition where it ended with one
 abbrev pub counted : Out → Summary → Summary
 counted (Gave v w s) n = record n { forms = n.forms + 1 }
 counted (Stopped c w s) n = record n { forms = n.forms + 1; conditions = n.conditions + 1 }
 counted (Noted m o) n = counted o n
 
+-- one more form in which memory was refused, which counts as no condition
 abbrev pub counted_cut : Summary → Summary
 counted_cut n = record n { forms = n.forms + 1; storages = n.storages + 1 }
 
+-- the counts before the first form
 abbrev pub none_yet : Summary
 none_yet = record { forms = 0; conditions = 0; storages = 0 }
 
@@ -85,6 +90,7 @@ told_for echo w w' (Ok v) k out = told echo w (Gave (value_of v) w' 0) out
 told_for echo w w' (Err (Refused c)) k out = told echo w (Stopped c w' 0) out
 told_for echo w w' (Err Storage) k out = told_cut w w' k out
 
+-- the counts after a form that was answered so
 abbrev pub counted_for : Result Value Stop → Summary → Summary
 counted_for (Ok v) n = record n { forms = n.forms + 1 }
 counted_for (Err (Refused c)) n = record n { forms = n.forms + 1; conditions = n.conditions + 1 }
