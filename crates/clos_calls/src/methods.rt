@@ -113,12 +113,8 @@ fn run_method_body(
             let context = body_context(machine, arguments, id, next, forms)?;
             run_forms(alloc, machine, world, context, lambda_list.list(), body)
         }
-        MethodBody::Reader(slot) => {
-            Ok(Doing::Perform(BuiltIn::Reader(slot.copy()?), arguments))
-        }
-        MethodBody::Writer(slot) => {
-            Ok(Doing::Perform(BuiltIn::Writer(slot.copy()?), arguments))
-        }
+        MethodBody::Reader(slot) => { Ok(Doing::Perform(BuiltIn::Reader(slot.copy()?), arguments)) }
+        MethodBody::Writer(slot) => { Ok(Doing::Perform(BuiltIn::Writer(slot.copy()?), arguments)) }
         MethodBody::System(function) => {
             Ok(Doing::Perform(BuiltIn::System(*function), arguments))
         }

@@ -82,10 +82,9 @@ pub fn evaluate(
     };
     let mut doing = Doing::Start(form);
     loop {
-        match advance(alloc, &mut machine, world, doing, steps) {
-            Err(stop) => return Err(stop),
-            Ok(Progress::Done(value)) => return Ok(value),
-            Ok(Progress::Next(next)) => doing = next,
+        match advance(alloc, &mut machine, world, doing, steps)? {
+            Progress::Done(value) => return Ok(value),
+            Progress::Next(next) => doing = next,
         }
     }
 }

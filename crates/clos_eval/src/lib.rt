@@ -7,4 +7,5 @@ mod forms;
 mod frames;
 mod progress;
 
+pub use clos_machine::{Stop, World};
 pub use eval::evaluate;

@@ -237,10 +237,7 @@ pub fn allocate(
         return Err(Stop::Storage);
     };
     *steps -= 1;
-    Ok(Doing::Act(
-        Action::Initialize(class, effective, id),
-        initargs,
-    ))
+    Ok(Doing::Act(Action::Initialize(class, effective, id), initargs))
 }
 
 /// The instance that was made is initialized, unless an initarg is not valid; then it is given.

@@ -141,10 +141,7 @@ pub fn change_name(
         None => change_only(alloc, machine, world, primitive, name, &values, steps),
         Some(mut place) => {
             place.append(values)?;
-            Ok(Doing::Act(
-                Action::ChangePlace(primitive, Target::SlotValue),
-                place,
-            ))
+            Ok(Doing::Act(Action::ChangePlace(primitive, Target::SlotValue), place))
         }
     }
 }
