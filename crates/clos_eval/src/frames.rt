@@ -1,12 +1,9 @@
 //! Values go to the frames that wait for them.
-ghost use Rattle.std.specs.Prelude.{◌≡◌, ◌+◌, ℕ};
+ghost use Rattle.std.specs.Prelude.{◌+◌};
 ghost use Rattle.lisp_data.specs.ValueView.{value_of};
 ghost use Rattle.clos_machine.specs.clos_world.World.{seen};
-ghost use Rattle.clos_machine.specs.Machine.{denote, follow_growth, given_to, Grows, Leads, weight_of};
-ghost use Rattle.clos_machine.specs.declared.machine.Doing.TheVariants.{Give};
-ghost use Rattle.clos_eval.specs.Progress.{Comes, Lessens};
+ghost use Rattle.clos_machine.specs.Machine.{follow_growth, given_to, Grows, Leads, weight_of};
 
-use crate::progress::Progress;
 use clos_calls::bodies::{next_of_body, next_parameter};
 use clos_control::arguments::next_value;
 use clos_control::binding::{continue_turn, continue_within, next_aside, next_variable, repeat};
@@ -76,22 +73,18 @@ fn give(
     }
 }
 
-/// The value goes to the top frame, or it is that of the whole.
-pub fn give_on(
+/// A level that was taken off goes on with the value, with the room of what it waited for.
+pub fn resume(
     alloc: Global,
     machine: &mut Machine,
     world: &World,
+    level: Level,
     value: Value,
-) -> Result<Progress, Stop>
-    ensures comes { (s : ℕ) → Comes (denote machine.old (Give value)) (seen world.now) s result machine.new (seen world.now) s }
-    ensures small { (s : ℕ) → Lessens s machine.old (Give value) result s machine.new }
+) -> Result<Doing, Stop>
+    ensures leads { Leads (given_to (record machine.old { room = level.room }) level.frame (value_of value)) (seen world.now) result machine.new }
+    ensures small { Grows (follow_growth + weight_of level.frame) machine.old.levels result machine.new }
 {
-    match machine.levels.pop() {
-        None => Ok(Progress::Done(value)),
-        Some(level) => {
-            let Level { frame, room } = level;
-            machine.room = room;
-            Ok(Progress::Next(give(alloc, machine, world, frame, value)?))
-        }
-    }
+    let Level { frame, room } = level;
+    machine.room = room;
+    give(alloc, machine, world, frame, value)
 }

@@ -5,7 +5,6 @@ mod actions;
 pub mod eval;
 mod forms;
 mod frames;
-mod progress;
 
 pub use clos_machine::{Stop, World};
 pub use eval::evaluate;

@@ -23,7 +23,7 @@ use Rattle.clos_meaning.specs.clos_world.declared.condition.Stop.{Stop}
 use Rattle.clos_meaning.specs.clos_world.declared.condition.Stop.TheVariants.{Refused, Storage}
 use Rattle.clos_machine.specs.Fault.{Signals}
 use Rattle.clos_meaning.specs.Fault.{answered}
-use Rattle.clos_machine.specs.Machine.{at, resume, inside, denote, given_to, Leads, Turns, Becomes, Changes, Answers, Reached, Takes}
+use Rattle.clos_machine.specs.Machine.{at, resume, inside, denote, given_to, Leads, Turns, Becomes, Changes, Answers, Reached}
 use Rattle.clos_meaning.specs.Meaning.{closed, meaning, body}
 use Rattle.clos_meaning.specs.Control.{sequence}
 use Rattle.clos_meaning.specs.Variables.{Loop, body_of, counted, found_value, variable_value, leaving, result_value, turns}
@@ -168,21 +168,6 @@ ended run w0 s0 den w s Storage m w' s' q r e = (
   r.taken,
   r.steps ∙ ap (λ k. r.taken + k) (sym e.1),
   subst (λ u. leaves (run w0 r.taken) u 0) (sym e.0) (subst (λ o. leaves o (unbound w) 0) (r.same 0 ∙ ap (run w0) (add-zero r.taken)) q),
-)
-
--- the run ends with a value
-pub ended_with : (run : Run) (w0 : State) (s0 : ℕ) (den : Run) (w : State) (s : ℕ) (v : Value) (w' : State) (s' : ℕ) → Reached run w0 s0 den w s
-    → (w' ≡ w) × (s' ≡ s) × ((t : ℕ) → den w t ≡ Gave (value_of v) (unbound w) t) → Answers run w0 s0 (Ok v) (unbound w') s'
-ended_with run w0 s0 den w s v w' s' r h =
-    ap (run w0) r.steps ∙ sym (r.same s) ∙ h.2 s ∙ sym (ap (λ u. Gave (value_of v) (unbound u) s) h.0) ∙ sym (ap (Gave (value_of v) (unbound w')) h.1)
-
--- and takes as many steps, whatever is left after them
-pub taken_by : (run : Run) (w0 : State) (s0 : ℕ) (den : Run) (w : State) (s : ℕ) (v : Value) (w' : State) (s' : ℕ) → Reached run w0 s0 den w s
-    → (w' ≡ w) × (s' ≡ s) × ((t : ℕ) → den w t ≡ Gave (value_of v) (unbound w) t) → Takes run w0 s0 (Ok v) (unbound w') s'
-taken_by run w0 s0 den w s v w' s' r h = (
-  r.taken,
-  r.steps ∙ ap (λ k. r.taken + k) (sym h.1),
-  λ t. sym (r.same t) ∙ h.2 t ∙ sym (ap (λ u. Gave (value_of v) (unbound u) t) h.0),
 )
 
 -- the top level takes the value

@@ -1,11 +1,7 @@
 use Rattle.std.proofs.Common.{[], arith}
 use Rattle.clos_machine.specs.clos_world.World.{seen}
 use Rattle.clos_machine.specs.clos_meaning.Contexts.{known}
-use Rattle.clos_machine.specs.clos_meaning.Meaning.{evaluation}
-use Rattle.clos_machine.specs.Machine.{denote}
 use Rattle.clos_machine.proofs.clos_meaning.Quiet.{evaluation_quiet}
-use Rattle.clos_machine.proofs.Quiet.{doing_quiet}
-use Rattle.clos_machine.proofs.Runs.{reached_on, ended, ended_with, taken_by}
 use Rattle.clos_eval.proofs.eval.evaluate.Goals as goal
 
 pub returns-in_default-clause-answer : goal.returns-in_default-clause-answer
