@@ -5,13 +5,13 @@ ghost use Rattle.clos_machine.specs.clos_meaning.Meaning.{evaluation};
 
 use crate::actions::{act, perform};
 use crate::forms::begin_form;
-use crate::frames::resume;
+use crate::frames::give;
 use clos_calls::generic_calls::invoke;
 use clos_control::arguments::collect_values;
 use clos_control::binding::turn;
 use clos_forms::Form;
 use clos_machine::locals::Locals;
-use clos_machine::machine::{Doing, Levels, Machine};
+use clos_machine::machine::{Doing, Level, Levels, Machine};
 use clos_machine::{Arguments, Context, Stop, Values, World};
 use lisp_data::Value;
 use std::alloc::Global;
@@ -62,7 +62,11 @@ pub fn evaluate(
             }
             Doing::Give(value) => match machine.levels.pop() {
                 None => return Ok(value),
-                Some(level) => doing = resume(alloc, &mut machine, world, level, value)?,
+                Some(level) => {
+                    let Level { frame, room } = level;
+                    machine.room = room;
+                    doing = give(alloc, &mut machine, world, frame, value)?;
+                }
             },
         }
     }

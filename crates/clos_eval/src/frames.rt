@@ -9,7 +9,7 @@ use clos_control::arguments::next_value;
 use clos_control::binding::{continue_turn, continue_within, next_aside, next_variable, repeat};
 use clos_control::control::{clause_tested, follow, keep};
 use clos_control::slot_names::bind_slots;
-use clos_machine::machine::{Action, Doing, Frame, Level, Machine};
+use clos_machine::machine::{Action, Doing, Frame, Machine};
 use clos_machine::truth::is_true;
 use clos_machine::{Stop, Values, World};
 use clos_objects::creation::next_default;
@@ -19,8 +19,7 @@ use lisp_data::Value;
 use std::alloc::Global;
 
 /// A frame goes on with the value that it waited for.
-#[tactic(auto)]
-fn give(
+pub fn give(
     alloc: Global,
     machine: &mut Machine,
     world: &World,
@@ -71,20 +70,4 @@ fn give(
         Frame::Truth => Ok(Doing::Give(truth(is_true(&value)))),
         Frame::Slots(form, body) => bind_slots(alloc, machine, &form, &body, &value),
     }
-}
-
-/// A level that was taken off goes on with the value, with the room of what it waited for.
-pub fn resume(
-    alloc: Global,
-    machine: &mut Machine,
-    world: &World,
-    level: Level,
-    value: Value,
-) -> Result<Doing, Stop>
-    ensures leads { Leads (given_to (record machine.old { room = level.room }) level.frame (value_of value)) (seen world.now) result machine.new }
-    ensures small { Grows (follow_growth + weight_of level.frame) machine.old.levels result machine.new }
-{
-    let Level { frame, room } = level;
-    machine.room = room;
-    give(alloc, machine, world, frame, value)
 }
