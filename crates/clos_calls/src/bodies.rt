@@ -1,11 +1,11 @@
 //! Bodies of functions and methods: parameters are bound, and the forms are evaluated (HyperSpec 3.4.1, 3.5.1).
-ghost use Rattle.std.specs.Prelude.{◌≡◌, ℕ, map};
+ghost use Rattle.std.specs.Prelude.{◌≡◌, ℕ};
 ghost use Rattle.lisp_data.specs.Value.{list, nil};
 ghost use Rattle.lisp_data.specs.ValueView.{value_of};
 ghost use Rattle.clos_machine.specs.clos_world.World.{State, seen, bound_as};
 ghost use Rattle.clos_machine.specs.clos_meaning.Bodies.{restoring, scoped, parameters_run, body_run};
 ghost use Rattle.clos_machine.specs.clos_meaning.Control.{sequence};
-ghost use Rattle.clos_machine.specs.Machine.{Leads, Grows, at, inside, given_to, under, value_weight};
+ghost use Rattle.clos_machine.specs.Machine.{Leads, Grows, at, inside, given_to, under, value_weight, here, Does};
 ghost use Rattle.clos_machine.specs.clos_meaning.Meaning.{meaning};
 ghost use Rattle.clos_machine.specs.clos_meaning.Outcome.{Run, then_do};
 ghost use Rattle.clos_machine.specs.clos_meaning.Parameters.{required_sources, sources};
@@ -32,7 +32,7 @@ pub fn run_body(
     lambda_list: &LambdaList,
     body: &Forms,
 ) -> Result<Doing, Stop>
-    ensures leads { Leads (inside machine.old (body_run (meaning machine.old.room) context (sources lambda_list.now context.arguments) body.now)) (seen world.now) result machine.new }
+    ensures leads { Leads (here machine.old (λ ev env. body_run ev context (sources lambda_list.now context.arguments) body.now)) (seen world.now) result machine.new }
     ensures small { Grows value_weight machine.old.levels result machine.new }
 {
     if requires_only(lambda_list) {
@@ -52,7 +52,7 @@ fn run_planned(
     plan: ParameterPlan,
     body: &Forms,
 ) -> Result<Doing, Stop>
-    ensures leads { Leads (inside machine.old (body_run (meaning machine.old.room) context plan body.now)) (seen world.now) result machine.new }
+    ensures leads { Leads (here machine.old (λ ev env. body_run ev context plan body.now)) (seen world.now) result machine.new }
     ensures small { Grows value_weight machine.old.levels result machine.new }
 {
     let saved = mem::replace(&mut machine.context, context);
@@ -117,7 +117,7 @@ fn run_bound(
     names: &[Name],
     body: &Forms,
 ) -> Result<Doing, Stop>
-    ensures leads { Leads (inside machine.old (body_run (meaning machine.old.room) context (required_sources names.now context.arguments) body.now)) (seen world.now) result machine.new }
+    ensures leads { Leads (here machine.old (λ ev env. body_run ev context (required_sources names.now context.arguments) body.now)) (seen world.now) result machine.new }
     ensures small { Grows value_weight machine.old.levels result machine.new }
 {
     match bind(alloc, world, names, context.arguments.as_slice()) {
@@ -133,9 +133,7 @@ fn run_scoped(
     locals: Locals,
     forms: &Forms,
 ) -> Result<Doing, Stop>
-    ensures leads { (run : Run) (w : State)
-        → ((t : ℕ) → scoped (sequence (meaning machine.old.room) context forms.now (list nil)) locals (at machine.old w) t ≡ run (at machine.old w) t)
-        → Leads (inside machine.old run) w result machine.new }
+    ensures leads { Does (λ ev env. scoped (sequence ev context forms.now (list nil)) locals) machine.old result machine.new }
     ensures small { Grows value_weight machine.old.levels result machine.new }
 {
     match split(forms)? {

@@ -1,5 +1,5 @@
 //! Calls of functions by their names (HyperSpec 3.1.2.1.2.3).
-ghost use Rattle.std.specs.Prelude.{◌≡◌, ◌∷◌, ◌++◌, ◌+◌, [], ℕ};
+ghost use Rattle.std.specs.Prelude.{◌≡◌};
 ghost use Rattle.lisp_data.specs.ValueView.{value_of};
 ghost use Rattle.lisp_prims.specs.Primitive.{answer};
 ghost use Rattle.clos_forms.specs.OperatorView.{called_of};
@@ -8,12 +8,11 @@ ghost use Rattle.clos_forms.specs.declared.operator.FunctionName.TheVariants.{Sy
 ghost use Rattle.clos_machine.specs.clos_world.clos_generic.Table.{named};
 ghost use Rattle.clos_machine.specs.clos_world.FunctionName.{setter_value};
 ghost use Rattle.clos_machine.specs.clos_world.Functions.{function_in};
-ghost use Rattle.clos_machine.specs.clos_world.World.{State, seen};
+ghost use Rattle.clos_machine.specs.clos_world.World.{seen};
 ghost use Rattle.clos_machine.specs.clos_meaning.Calls.{applied_to, called_defined, called_function, called_setter};
 ghost use Rattle.clos_machine.specs.clos_meaning.Fault.{answered};
-ghost use Rattle.clos_machine.specs.Machine.{Leads, Grows, at, inside, collected, collect_weight, value_weight};
-ghost use Rattle.clos_machine.specs.clos_meaning.Meaning.{meaning, function_value, is_plain_function, other_function};
-ghost use Rattle.clos_machine.specs.clos_meaning.Outcome.{Run};
+ghost use Rattle.clos_machine.specs.Machine.{Leads, Grows, at, inside, collected, collect_weight, value_weight, here, Does};
+ghost use Rattle.clos_machine.specs.clos_meaning.Meaning.{function_value, is_plain_function, other_function};
 ghost use Rattle.clos_machine.specs.declared.machine.Action.TheVariants.{Call};
 
 use crate::bodies::run_body;
@@ -38,9 +37,7 @@ pub fn start_call(
     name: &Name,
     arguments: &Forms,
 ) -> Result<Doing, Stop>
-    ensures leads { (run : Run) (w : State)
-        → ((t : ℕ) → collected (meaning machine.old.room) machine.old.context arguments.now (Call name.now) (at machine.old w) t ≡ run (at machine.old w) t)
-        → Leads (inside machine.old run) w result machine.new }
+    ensures leads { Does (λ ev env. collected ev env arguments.now (Call name.now)) machine.old result machine.new }
     ensures small { Grows (collect_weight (Call name.now)) machine.old.levels result machine.new }
 {
     let action = Action::Call(name.copy()?);
@@ -75,7 +72,7 @@ pub fn call(
     name: &Name,
     values: Values,
 ) -> Result<Doing, Stop>
-    ensures leads { Leads (inside machine.old (λ w. called_function (meaning machine.old.room) name.now values (named w.generics (Symbol name.now)) w)) (seen world.old) result machine.new }
+    ensures leads { Leads (here machine.old (λ ev env w. called_function ev name.now values (named w.generics (Symbol name.now)) w)) (seen world.old) result machine.new }
     ensures same { seen world.new ≡ seen world.old }
     ensures small { Grows value_weight machine.old.levels result machine.new }
 {
@@ -94,7 +91,7 @@ fn call_named(
     name: &Name,
     values: Values,
 ) -> Result<Doing, Stop>
-    ensures leads { Leads (inside machine.old (λ w. called_defined (meaning machine.old.room) values (name_value name.now) (function_in w.functions name.now) w)) (seen world.now) result machine.new }
+    ensures leads { Leads (here machine.old (λ ev env w. called_defined ev values (name_value name.now) (function_in w.functions name.now) w)) (seen world.now) result machine.new }
     ensures small { Grows value_weight machine.old.levels result machine.new }
 {
     match world.functions.get(name) {
@@ -115,7 +112,7 @@ pub fn call_setter(
     name: &Name,
     mut values: Values,
 ) -> Result<Doing, Stop>
-    ensures leads { Leads (inside machine.old (called_setter (meaning machine.old.room) name.now values)) (seen world.old) result machine.new }
+    ensures leads { Leads (here machine.old (λ ev env. called_setter ev name.now values)) (seen world.old) result machine.new }
     ensures same { seen world.new ≡ seen world.old }
     ensures small { Grows value_weight machine.old.levels result machine.new }
 {
@@ -135,7 +132,7 @@ fn call_set_function(
     name: &Name,
     values: Values,
 ) -> Result<Doing, Stop>
-    ensures leads { Leads (inside machine.old (λ w. called_defined (meaning machine.old.room) values (setter_value name.now) (function_in w.setters name.now) w)) (seen world.now) result machine.new }
+    ensures leads { Leads (here machine.old (λ ev env w. called_defined ev values (setter_value name.now) (function_in w.setters name.now) w)) (seen world.now) result machine.new }
     ensures small { Grows value_weight machine.old.levels result machine.new }
 {
     match world.setters.get(name) {
@@ -156,7 +153,7 @@ fn call_function(
     function: &Function,
     values: Values,
 ) -> Result<Doing, Stop>
-    ensures leads { Leads (inside machine.old (applied_to (meaning machine.old.room) values function.now)) (seen world.now) result machine.new }
+    ensures leads { Leads (here machine.old (λ ev env. applied_to ev values function.now)) (seen world.now) result machine.new }
     ensures small { Grows value_weight machine.old.levels result machine.new }
 {
     if !fits(&function.lambda_list, values.as_slice()) {

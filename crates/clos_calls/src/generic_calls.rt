@@ -1,14 +1,13 @@
 //! Calls of generic functions (HyperSpec 7.6.5, 7.6.6).
-ghost use Rattle.std.specs.Prelude.{◌≡◌, ℕ, [], IfOk, Some, slice_get};
+ghost use Rattle.std.specs.Prelude.{◌≡◌, [], IfOk, Some, slice_get};
 ghost use Rattle.clos_comb.specs.OutcomeView.{combined_of};
 ghost use Rattle.clos_machine.specs.clos_world.clos_generic.Table.{Function};
-ghost use Rattle.clos_machine.specs.clos_world.World.{State, seen};
+ghost use Rattle.clos_machine.specs.clos_world.World.{seen};
 ghost use Rattle.clos_machine.specs.clos_meaning.Bodies.{scoped};
 ghost use Rattle.clos_machine.specs.clos_meaning.Contexts.{in_call};
 ghost use Rattle.clos_machine.specs.clos_meaning.GenericCalls.{called_generic, combined_run, invoked, matched, unmatched};
-ghost use Rattle.clos_machine.specs.Machine.{Leads, Grows, at, inside, call_growth};
+ghost use Rattle.clos_machine.specs.Machine.{Leads, Grows, call_growth, here, Does};
 ghost use Rattle.clos_machine.specs.clos_meaning.Meaning.{meaning};
-ghost use Rattle.clos_machine.specs.clos_meaning.Outcome.{Run};
 ghost use Rattle.clos_machine.specs.Fault.{TellsCondition};
 ghost use Rattle.clos_calls.specs.GenericCalls.{empty_group, takes_in};
 
@@ -33,7 +32,7 @@ pub fn call_generic(
     id: GenericId,
     values: Values,
 ) -> Result<Doing, Stop>
-    ensures leads { Leads (inside machine.old (λ w. called_generic (meaning machine.old.room) values id.0 (slice_get w.generics.functions id.0) w)) (seen world.old) result machine.new }
+    ensures leads { Leads (here machine.old (λ ev env w. called_generic ev values id.0 (slice_get w.generics.functions id.0) w)) (seen world.old) result machine.new }
     ensures same { seen world.new ≡ seen world.old }
     ensures small { Grows call_growth machine.old.levels result machine.new }
 {
@@ -66,7 +65,7 @@ fn call_unmatched(
     id: GenericId,
     arguments: &Arguments,
 ) -> Result<Doing, Stop>
-    ensures leads { Leads (inside machine.old (unmatched (meaning machine.old.room) id.0 arguments.now)) (seen world.old) result machine.new }
+    ensures leads { Leads (here machine.old (λ ev env. unmatched ev id.0 arguments.now)) (seen world.old) result machine.new }
     ensures same { seen world.new ≡ seen world.old }
     ensures small { Grows call_growth machine.old.levels result machine.new }
 {
@@ -94,7 +93,7 @@ fn call_matched(
     arguments: Arguments,
 ) -> Result<Doing, Stop>
     ensures leads { (f : Function) → Some f ≡ slice_get (seen world.old).generics.functions id.0
-        → Leads (inside machine.old (matched (meaning machine.old.room) arguments id.0 f methods)) (seen world.old) result machine.new }
+        → Leads (here machine.old (λ ev env. matched ev arguments id.0 f methods)) (seen world.old) result machine.new }
     ensures same { seen world.new ≡ seen world.old }
     ensures small { Grows call_growth machine.old.levels result machine.new }
 {
@@ -122,7 +121,7 @@ fn run_combined(
     arguments: Arguments,
 ) -> Result<Doing, Stop>
     ensures leads { (f : Function) → Some f ≡ slice_get (seen world.now).generics.functions id.0
-        → Leads (inside machine.old (combined_run (meaning machine.old.room) (in_call (record { generic = id.0; methods = methods }) arguments) f (combined_of outcome))) (seen world.now) result machine.new }
+        → Leads (here machine.old (λ ev env. combined_run ev (in_call (record { generic = id.0; methods = methods }) arguments) f (combined_of outcome))) (seen world.now) result machine.new }
     ensures small { Grows call_growth machine.old.levels result machine.new }
 {
     match outcome {
@@ -177,7 +176,7 @@ pub fn invoke(
     function: SystemFunction,
     values: Values,
 ) -> Result<Doing, Stop>
-    ensures leads { Leads (inside machine.old (invoked (meaning machine.old.room) function values)) (seen world.old) result machine.new }
+    ensures leads { Leads (here machine.old (λ ev env. invoked ev function values)) (seen world.old) result machine.new }
     ensures same { seen world.new ≡ seen world.old }
     ensures small { Grows call_growth machine.old.levels result machine.new }
 {
@@ -191,9 +190,7 @@ pub fn enter_effect(
     context: Context,
     next: Form,
 ) -> Result<Doing, Stop>
-    ensures leads { (run : Run) (w : State)
-        → ((t : ℕ) → scoped (meaning machine.old.room context next) [] (at machine.old w) t ≡ run (at machine.old w) t)
-        → Leads (inside machine.old run) w result machine.new }
+    ensures leads { Does (λ ev env. scoped (meaning machine.old.room context next) []) machine.old result machine.new }
     ensures small { Grows call_growth machine.old.levels result machine.new }
 {
     set_apart(alloc, machine, context)?;

@@ -4,8 +4,7 @@ ghost use Rattle.clos_forms.specs.CallMethodView.{callable};
 ghost use Rattle.clos_machine.specs.clos_world.World.{seen};
 ghost use Rattle.clos_machine.specs.clos_meaning.Calls.{made_run, method_body_run, method_called, method_run};
 ghost use Rattle.clos_machine.specs.clos_meaning.Contexts.{running, with_arguments};
-ghost use Rattle.clos_machine.specs.Machine.{Leads, Grows, inside, perform_weight, value_weight};
-ghost use Rattle.clos_machine.specs.clos_meaning.Meaning.{meaning};
+ghost use Rattle.clos_machine.specs.Machine.{Leads, Grows, perform_weight, value_weight, here};
 ghost use Rattle.clos_calls.specs.Methods.{forms_run};
 
 use crate::bodies::run_body;
@@ -31,7 +30,7 @@ pub fn call_method(
     next: &NextMethods,
     forms: &Forms,
 ) -> Result<Doing, Stop>
-    ensures leads { Leads (inside machine.old (method_called (meaning machine.old.room) machine.old.context (callable method.now) next.now forms.now)) (seen world.now) result machine.new }
+    ensures leads { Leads (here machine.old (λ ev env. method_called ev env (callable method.now) next.now forms.now)) (seen world.now) result machine.new }
     ensures small { Grows perform_weight machine.old.levels result machine.new }
 {
     match method {
@@ -51,7 +50,7 @@ fn run_made(
     world: &World,
     forms: &Forms,
 ) -> Result<Doing, Stop>
-    ensures leads { Leads (inside machine.old (made_run (meaning machine.old.room) machine.old.context forms.now)) (seen world.now) result machine.new }
+    ensures leads { Leads (here machine.old (λ ev env. made_run ev env forms.now)) (seen world.now) result machine.new }
     ensures small { Grows perform_weight machine.old.levels result machine.new }
 {
     let _ = world;
@@ -75,7 +74,7 @@ pub fn run_method(
     next: &NextMethods,
     forms: &Forms,
 ) -> Result<Doing, Stop>
-    ensures leads { Leads (inside machine.old (method_run (meaning machine.old.room) (running id.0 next.now forms.now (with_arguments arguments machine.old.context)) (slice_get (seen world.now).generics.methods id.0))) (seen world.now) result machine.new }
+    ensures leads { Leads (here machine.old (λ ev env. method_run ev (running id.0 next.now forms.now (with_arguments arguments env)) (slice_get (seen world.now).generics.methods id.0))) (seen world.now) result machine.new }
     ensures small { Grows perform_weight machine.old.levels result machine.new }
 {
     match world.generics.method(id) {
@@ -105,7 +104,7 @@ fn run_method_body(
     forms: &Forms,
     body: &MethodBody,
 ) -> Result<Doing, Stop>
-    ensures leads { Leads (inside machine.old (method_body_run (meaning machine.old.room) (running id.0 next.now forms.now (with_arguments arguments machine.old.context)) body.now)) (seen world.now) result machine.new }
+    ensures leads { Leads (here machine.old (λ ev env. method_body_run ev (running id.0 next.now forms.now (with_arguments arguments env)) body.now)) (seen world.now) result machine.new }
     ensures small { Grows perform_weight machine.old.levels result machine.new }
 {
     match body {
@@ -159,7 +158,7 @@ fn run_forms(
     lambda_list: &LambdaList,
     body: &Forms,
 ) -> Result<Doing, Stop>
-    ensures leads { Leads (inside machine.old (forms_run (meaning machine.old.room) context lambda_list.now body.now)) (seen world.now) result machine.new }
+    ensures leads { Leads (here machine.old (λ ev env. forms_run ev context lambda_list.now body.now)) (seen world.now) result machine.new }
     ensures small { Grows value_weight machine.old.levels result machine.new }
 {
     if !keys_are_even(lambda_list, context.arguments.as_slice()) {

@@ -4,15 +4,13 @@ ghost use Rattle.std.specs.Str.{bytes_eq};
 ghost use Rattle.lisp_data.specs.Value.{generic, method};
 ghost use Rattle.lisp_data.specs.ValueView.{value_of};
 ghost use Rattle.clos_generic_core.specs.MethodIds.{method_numbers};
-ghost use Rattle.clos_machine.specs.clos_world.World.{State, seen};
+ghost use Rattle.clos_machine.specs.clos_world.World.{seen};
 ghost use Rattle.clos_machine.specs.clos_meaning.Calls.{made_run};
 ghost use Rattle.clos_machine.specs.clos_meaning.Contexts.{with_arguments};
-ghost use Rattle.clos_machine.specs.Machine.{Leads, Grows, at, inside, call_growth, collect_weight, perform_weight};
-ghost use Rattle.clos_machine.specs.clos_meaning.Meaning.{meaning};
+ghost use Rattle.clos_machine.specs.Machine.{Leads, Grows, call_growth, collect_weight, perform_weight, here};
 ghost use Rattle.clos_machine.specs.clos_meaning.NextMethods.{has_next, next_called, next_given, none_next};
 ghost use Rattle.clos_calls.specs.NextMethods.{Refuses, refusal_for, refusal_of};
 ghost use Rattle.clos_machine.specs.clos_meaning.Meaning.{next_method};
-ghost use Rattle.clos_machine.specs.clos_meaning.Outcome.{Run};
 ghost use Rattle.clos_machine.specs.declared.machine.Action.TheVariants.{CallNext};
 
 use crate::generic_calls::{enter_effect, takes};
@@ -43,7 +41,7 @@ pub fn call_next_method(
     world: &World,
     forms: &Forms,
 ) -> Result<Doing, Stop>
-    ensures leads { Leads (inside machine.old (next_method (meaning machine.old.room) machine.old.context forms.now)) (seen world.now) result machine.new }
+    ensures leads { Leads (here machine.old (λ ev env. next_method ev env forms.now)) (seen world.now) result machine.new }
     ensures small { Grows (collect_weight CallNext) machine.old.levels result machine.new }
 {
     match forms.split_first() {
@@ -63,7 +61,7 @@ pub fn call_next_given(
     world: &World,
     values: Values,
 ) -> Result<Doing, Stop>
-    ensures leads { Leads (inside machine.old (next_given (meaning machine.old.room) machine.old.context machine.old.context.running values)) (seen world.now) result machine.new }
+    ensures leads { Leads (here machine.old (λ ev env. next_given ev env env.running values)) (seen world.now) result machine.new }
     ensures small { Grows perform_weight machine.old.levels result machine.new }
 {
     match permit(alloc, machine, world, values.as_slice()) {
@@ -138,7 +136,7 @@ fn run_next(
     world: &World,
     arguments: Arguments,
 ) -> Result<Doing, Stop>
-    ensures leads { Leads (inside machine.old (next_called (meaning machine.old.room) machine.old.context machine.old.context.running arguments)) (seen world.now) result machine.new }
+    ensures leads { Leads (here machine.old (λ ev env. next_called ev env env.running arguments)) (seen world.now) result machine.new }
     ensures small { Grows perform_weight machine.old.levels result machine.new }
 {
     let Some(running) = &machine.context.running else {
@@ -167,7 +165,7 @@ fn run_made_with(
     arguments: Arguments,
     forms: &Forms,
 ) -> Result<Doing, Stop>
-    ensures leads { Leads (inside machine.old (made_run (meaning machine.old.room) (with_arguments arguments machine.old.context) forms.now)) (seen world.now) result machine.new }
+    ensures leads { Leads (here machine.old (λ ev env. made_run ev (with_arguments arguments env) forms.now)) (seen world.now) result machine.new }
     ensures small { Grows call_growth machine.old.levels result machine.new }
 {
     let _ = world;
@@ -189,7 +187,7 @@ fn call_none(
     id: MethodId,
     arguments: &Arguments,
 ) -> Result<Doing, Stop>
-    ensures leads { Leads (inside machine.now (none_next (meaning machine.now.room) machine.now.context.call id.0 arguments.now)) (seen world.now) result machine.now }
+    ensures leads { Leads (here machine.now (λ ev env. none_next ev env.call id.0 arguments.now)) (seen world.now) result machine.now }
     ensures small { Grows perform_weight machine.now.levels result machine.now }
 {
     let _ = world;

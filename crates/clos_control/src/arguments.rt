@@ -1,11 +1,10 @@
 //! The values that actions are done with, from left to right (HyperSpec 3.1.2.1.2.3).
-ghost use Rattle.std.specs.Prelude.{◌≡◌, ◌∷◌, ◌++◌, [], ℕ, ◌≤◌, IfOk, option_map};
+ghost use Rattle.std.specs.Prelude.{◌≡◌, ◌∷◌, ◌++◌, [], ◌≤◌, IfOk, option_map};
 ghost use Rattle.lisp_data.specs.ValueView.{value_of};
 ghost use Rattle.clos_forms.specs.OperatorView.{operator_of};
-ghost use Rattle.clos_machine.specs.clos_world.World.{State, seen};
-ghost use Rattle.clos_machine.specs.Machine.{Leads, Turns, Took, Grows, at, at_once, inside, acted, action_weight};
-ghost use Rattle.clos_machine.specs.clos_meaning.Meaning.{collect, meaning};
-ghost use Rattle.clos_machine.specs.clos_meaning.Outcome.{Run};
+ghost use Rattle.clos_machine.specs.clos_world.World.{seen};
+ghost use Rattle.clos_machine.specs.Machine.{Turns, Took, Grows, at, at_once, acted, action_weight, here, Does};
+ghost use Rattle.clos_machine.specs.clos_meaning.Meaning.{collect};
 
 use clos_forms::{Forms, Operator};
 use clos_machine::machine::{Action, Doing, Frame, Machine};
@@ -66,9 +65,7 @@ fn begin_next(
     forms: &Forms,
     values: Values,
 ) -> Result<Doing, Stop>
-    ensures leads { (run : Run) (w : State)
-        → ((t : ℕ) → collect (meaning machine.old.room) machine.old.context forms.now values (acted (meaning machine.old.room) machine.old.context action) (at machine.old w) t ≡ run (at machine.old w) t)
-        → Leads (inside machine.old run) w result machine.new }
+    ensures leads { Does (λ ev env. collect ev env forms.now values (acted ev env action)) machine.old result machine.new }
     ensures small { Grows (action_weight action) machine.old.levels result machine.new }
 {
     let Ok(next) = split(forms) else {
@@ -92,7 +89,7 @@ pub fn collect_values(
     mut values: Values,
     steps: &mut u64,
 ) -> Result<Doing, Stop>
-    ensures turns { Turns (inside machine.old (collect (meaning machine.old.room) machine.old.context forms.now values (acted (meaning machine.old.room) machine.old.context action))) (seen world.now) steps.old result machine.new (seen world.now) steps.new }
+    ensures turns { Turns (here machine.old (λ ev env. collect ev env forms.now values (acted ev env action))) (seen world.now) steps.old result machine.new (seen world.now) steps.new }
     ensures small { Grows (action_weight action) machine.old.levels result machine.new }
     ensures fewer { steps.new ≤ steps.old }
 {
@@ -115,9 +112,7 @@ pub fn next_value(
     mut values: Values,
     value: Value,
 ) -> Result<Doing, Stop>
-    ensures leads { (run : Run) (w : State)
-        → ((t : ℕ) → collect (meaning machine.now.room) machine.now.context rest (values ++ value_of value ∷ []) (acted (meaning machine.now.room) machine.now.context action) (at machine.now w) t ≡ run (at machine.now w) t)
-        → Leads (inside machine.now run) w result machine.now }
+    ensures leads { Does (λ ev env. collect ev env rest (values ++ value_of value ∷ []) (acted ev env action)) machine.now result machine.now }
     ensures small { Grows (collect_weight action) machine.now.levels result machine.now }
 {
     let _ = machine;

@@ -1,13 +1,13 @@
 //! Variables, and what binds them (HyperSpec 5.3 `let`, `let*`, 6.2 `dotimes`).
-ghost use Rattle.std.specs.Prelude.{◌≡◌, ◌∷◌, ◌++◌, [], ℕ, ◌≤◌, length, option_map, OnOk, pos};
+ghost use Rattle.std.specs.Prelude.{◌≡◌, ◌∷◌, ◌++◌, [], ℕ, ◌≤◌, length, OnOk, pos};
 ghost use Rattle.lisp_data.specs.Value.{list, nil};
 ghost use Rattle.lisp_data.specs.ValueView.{value_of};
 ghost use Rattle.clos_machine.specs.clos_world.World.{State, seen, held, bound_as};
 ghost use Rattle.clos_machine.specs.clos_meaning.Control.{sequence};
-ghost use Rattle.clos_machine.specs.Machine.{Leads, Turns, Grows, Shrinks, at, with_next, inside, loop_of, turn_weight, value_weight};
+ghost use Rattle.clos_machine.specs.Machine.{Leads, Turns, Grows, Shrinks, at, with_next, inside, loop_of, turn_weight, value_weight, here, Does};
 ghost use Rattle.clos_machine.specs.clos_meaning.Meaning.{meaning};
-ghost use Rattle.clos_machine.specs.clos_meaning.Outcome.{Run, Gave, then_do};
-ghost use Rattle.clos_machine.specs.clos_meaning.Variables.{found_value, in_order, binding, within, leaving, aside, together, dotimes, repeated, turns, result_value, body_of, counted, with_count};
+ghost use Rattle.clos_machine.specs.clos_meaning.Outcome.{Run, then_do};
+ghost use Rattle.clos_machine.specs.clos_meaning.Variables.{in_order, binding, within, leaving, aside, together, dotimes, repeated, turns, result_value, body_of, counted, with_count};
 
 use clos_forms::{Bindings, Forms};
 use clos_machine::counter::Counter;
@@ -21,9 +21,7 @@ use std::alloc::{AllocError, Global};
 
 /// The forms of a body, within names that are gone after it.
 fn run_within(machine: &mut Machine, outer: usize, forms: &Forms) -> Result<Doing, Stop>
-    ensures leads { (run : Run) (w : State)
-        → ((t : ℕ) → within (meaning machine.old.room) machine.old.context outer forms.now (list nil) (at machine.old w) t ≡ run (at machine.old w) t)
-        → Leads (inside machine.old run) w result machine.new }
+    ensures leads { Does (λ ev env. within ev env outer forms.now (list nil)) machine.old result machine.new }
     ensures small { Grows value_weight machine.old.levels result machine.new }
 {
     continue_within(machine, outer, forms, nil())
@@ -37,9 +35,7 @@ pub fn continue_within(
     forms: &Forms,
     value: Value,
 ) -> Result<Doing, Stop>
-    ensures leads { (run : Run) (w : State)
-        → ((t : ℕ) → within (meaning machine.old.room) machine.old.context outer forms.now (value_of value) (at machine.old w) t ≡ run (at machine.old w) t)
-        → Leads (inside machine.old run) w result machine.new }
+    ensures leads { Does (λ ev env. within ev env outer forms.now (value_of value)) machine.old result machine.new }
     ensures small { Grows value_weight machine.old.levels result machine.new }
 {
     match split(forms)? {
@@ -102,9 +98,7 @@ fn bind_next(
     plan: Plan,
     forms: &Forms,
 ) -> Result<Doing, Stop>
-    ensures leads { (run : Run) (w : State)
-        → ((t : ℕ) → in_order (meaning machine.old.room) machine.old.context outer (with_next next plan) forms.now (at machine.old w) t ≡ run (at machine.old w) t)
-        → Leads (inside machine.old run) w result machine.new }
+    ensures leads { Does (λ ev env. in_order ev env outer (with_next next plan) forms.now) machine.old result machine.new }
     ensures small { Grows value_weight machine.old.levels result machine.new }
 {
     match next {
@@ -296,9 +290,7 @@ pub fn start_loop(
     has_result: bool,
     forms: &Forms,
 ) -> Result<Doing, Stop>
-    ensures leads { (run : Run) (w : State)
-        → ((t : ℕ) → dotimes (meaning machine.old.room) machine.old.context (length machine.old.locals) name.now has_result forms.now (at machine.old w) t ≡ run (at machine.old w) t)
-        → Leads (inside machine.old run) w result machine.new }
+    ensures leads { Does (λ ev env. dotimes ev env (length machine.old.locals) name.now has_result forms.now) machine.old result machine.new }
     ensures small { Grows value_weight machine.old.levels result machine.new }
 {
     match split(forms)? {
@@ -377,9 +369,7 @@ pub fn continue_turn(
     forms: &Forms,
     value: Value,
 ) -> Result<Doing, Stop>
-    ensures leads { (run : Run) (w : State)
-        → ((t : ℕ) → then_do (sequence (meaning machine.old.room) machine.old.context forms.now (value_of value) (at machine.old w) t) (λ v. turns (meaning machine.old.room) machine.old.context (loop_of repetition) counter.0 counter.1) ≡ run (at machine.old w) t)
-        → Leads (inside machine.old run) w result machine.new }
+    ensures leads { Does (λ ev env u k. then_do (sequence ev env forms.now (value_of value) u k) (λ v. turns ev env (loop_of repetition) counter.0 counter.1)) machine.old result machine.new }
     ensures small { Grows turn_weight machine.old.levels result machine.new }
 {
     match split(forms)? {
@@ -393,9 +383,7 @@ pub fn continue_turn(
 
 /// The body of a loop, and then the next turn.
 fn run_turn(machine: &mut Machine, repetition: Repetition, counter: Counter) -> Result<Doing, Stop>
-    ensures leads { (run : Run) (w : State)
-        → ((t : ℕ) → then_do (sequence (meaning machine.old.room) machine.old.context (body_of repetition.has_result repetition.forms) (list nil) (at machine.old w) t) (λ v. turns (meaning machine.old.room) machine.old.context (loop_of repetition) counter.0 counter.1) ≡ run (at machine.old w) t)
-        → Leads (inside machine.old run) w result machine.new }
+    ensures leads { Does (λ ev env u k. then_do (sequence ev env (body_of repetition.has_result repetition.forms) (list nil) u k) (λ v. turns ev env (loop_of repetition) counter.0 counter.1)) machine.old result machine.new }
     ensures small { Grows turn_weight machine.old.levels result machine.new }
 {
     let body = body_of(&repetition).copy()?;
@@ -420,9 +408,7 @@ fn begin_turn(
 
 /// The result form of a loop gives its value.
 fn run_result(machine: &mut Machine, repetition: &Repetition) -> Result<Doing, Stop>
-    ensures leads { (run : Run) (w : State)
-        → ((t : ℕ) → then_do (result_value (meaning machine.old.room) machine.old.context repetition.now.has_result repetition.now.forms (at machine.old w) t) (leaving repetition.now.outer) ≡ run (at machine.old w) t)
-        → Leads (inside machine.old run) w result machine.new }
+    ensures leads { Does (λ ev env u k. then_do (result_value ev env repetition.now.has_result repetition.now.forms u k) (leaving repetition.now.outer)) machine.old result machine.new }
     ensures small { Grows value_weight machine.old.levels result machine.new }
 {
     if !repetition.has_result {
@@ -465,7 +451,7 @@ pub fn turn(
     counter: Counter,
     steps: &mut u64,
 ) -> Result<Doing, Stop>
-    ensures turns { Turns (inside machine.old (turns (meaning machine.old.room) machine.old.context (loop_of repetition) counter.0 counter.1)) (seen world.now) steps.old result machine.new (seen world.now) steps.new }
+    ensures turns { Turns (here machine.old (λ ev env. turns ev env (loop_of repetition) counter.0 counter.1)) (seen world.now) steps.old result machine.new (seen world.now) steps.new }
     ensures small { Shrinks turn_weight steps.old steps.new machine.old.levels result machine.new }
     ensures fewer { steps.new ≤ steps.old }
 {

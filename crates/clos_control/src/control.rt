@@ -1,11 +1,7 @@
 //! Forms one after another, and conditionals (HyperSpec 5.3).
-ghost use Rattle.std.specs.Prelude.{◌≡◌, ℕ};
 ghost use Rattle.lisp_data.specs.ValueView.{value_of};
-ghost use Rattle.clos_machine.specs.clos_world.World.{State};
 ghost use Rattle.clos_machine.specs.clos_meaning.Control.{branch, keeping, clauses, clause, tested};
-ghost use Rattle.clos_machine.specs.Machine.{Leads, Grows, at, inside, followed, going, value_weight};
-ghost use Rattle.clos_machine.specs.clos_meaning.Meaning.{meaning};
-ghost use Rattle.clos_machine.specs.clos_meaning.Outcome.{Run};
+ghost use Rattle.clos_machine.specs.Machine.{Grows, followed, going, value_weight, Does};
 
 use clos_forms::Forms;
 use clos_machine::Stop;
@@ -21,9 +17,7 @@ pub fn go_on(
     forms: &Forms,
     value: Value,
 ) -> Result<Doing, Stop>
-    ensures leads { (run : Run) (w : State)
-        → ((t : ℕ) → going (meaning machine.old.room) machine.old.context control forms.now (value_of value) (at machine.old w) t ≡ run (at machine.old w) t)
-        → Leads (inside machine.old run) w result machine.new }
+    ensures leads { Does (λ ev env. going ev env control forms.now (value_of value)) machine.old result machine.new }
     ensures small { Grows value_weight machine.old.levels result machine.new }
 {
     match split(forms)? {
@@ -43,9 +37,7 @@ pub fn follow(
     rest: &Forms,
     value: Value,
 ) -> Result<Doing, Stop>
-    ensures leads { (run : Run) (w : State)
-        → ((t : ℕ) → followed (meaning machine.old.room) machine.old.context control rest.now (value_of value) (at machine.old w) t ≡ run (at machine.old w) t)
-        → Leads (inside machine.old run) w result machine.new }
+    ensures leads { Does (λ ev env. followed ev env control rest.now (value_of value)) machine.old result machine.new }
     ensures small { Grows value_weight machine.old.levels result machine.new }
 {
     match control {
@@ -82,9 +74,7 @@ pub fn follow(
 /// Of an if form, the form where its test holds, or the one where it does not.
 #[tactic(auto, using(clos_machine::proofs::Turns::going_progn))]
 fn branch(machine: &mut Machine, holds: bool, forms: &Forms) -> Result<Doing, Stop>
-    ensures leads { (run : Run) (w : State)
-        → ((t : ℕ) → branch (meaning machine.old.room) machine.old.context holds forms.now (at machine.old w) t ≡ run (at machine.old w) t)
-        → Leads (inside machine.old run) w result machine.new }
+    ensures leads { Does (λ ev env. branch ev env holds forms.now) machine.old result machine.new }
     ensures small { Grows value_weight machine.old.levels result machine.new }
 {
     match forms.split_first() {
@@ -100,9 +90,7 @@ fn branch(machine: &mut Machine, holds: bool, forms: &Forms) -> Result<Doing, St
 
 /// This value, after these forms.
 pub fn keep(machine: &mut Machine, forms: &Forms, value: Value) -> Result<Doing, Stop>
-    ensures leads { (run : Run) (w : State)
-        → ((t : ℕ) → keeping (meaning machine.old.room) machine.old.context forms.now (value_of value) (at machine.old w) t ≡ run (at machine.old w) t)
-        → Leads (inside machine.old run) w result machine.new }
+    ensures leads { Does (λ ev env. keeping ev env forms.now (value_of value)) machine.old result machine.new }
     ensures small { Grows value_weight machine.old.levels result machine.new }
 {
     match split(forms)? {
@@ -113,9 +101,7 @@ pub fn keep(machine: &mut Machine, forms: &Forms, value: Value) -> Result<Doing,
 
 /// The next clause of a cond form, or NIL.
 pub fn next_clause(machine: &mut Machine, forms: &Forms) -> Result<Doing, Stop>
-    ensures leads { (run : Run) (w : State)
-        → ((t : ℕ) → clauses (meaning machine.old.room) machine.old.context forms.now (at machine.old w) t ≡ run (at machine.old w) t)
-        → Leads (inside machine.old run) w result machine.new }
+    ensures leads { Does (λ ev env. clauses ev env forms.now) machine.old result machine.new }
     ensures small { Grows value_weight machine.old.levels result machine.new }
 {
     match forms.split_first() {
@@ -126,9 +112,7 @@ pub fn next_clause(machine: &mut Machine, forms: &Forms) -> Result<Doing, Stop>
 
 /// The test of a clause, before these clauses.
 fn test_clause(machine: &mut Machine, forms: &Forms, others: &Forms) -> Result<Doing, Stop>
-    ensures leads { (run : Run) (w : State)
-        → ((t : ℕ) → clause (meaning machine.old.room) machine.old.context forms.now (clauses (meaning machine.old.room) machine.old.context others.now) (at machine.old w) t ≡ run (at machine.old w) t)
-        → Leads (inside machine.old run) w result machine.new }
+    ensures leads { Does (λ ev env. clause ev env forms.now (clauses ev env others.now)) machine.old result machine.new }
     ensures small { Grows value_weight machine.old.levels result machine.new }
 {
     match split(forms)? {
@@ -148,9 +132,7 @@ pub fn clause_tested(
     others: &Forms,
     value: Value,
 ) -> Result<Doing, Stop>
-    ensures leads { (run : Run) (w : State)
-        → ((t : ℕ) → tested (meaning machine.old.room) machine.old.context forms.now (clauses (meaning machine.old.room) machine.old.context others.now) (value_of value) (at machine.old w) t ≡ run (at machine.old w) t)
-        → Leads (inside machine.old run) w result machine.new }
+    ensures leads { Does (λ ev env. tested ev env forms.now (clauses ev env others.now) (value_of value)) machine.old result machine.new }
     ensures small { Grows value_weight machine.old.levels result machine.new }
 {
     if is_true(&value) {

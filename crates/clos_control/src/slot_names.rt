@@ -1,12 +1,10 @@
 //! Names that stand for the slots of an object (HyperSpec 7.7 `with-slots`), and names in general.
-ghost use Rattle.std.specs.Prelude.{◌≡◌, ℕ, map, None};
+ghost use Rattle.std.specs.Prelude.{◌≡◌, map, None};
 ghost use Rattle.lisp_data.specs.ValueView.{value_of};
 ghost use Rattle.clos_forms.specs.BoundView.{bound_slot};
 ghost use Rattle.clos_forms.specs.Form.{operator_in};
 ghost use Rattle.clos_machine.specs.clos_world.World.{State, seen};
-ghost use Rattle.clos_machine.specs.Machine.{Grows, Leads, at, inside, slot_names, act_weight, value_weight};
-ghost use Rattle.clos_machine.specs.clos_meaning.Meaning.{meaning};
-ghost use Rattle.clos_machine.specs.clos_meaning.Outcome.{Run};
+ghost use Rattle.clos_machine.specs.Machine.{Grows, Leads, at, slot_names, act_weight, value_weight, here, Does};
 ghost use Rattle.clos_machine.specs.clos_meaning.SlotNames.{name_read, place_denoted, with_slots, within_slots};
 ghost use Rattle.clos_machine.specs.clos_meaning.Variables.{found_value};
 
@@ -27,7 +25,7 @@ pub fn read_name(
     world: &World,
     name: &Name,
 ) -> Result<Doing, Stop>
-    ensures leads { Leads (inside machine.old (λ w. name_read (meaning machine.old.room) machine.old.context name.now (place_denoted w name.now) w)) (seen world.now) result machine.new }
+    ensures leads { Leads (here machine.old (λ ev env w. name_read ev env name.now (place_denoted w name.now) w)) (seen world.now) result machine.new }
     ensures small { Grows act_weight machine.old.levels result machine.new }
 {
     match value_of_variable(machine, world, name) {
@@ -40,7 +38,7 @@ pub fn read_name(
 #[tactic(auto, using(clos_machine::proofs::Turns::stopped_through))]
 fn read_place(alloc: Global, machine: &mut Machine, name: &Name) -> Result<Doing, Stop>
     ensures leads { (w : State) → None ≡ found_value (at machine.old w) name.now
-        → Leads (inside machine.old (λ w. name_read (meaning machine.old.room) machine.old.context name.now (place_denoted w name.now) w)) w result machine.new }
+        → Leads (here machine.old (λ ev env w. name_read ev env name.now (place_denoted w name.now) w)) w result machine.new }
     ensures small { Grows act_weight machine.old.levels result machine.new }
 {
     match place_denoted(alloc, machine, name)? {
@@ -60,9 +58,7 @@ pub fn start_slots(
     form: &Form,
     parts: &Forms,
 ) -> Result<Doing, Stop>
-    ensures leads { (run : Run) (w : State)
-        → ((t : ℕ) → with_slots (meaning machine.old.room) machine.old.context (slot_names (operator_in form.now)) parts.now (at machine.old w) t ≡ run (at machine.old w) t)
-        → Leads (inside machine.old run) w result machine.new }
+    ensures leads { Does (λ ev env. with_slots ev env (slot_names (operator_in form.now)) parts.now) machine.old result machine.new }
     ensures small { Grows value_weight machine.old.levels result machine.new }
 {
     match split(parts)? {
@@ -92,9 +88,7 @@ pub fn bind_slots(
     body: &Forms,
     object: &Value,
 ) -> Result<Doing, Stop>
-    ensures leads { (run : Run) (w : State)
-        → ((t : ℕ) → within_slots (meaning machine.old.room) machine.old.context (slot_names (operator_in form.now)) body.now (value_of object.now) (at machine.old w) t ≡ run (at machine.old w) t)
-        → Leads (inside machine.old run) w result machine.new }
+    ensures leads { Does (λ ev env. within_slots ev env (slot_names (operator_in form.now)) body.now (value_of object.now)) machine.old result machine.new }
     ensures small { Grows value_weight machine.old.levels result machine.new }
 {
     let outer = machine.locals.len();

@@ -1,9 +1,8 @@
 //! Actions: what is called, set, read and changed with values that are there; and what methods do that have no forms.
-ghost use Rattle.std.specs.Prelude.{◌≡◌, ◌≤◌};
+ghost use Rattle.std.specs.Prelude.{◌≤◌};
 ghost use Rattle.clos_machine.specs.clos_world.World.{seen};
 ghost use Rattle.clos_machine.specs.clos_meaning.Functions.{called, place_read, place_set};
-ghost use Rattle.clos_machine.specs.Machine.{access_of, acted, act_weight, action_weight, built_in_growth, Grows, inside, performed, Shrinks, Turns, value_weight};
-ghost use Rattle.clos_machine.specs.clos_meaning.Meaning.{meaning};
+ghost use Rattle.clos_machine.specs.Machine.{access_of, acted, act_weight, action_weight, built_in_growth, Grows, performed, Shrinks, Turns, value_weight, here};
 
 use clos_calls::functions::{call, call_setter, compute};
 use clos_calls::next_methods::call_next_given;
@@ -31,7 +30,7 @@ fn apply(
     values: Values,
     steps: &mut u64,
 ) -> Result<Doing, Stop>
-    ensures turns { Turns (inside machine.old (called (meaning machine.old.room) machine.old.context name.now values)) (seen world.old) steps.old result machine.new (seen world.new) steps.new }
+    ensures turns { Turns (here machine.old (λ ev env. called ev env name.now values)) (seen world.old) steps.old result machine.new (seen world.new) steps.new }
     ensures small { Shrinks act_weight steps.old steps.new machine.old.levels result machine.new }
     ensures fewer { steps.new ≤ steps.old }
 {
@@ -61,7 +60,7 @@ fn set_place(
     values: Values,
     steps: &mut u64,
 ) -> Result<Doing, Stop>
-    ensures turns { Turns (inside machine.old (place_set (meaning machine.old.room) machine.old.context (access_of target.now) values)) (seen world.old) steps.old result machine.new (seen world.new) steps.new }
+    ensures turns { Turns (here machine.old (λ ev env. place_set ev env (access_of target.now) values)) (seen world.old) steps.old result machine.new (seen world.new) steps.new }
     ensures small { Grows value_weight machine.old.levels result machine.new }
     ensures fewer { steps.new ≤ steps.old }
 {
@@ -81,7 +80,7 @@ fn read_place(
     values: Values,
     steps: &mut u64,
 ) -> Result<Doing, Stop>
-    ensures turns { Turns (inside machine.old (place_read (meaning machine.old.room) machine.old.context (access_of target.now) values)) (seen world.old) steps.old result machine.new (seen world.new) steps.new }
+    ensures turns { Turns (here machine.old (λ ev env. place_read ev env (access_of target.now) values)) (seen world.old) steps.old result machine.new (seen world.new) steps.new }
     ensures small { Shrinks act_weight steps.old steps.new machine.old.levels result machine.new }
     ensures fewer { steps.new ≤ steps.old }
 {
@@ -110,7 +109,7 @@ pub fn perform(
     arguments: &Arguments,
     steps: &mut u64,
 ) -> Result<Doing, Stop>
-    ensures turns { Turns (inside machine.old (performed (meaning machine.old.room) machine.old.context method arguments.now)) (seen world.old) steps.old result machine.new (seen world.new) steps.new }
+    ensures turns { Turns (here machine.old (λ ev env. performed ev env method arguments.now)) (seen world.old) steps.old result machine.new (seen world.new) steps.new }
     ensures small { Grows built_in_growth machine.old.levels result machine.new }
     ensures fewer { steps.new ≤ steps.old }
 {
@@ -135,7 +134,7 @@ pub fn act(
     values: Values,
     steps: &mut u64,
 ) -> Result<Doing, Stop>
-    ensures turns { Turns (inside machine.old (acted (meaning machine.old.room) machine.old.context action values)) (seen world.old) steps.old result machine.new (seen world.new) steps.new }
+    ensures turns { Turns (here machine.old (λ ev env. acted ev env action values)) (seen world.old) steps.old result machine.new (seen world.new) steps.new }
     ensures small { Shrinks (action_weight action) steps.old steps.new machine.old.levels result machine.new }
     ensures fewer { steps.new ≤ steps.old }
 {

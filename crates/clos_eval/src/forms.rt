@@ -3,8 +3,8 @@ ghost use Rattle.std.specs.Prelude.{◌≡◌, ◌<◌, OnOk};
 ghost use Rattle.clos_forms.specs.Form.{operator_in};
 ghost use Rattle.clos_forms.specs.OperatorView.{operator_of};
 ghost use Rattle.clos_machine.specs.clos_world.World.{seen};
-ghost use Rattle.clos_machine.specs.Machine.{denote, form_growth, Grows, inside, Leads, Turns};
-ghost use Rattle.clos_machine.specs.clos_meaning.Meaning.{body, meaning, operated};
+ghost use Rattle.clos_machine.specs.Machine.{denote, form_growth, Grows, Leads, Turns, here};
+ghost use Rattle.clos_machine.specs.clos_meaning.Meaning.{body, operated};
 ghost use Rattle.clos_machine.specs.declared.machine.Doing.TheVariants.{Start};
 
 use clos_calls::functions::{function_named, start_call};
@@ -30,7 +30,7 @@ fn start_form(
     world: &World,
     form: &Form,
 ) -> Result<Doing, Stop>
-    ensures leads { Leads (inside machine.old (body (meaning machine.old.room) machine.old.context form.now)) (seen world.now) result machine.new }
+    ensures leads { Leads (here machine.old (λ ev env. body ev env form.now)) (seen world.now) result machine.new }
     ensures small { Grows form_growth machine.old.levels result machine.new }
 {
     operate(alloc, machine, world, form, form.operator(), form.parts())
@@ -47,7 +47,7 @@ fn operate(
     parts: &Forms,
 ) -> Result<Doing, Stop>
     requires { operator_of operator.now ≡ operator_in form.now }
-    ensures leads { Leads (inside machine.old (operated (meaning machine.old.room) machine.old.context (operator_of operator.now) parts.now)) (seen world.now) result machine.new }
+    ensures leads { Leads (here machine.old (λ ev env. operated ev env (operator_of operator.now) parts.now)) (seen world.now) result machine.new }
     ensures small { Grows form_growth machine.old.levels result machine.new }
 {
     match operator {

@@ -232,6 +232,14 @@ Leads run w (Ok d) m = (t : ℕ) → denote m d w t ≡ run w t
 Leads run w (Err (Refused c)) m = (t : ℕ) → run w t ≡ Stopped c (unbound w) t
 Leads run w (Err Storage) m = Unit {0}
 
+-- how the run ends where this is left to do, in the machine's context and with its room
+abbrev pub here : Machine → (Eval → Context → Run) → Run
+here m what = inside m (what (meaning m.room) m.context)
+
+-- A handler does this: it leads to where any run does that is the same.
+abbrev pub Does : (Eval → Context → Run) → Machine → Result Doing Stop → Machine → Type 0
+Does what m r n = (run : Run) (w : State) → ((t : ℕ) → what (meaning m.room) m.context (at m w) t ≡ run (at m w) t) → Leads (inside m run) w r n
+
 -- It gives this value, or stops, and changes nothing.
 abbrev pub Becomes : Run → State → Result Value Stop → Type 0
 Becomes run w (Ok v) = (t : ℕ) → run w t ≡ Gave (value_of v) w t

@@ -1,12 +1,10 @@
 //! The making of instances (HyperSpec 7.1.3, 7.1.7, 7.7 `make-instance`).
-ghost use Rattle.std.specs.Prelude.{◌≡◌, ℕ, ◌+◌, ◌≤◌, ◌<◌, ◌∷◌, [], true, OnOk, OnErr, IfOk, IfSome, MatchOption, drop, length, map, Some};
+ghost use Rattle.std.specs.Prelude.{◌≡◌, ◌+◌, ◌≤◌, ◌<◌, ◌∷◌, [], IfOk, IfSome, MatchOption, drop, length, map, Some};
 ghost use Rattle.lisp_data.specs.ValueView.{value_of};
 ghost use Rattle.clos_machine.specs.clos_world.Class.{class_name, effective};
 ghost use Rattle.clos_machine.specs.clos_world.World.{State, seen};
 ghost use Rattle.clos_machine.specs.clos_meaning.Initialization.{allocate, checked, defaulted, instance_made, invalid_for, making_of};
-ghost use Rattle.clos_machine.specs.Machine.{Grows, Leads, Turns, at, inside, act_weight, value_weight, default_given, Shrinks};
-ghost use Rattle.clos_machine.specs.clos_meaning.Meaning.{meaning};
-ghost use Rattle.clos_machine.specs.clos_meaning.Outcome.{Run};
+ghost use Rattle.clos_machine.specs.Machine.{Grows, Leads, Turns, at, act_weight, value_weight, default_given, Shrinks, here, Does};
 ghost use Rattle.clos_machine.specs.Fault.{TellsCondition};
 ghost use Rattle.clos_objects.specs.Objects.{Enters, default_first, ungiven};
 
@@ -35,7 +33,7 @@ pub fn make_instance(
     mut values: Values,
     steps: &mut u64,
 ) -> Result<Doing, Stop>
-    ensures turns { Turns (inside machine.old (instance_made (meaning machine.old.room) values)) (seen world.old) steps.old result machine.new (seen world.new) steps.new }
+    ensures turns { Turns (here machine.old (λ ev env. instance_made ev values)) (seen world.old) steps.old result machine.new (seen world.new) steps.new }
     ensures small { Shrinks act_weight steps.old steps.new machine.old.levels result machine.new }
     ensures fewer { steps.new ≤ steps.old }
 {
@@ -54,7 +52,7 @@ fn make(
     initargs: Values,
     steps: &mut u64,
 ) -> Result<Doing, Stop>
-    ensures turns { Turns (inside machine.old (instance_made (meaning machine.old.room) (value_of class ∷ initargs))) (seen world.old) steps.old result machine.new (seen world.new) steps.new }
+    ensures turns { Turns (here machine.old (λ ev env. instance_made ev (value_of class ∷ initargs))) (seen world.old) steps.old result machine.new (seen world.new) steps.new }
     ensures small { Shrinks act_weight steps.old steps.new machine.old.levels result machine.new }
     ensures fewer { steps.new ≤ steps.old }
 {
@@ -76,7 +74,7 @@ fn make_of(
     initargs: Values,
     steps: &mut u64,
 ) -> Result<Doing, Stop>
-    ensures turns { Turns (inside machine.old (λ w. making_of (meaning machine.old.room) initargs class.0 (effective w.classes class.0) w)) (seen world.old) steps.old result machine.new (seen world.new) steps.new }
+    ensures turns { Turns (here machine.old (λ ev env w. making_of ev initargs class.0 (effective w.classes class.0) w)) (seen world.old) steps.old result machine.new (seen world.new) steps.new }
     ensures small { Shrinks act_weight steps.old steps.new machine.old.levels result machine.new }
     ensures fewer { steps.new ≤ steps.old }
 {
@@ -104,7 +102,7 @@ fn make_within(
     initargs: Values,
     steps: &mut u64,
 ) -> Result<Doing, Stop>
-    ensures turns { Turns (inside machine.old (making_of (meaning machine.old.room) initargs class.0 (Some effective))) (seen world.old) steps.old result machine.new (seen world.new) steps.new }
+    ensures turns { Turns (here machine.old (λ ev env. making_of ev initargs class.0 (Some effective))) (seen world.old) steps.old result machine.new (seen world.new) steps.new }
     ensures small { Shrinks act_weight steps.old steps.new machine.old.levels result machine.new }
     ensures fewer { steps.new ≤ steps.old }
 {
@@ -142,9 +140,7 @@ fn evaluate_default(
     initargs: Values,
 ) -> Result<Doing, Stop>
     requires { place < length effective.defaults }
-    ensures leads { (run : Run) (w : State)
-        → ((t : ℕ) → default_first (meaning machine.old.room) machine.old.context class.0 effective (drop place effective.defaults) initargs (at machine.old w) t ≡ run (at machine.old w) t)
-        → Leads (inside machine.old run) w result machine.new }
+    ensures leads { Does (λ ev env. default_first ev env class.0 effective (drop place effective.defaults) initargs) machine.old result machine.new }
     ensures small { Grows value_weight machine.old.levels result machine.new }
 {
     let form = effective.defaults()[place].form.copy()?;
@@ -165,7 +161,7 @@ pub fn next_default(
     mut initargs: Values,
     value: Value,
 ) -> Result<Doing, Stop>
-    ensures leads { (w : State) → Leads (inside machine.old (default_given (meaning machine.old.room) machine.old.context class.0 effective (drop place effective.defaults) initargs (value_of value))) w result machine.new }
+    ensures leads { (w : State) → Leads (here machine.old (λ ev env. default_given ev env class.0 effective (drop place effective.defaults) initargs (value_of value))) w result machine.new }
     ensures small { Grows act_weight machine.old.levels result machine.new }
 {
     let Some((default, next)) = default_at(&effective, place) else {
@@ -203,7 +199,7 @@ fn go_on(
     from: usize,
     initargs: Values,
 ) -> Result<Doing, Stop>
-    ensures leads { (w : State) → Leads (inside machine.old (defaulted (meaning machine.old.room) machine.old.context class.0 effective (drop from effective.defaults) initargs)) w result machine.new }
+    ensures leads { (w : State) → Leads (here machine.old (λ ev env. defaulted ev env class.0 effective (drop from effective.defaults) initargs)) w result machine.new }
     ensures small { Grows act_weight machine.old.levels result machine.new }
 {
     match next_ungiven(&effective, from, initargs.as_slice()) {
@@ -222,7 +218,7 @@ pub fn allocate(
     initargs: Values,
     steps: &mut u64,
 ) -> Result<Doing, Stop>
-    ensures turns { Turns (inside machine.old (allocate (meaning machine.old.room) machine.old.context class.0 effective initargs)) (seen world.old) steps.old result machine.new (seen world.new) steps.new }
+    ensures turns { Turns (here machine.old (λ ev env. allocate ev env class.0 effective initargs)) (seen world.old) steps.old result machine.new (seen world.new) steps.new }
     ensures small { Shrinks act_weight steps.old steps.new machine.old.levels result machine.new }
     ensures fewer { steps.new ≤ steps.old }
 {
@@ -251,7 +247,7 @@ pub fn initialize(
     id: InstanceId,
     mut initargs: Values,
 ) -> Result<Doing, Stop>
-    ensures leads { Leads (inside machine.old (checked (meaning machine.old.room) class.0 effective.now initargs id.0)) (seen world.now) result machine.new }
+    ensures leads { Leads (here machine.old (λ ev env. checked ev class.0 effective.now initargs id.0)) (seen world.now) result machine.new }
     ensures small { Grows value_weight machine.old.levels result machine.new }
 {
     let function = SystemFunction::InitializeInstance;

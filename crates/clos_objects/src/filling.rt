@@ -1,13 +1,12 @@
 //! The system's method of shared-initialize (HyperSpec 7.1.4): the slots of an instance are filled in layout order.
-ghost use Rattle.std.specs.Prelude.{◌≡◌, ◌∷◌, [], ℕ, ◌≤◌, IfOk, MatchOption, drop, option_copied};
+ghost use Rattle.std.specs.Prelude.{◌≡◌, ◌∷◌, [], ◌≤◌, IfOk, MatchOption, drop, option_copied};
 ghost use Rattle.std.specs.Option.{option_map_or};
 ghost use Rattle.lisp_data.specs.Value.{list, nil};
 ghost use Rattle.lisp_data.specs.ValueView.{value_of};
 ghost use Rattle.clos_machine.specs.clos_world.clos_store.Store.{slot_found};
 ghost use Rattle.clos_machine.specs.clos_world.World.{class_of_instance, seen};
 ghost use Rattle.clos_machine.specs.clos_meaning.Filling.{is_named, fill, filler, is_the_class, unbound_filler};
-ghost use Rattle.clos_machine.specs.Machine.{Grows, Leads, Shrinks, Turns, inside, slots_left, subject_of, act_weight, fill_with};
-ghost use Rattle.clos_machine.specs.clos_meaning.Meaning.{meaning};
+ghost use Rattle.clos_machine.specs.Machine.{Shrinks, Turns, slots_left, subject_of, act_weight, fill_with, here};
 ghost use Rattle.clos_machine.specs.declared.machine.Filling.{Filling};
 ghost use Rattle.clos_objects.specs.Objects.{Finds, filler_found, filler_of_form, first_filled};
 
@@ -93,7 +92,7 @@ pub fn fill(
     mut filling: Filling,
     steps: &mut u64,
 ) -> Result<Doing, Stop>
-    ensures turns { Turns (inside machine.old (fill (meaning machine.old.room) machine.old.context (subject_of filling) (slots_left filling))) (seen world.old) steps.old result machine.new (seen world.new) steps.new }
+    ensures turns { Turns (here machine.old (λ ev env. fill ev env (subject_of filling) (slots_left filling))) (seen world.old) steps.old result machine.new (seen world.new) steps.new }
     ensures small { Shrinks act_weight steps.old steps.new machine.old.levels result machine.new }
     ensures fewer { steps.new ≤ steps.old }
 {
@@ -118,7 +117,7 @@ fn fill_first(
     value: Value,
     steps: &mut u64,
 ) -> Result<Doing, Stop>
-    ensures turns { Turns (inside machine.now (first_filled (meaning machine.now.room) machine.now.context (subject_of filling) (slots_left filling) (value_of value))) (seen world.old) steps.old result machine.now (seen world.new) steps.new }
+    ensures turns { Turns (here machine.now (λ ev env. first_filled ev env (subject_of filling) (slots_left filling) (value_of value))) (seen world.old) steps.old result machine.now (seen world.new) steps.new }
     ensures small { Shrinks act_weight steps.old steps.new machine.now.levels result machine.now }
     ensures fewer { steps.new ≤ steps.old }
 {
@@ -158,7 +157,7 @@ pub fn fill_with(
     value: Value,
     steps: &mut u64,
 ) -> Result<Doing, Stop>
-    ensures turns { Turns (inside machine.old (fill_with (meaning machine.old.room) machine.old.context (subject_of filling) (slots_left filling) (value_of value))) (seen world.old) steps.old result machine.new (seen world.new) steps.new }
+    ensures turns { Turns (here machine.old (λ ev env. fill_with ev env (subject_of filling) (slots_left filling) (value_of value))) (seen world.old) steps.old result machine.new (seen world.new) steps.new }
     ensures small { Shrinks act_weight steps.old steps.new machine.old.levels result machine.new }
     ensures fewer { steps.new ≤ steps.old }
 {

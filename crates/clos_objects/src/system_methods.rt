@@ -3,8 +3,7 @@ ghost use Rattle.std.specs.Prelude.{◌≡◌, ◌∷◌, [], IfOk, MatchOption,
 ghost use Rattle.lisp_data.specs.Value.{instance};
 ghost use Rattle.lisp_data.specs.ValueView.{value_of};
 ghost use Rattle.clos_machine.specs.clos_world.World.{seen};
-ghost use Rattle.clos_machine.specs.Machine.{Grows, Leads, inside, initargs_in, names_in, built_in_growth, value_weight};
-ghost use Rattle.clos_machine.specs.clos_meaning.Meaning.{meaning};
+ghost use Rattle.clos_machine.specs.Machine.{Grows, Leads, initargs_in, names_in, built_in_growth, value_weight, here};
 ghost use Rattle.clos_machine.specs.clos_meaning.Slots.{instance_in};
 ghost use Rattle.clos_machine.specs.clos_meaning.SystemMethods.{class_in, initialize, initialize_slots, filled_as, reinitialize, reinitialize_as, shared_initialized, slot_condition, system_method_run, told};
 ghost use Rattle.clos_machine.specs.Fault.{TellsCondition};
@@ -39,7 +38,7 @@ pub fn run_system_method(
     function: SystemFunction,
     arguments: &Arguments,
 ) -> Result<Doing, Stop>
-    ensures leads { Leads (inside machine.old (system_method_run (meaning machine.old.room) function arguments.now)) (seen world.now) result machine.new }
+    ensures leads { Leads (here machine.old (λ ev env. system_method_run ev function arguments.now)) (seen world.now) result machine.new }
     ensures small { Grows built_in_growth machine.old.levels result machine.new }
 {
     match split(arguments.as_slice()) {
@@ -60,7 +59,7 @@ fn run_with(
     arguments: &Arguments,
 ) -> Result<Doing, Stop>
     requires { arguments.now ≡ value_of first.now ∷ map value_of rest.now }
-    ensures leads { Leads (inside machine.old (system_method_run (meaning machine.old.room) function arguments.now)) (seen world.now) result machine.new }
+    ensures leads { Leads (here machine.old (λ ev env. system_method_run ev function arguments.now)) (seen world.now) result machine.new }
     ensures small { Grows built_in_growth machine.old.levels result machine.new }
 {
     match function {
@@ -101,7 +100,7 @@ fn initialize_shared(
     names: Value,
     initargs: &[Value],
 ) -> Result<Doing, Stop>
-    ensures leads { Leads (inside machine.old (shared_initialized (meaning machine.old.room) id.0 (value_of names) (map value_of initargs.now))) (seen world.now) result machine.new }
+    ensures leads { Leads (here machine.old (λ ev env. shared_initialized ev id.0 (value_of names) (map value_of initargs.now))) (seen world.now) result machine.new }
     ensures small { Grows value_weight machine.old.levels result machine.new }
 {
     let _ = world;
@@ -137,7 +136,7 @@ fn initialize(
     object: &Value,
     initargs: &[Value],
 ) -> Result<Doing, Stop>
-    ensures leads { Leads (inside machine.old (initialize (meaning machine.old.room) (map value_of initargs.now) (instance_in (value_of object.now)))) (seen world.now) result machine.new }
+    ensures leads { Leads (here machine.old (λ ev env. initialize ev (map value_of initargs.now) (instance_in (value_of object.now)))) (seen world.now) result machine.new }
     ensures small { Grows value_weight machine.old.levels result machine.new }
 {
     match instance_in(alloc, object) {
@@ -167,7 +166,7 @@ fn reinitialize(
     object: &Value,
     initargs: &[Value],
 ) -> Result<Doing, Stop>
-    ensures leads { Leads (inside machine.old (reinitialize (meaning machine.old.room) (map value_of initargs.now) (instance_in (value_of object.now)))) (seen world.now) result machine.new }
+    ensures leads { Leads (here machine.old (λ ev env. reinitialize ev (map value_of initargs.now) (instance_in (value_of object.now)))) (seen world.now) result machine.new }
     ensures small { Grows value_weight machine.old.levels result machine.new }
 {
     match instance_in(alloc, object) {
@@ -184,7 +183,7 @@ fn reinitialize_instance(
     id: InstanceId,
     initargs: &[Value],
 ) -> Result<Doing, Stop>
-    ensures leads { Leads (inside machine.old (λ w. reinitialize_as (meaning machine.old.room) (map value_of initargs.now) id.0 (class_in w id.0) w)) (seen world.now) result machine.new }
+    ensures leads { Leads (here machine.old (λ ev env w. reinitialize_as ev (map value_of initargs.now) id.0 (class_in w id.0) w)) (seen world.now) result machine.new }
     ensures small { Grows value_weight machine.old.levels result machine.new }
 {
     match class_in(world, id)? {
@@ -211,7 +210,7 @@ fn initialize_slots(
     arguments: &Arguments,
 ) -> Result<Doing, Stop>
     requires { arguments.now ≡ value_of object.now ∷ map value_of rest.now }
-    ensures leads { Leads (inside machine.old (system_method_run (meaning machine.old.room) SharedInitialize arguments.now)) (seen world.now) result machine.new }
+    ensures leads { Leads (here machine.old (λ ev env. system_method_run ev SharedInitialize arguments.now)) (seen world.now) result machine.new }
     ensures small { Grows built_in_growth machine.old.levels result machine.new }
 {
     match split(rest) {
@@ -241,7 +240,7 @@ fn fill_instance(
     id: InstanceId,
     arguments: &Arguments,
 ) -> Result<Doing, Stop>
-    ensures leads { Leads (inside machine.old (λ w. filled_as (meaning machine.old.room) id.0 (names_in arguments.now) (initargs_in arguments.now) (class_in w id.0) w)) (seen world.now) result machine.new }
+    ensures leads { Leads (here machine.old (λ ev env w. filled_as ev id.0 (names_in arguments.now) (initargs_in arguments.now) (class_in w id.0) w)) (seen world.now) result machine.new }
     ensures small { Grows built_in_growth machine.old.levels result machine.new }
 {
     match class_in(world, id)? {

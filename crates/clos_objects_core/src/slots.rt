@@ -1,17 +1,16 @@
 //! The slots of instances by their names (HyperSpec 7.5.2, 7.7 `slot-value`, `slot-boundp`, `slot-makunbound`,
 //! `slot-exists-p`).
-ghost use Rattle.std.specs.Prelude.{◌≡◌, ℕ, ◌≤◌, ◌∷◌, [], IfOk, None, Option, option_map, map};
+ghost use Rattle.std.specs.Prelude.{◌≡◌, ◌≤◌, ◌∷◌, [], IfOk, None, Option, option_map, map};
 ghost use Rattle.lisp_data.specs.Value.{instance};
 ghost use Rattle.lisp_data.specs.ValueView.{value_of};
 ghost use Rattle.lisp_prims.specs.Primitive.{truth};
 ghost use Rattle.clos_forms.specs.Quotation.{name_value};
 ghost use Rattle.clos_machine.specs.clos_world.clos_store.Store.{slot_found};
 ghost use Rattle.clos_machine.specs.clos_world.Values.{only_value};
-ghost use Rattle.clos_machine.specs.clos_world.World.{State, class_of_instance, seen};
+ghost use Rattle.clos_machine.specs.clos_world.World.{class_of_instance, seen};
 ghost use Rattle.clos_machine.specs.clos_meaning.Accessors.{read_by, written_by};
-ghost use Rattle.clos_machine.specs.Machine.{Grows, Leads, Turns, at, inside, value_weight};
-ghost use Rattle.clos_machine.specs.clos_meaning.Meaning.{meaning};
-ghost use Rattle.clos_machine.specs.clos_meaning.Outcome.{Gave, Run};
+ghost use Rattle.clos_machine.specs.Machine.{Grows, Leads, Turns, inside, value_weight, here};
+ghost use Rattle.clos_machine.specs.clos_meaning.Outcome.{Gave};
 ghost use Rattle.clos_machine.specs.clos_meaning.Slots.{class_value, operation_name, has_slot, instance_in, slot_answer, slot_called, slot_changed, slot_designated, slot_read, slot_set, slot_tested};
 ghost use Rattle.clos_objects_core.specs.Slots.{DesignatesSlot, changed_arguments, three_of, two_of};
 
@@ -116,7 +115,7 @@ pub fn call_reader(
     slot: &Name,
     values: &[Value],
 ) -> Result<Doing, Stop>
-    ensures leads { Leads (inside machine.now (read_by (meaning machine.now.room) machine.now.context slot.now (map value_of values.now))) (seen world.now) result machine.now }
+    ensures leads { Leads (here machine.now (λ ev env. read_by ev env slot.now (map value_of values.now))) (seen world.now) result machine.now }
     ensures small { Grows value_weight machine.now.levels result machine.now }
 {
     match only(values) {
@@ -137,7 +136,7 @@ pub fn call_writer(
     values: &[Value],
     steps: &mut u64,
 ) -> Result<Doing, Stop>
-    ensures turns { Turns (inside machine.old (written_by (meaning machine.old.room) machine.old.context slot (map value_of values.now))) (seen world.old) steps.old result machine.new (seen world.new) steps.new }
+    ensures turns { Turns (here machine.old (λ ev env. written_by ev env slot (map value_of values.now))) (seen world.old) steps.old result machine.new (seen world.new) steps.new }
     ensures small { Grows value_weight machine.old.levels result machine.new }
     ensures fewer { steps.new ≤ steps.old }
 {
@@ -163,7 +162,7 @@ pub fn call_slot_function(
     values: &Values,
     steps: &mut u64,
 ) -> Result<Doing, Stop>
-    ensures turns { Turns (inside machine.old (slot_called (meaning machine.old.room) machine.old.context function values.now)) (seen world.old) steps.old result machine.new (seen world.new) steps.new }
+    ensures turns { Turns (here machine.old (λ ev env. slot_called ev env function values.now)) (seen world.old) steps.old result machine.new (seen world.new) steps.new }
     ensures small { Grows value_weight machine.old.levels result machine.new }
     ensures fewer { steps.new ≤ steps.old }
 {
@@ -186,7 +185,7 @@ fn answer(
     name: Name,
     steps: &mut u64,
 ) -> Result<Doing, Stop>
-    ensures turns { Turns (inside machine.old (slot_answer (meaning machine.old.room) machine.old.context function id.0 name)) (seen world.old) steps.old result machine.new (seen world.new) steps.new }
+    ensures turns { Turns (here machine.old (λ ev env. slot_answer ev env function id.0 name)) (seen world.old) steps.old result machine.new (seen world.new) steps.new }
     ensures small { Grows value_weight machine.old.levels result machine.new }
     ensures fewer { steps.new ≤ steps.old }
 {
@@ -217,7 +216,7 @@ fn read(
     id: InstanceId,
     name: &Name,
 ) -> Result<Doing, Stop>
-    ensures leads { Leads (inside machine.now (λ w. slot_read (meaning machine.now.room) machine.now.context id.0 name.now (slot_found w.store id.0 name.now) w)) (seen world.now) result machine.now }
+    ensures leads { Leads (here machine.now (λ ev env w. slot_read ev env id.0 name.now (slot_found w.store id.0 name.now) w)) (seen world.now) result machine.now }
     ensures small { Grows value_weight machine.now.levels result machine.now }
 {
     let _ = machine;
@@ -245,7 +244,7 @@ fn test(
     id: InstanceId,
     name: &Name,
 ) -> Result<Doing, Stop>
-    ensures leads { Leads (inside machine.old (λ w. slot_tested (meaning machine.old.room) machine.old.context id.0 name.now (slot_found w.store id.0 name.now) w)) (seen world.now) result machine.new }
+    ensures leads { Leads (here machine.old (λ ev env w. slot_tested ev env id.0 name.now (slot_found w.store id.0 name.now) w)) (seen world.now) result machine.new }
     ensures small { Grows value_weight machine.old.levels result machine.new }
 {
     match world.store.slot(id, name) {
@@ -291,7 +290,7 @@ fn change(
     given: Value,
     steps: &mut u64,
 ) -> Result<Doing, Stop>
-    ensures turns { Turns (inside machine.old (λ w. slot_changed (meaning machine.old.room) machine.old.context id.0 name (option_map value_of value) (value_of given) (slot_found w.store id.0 name) w)) (seen world.old) steps.old result machine.new (seen world.new) steps.new }
+    ensures turns { Turns (here machine.old (λ ev env w. slot_changed ev env id.0 name (option_map value_of value) (value_of given) (slot_found w.store id.0 name) w)) (seen world.old) steps.old result machine.new (seen world.new) steps.new }
     ensures small { Grows value_weight machine.old.levels result machine.new }
     ensures fewer { steps.new ≤ steps.old }
 {
@@ -317,7 +316,7 @@ fn change_missing(
     value: Option<Value>,
     given: Value,
 ) -> Result<Doing, Stop>
-    ensures leads { Leads (inside machine.old (slot_changed (meaning machine.old.room) machine.old.context id.0 name.now (option_map value_of value) (value_of given) None)) (seen world.now) result machine.new }
+    ensures leads { Leads (here machine.old (λ ev env. slot_changed ev env id.0 name.now (option_map value_of value) (value_of given) None)) (seen world.now) result machine.new }
     ensures small { Grows value_weight machine.old.levels result machine.new }
 {
     match changed_arguments(alloc, world, id, name, value) {
@@ -363,7 +362,7 @@ pub fn set_slot_value(
     values: &Values,
     steps: &mut u64,
 ) -> Result<Doing, Stop>
-    ensures turns { Turns (inside machine.old (slot_set (meaning machine.old.room) machine.old.context values.now)) (seen world.old) steps.old result machine.new (seen world.new) steps.new }
+    ensures turns { Turns (here machine.old (λ ev env. slot_set ev env values.now)) (seen world.old) steps.old result machine.new (seen world.new) steps.new }
     ensures small { Grows value_weight machine.old.levels result machine.new }
     ensures fewer { steps.new ≤ steps.old }
 {

@@ -9,8 +9,8 @@ ghost use Rattle.clos_machine.specs.clos_world.Values.{only_value};
 ghost use Rattle.clos_machine.specs.clos_world.World.{State, seen};
 ghost use Rattle.clos_machine.specs.clos_meaning.Assignment.{stored, stored_globally, stored_only, made_of, changed, changed_only};
 ghost use Rattle.clos_machine.specs.clos_meaning.Fault.{answered};
-ghost use Rattle.clos_machine.specs.Machine.{access_of, Leads, Turns, Grows, Becomes, at, inside, targets, acted, collected, act_weight, collect_weight, form_growth, value_weight, waiting_weight};
-ghost use Rattle.clos_machine.specs.clos_meaning.Meaning.{meaning, alone, collect, setq, setf, assigned, with_amount, changed_from, set_place, changing, changed_by, place_in};
+ghost use Rattle.clos_machine.specs.Machine.{access_of, Leads, Turns, Grows, Becomes, at, inside, targets, acted, collected, act_weight, collect_weight, form_growth, value_weight, waiting_weight, here, Does};
+ghost use Rattle.clos_machine.specs.clos_meaning.Meaning.{meaning, alone, setq, setf, assigned, with_amount, changed_from, set_place, changing, changed_by, place_in};
 ghost use Rattle.clos_machine.specs.clos_meaning.Outcome.{Run, then_do};
 ghost use Rattle.clos_machine.specs.declared.machine.Action.TheVariants.{Amount, NewValue, Store};
 
@@ -52,9 +52,7 @@ pub fn set_next(
     forms: &Forms,
     value: Value,
 ) -> Result<Doing, Stop>
-    ensures leads { (run : Run) (w : State)
-        → ((t : ℕ) → setq (meaning machine.old.room) machine.old.context (drop place (targets (operator_in form.now))) forms.now (value_of value) (at machine.old w) t ≡ run (at machine.old w) t)
-        → Leads (inside machine.old run) w result machine.new }
+    ensures leads { Does (λ ev env. setq ev env (drop place (targets (operator_in form.now))) forms.now (value_of value)) machine.old result machine.new }
     ensures small { Grows value_weight machine.old.levels result machine.new }
 {
     match target(form, place) {
@@ -100,9 +98,7 @@ pub fn set_next_place(
     forms: &Forms,
     value: Value,
 ) -> Result<Doing, Stop>
-    ensures leads { (run : Run) (w : State)
-        → ((t : ℕ) → setf (meaning machine.old.room) machine.old.context forms.now (value_of value) (at machine.old w) t ≡ run (at machine.old w) t)
-        → Leads (inside machine.old run) w result machine.new }
+    ensures leads { Does (λ ev env. setf ev env forms.now (value_of value)) machine.old result machine.new }
     ensures small { Grows value_weight machine.old.levels result machine.new }
 {
     match forms.split_first() {
@@ -144,9 +140,7 @@ fn set_place(
     form: &Form,
     others: &Forms,
 ) -> Result<Doing, Stop>
-    ensures leads { (run : Run) (w : State)
-        → ((t : ℕ) → then_do (assigned (meaning machine.old.room) machine.old.context (place_in (operator_in place.now)) (parts_in place.now) form.now (at machine.old w) t) (λ u. setf (meaning machine.old.room) machine.old.context others.now u) ≡ run (at machine.old w) t)
-        → Leads (inside machine.old run) w result machine.new }
+    ensures leads { Does (λ ev env u k. then_do (assigned ev env (place_in (operator_in place.now)) (parts_in place.now) form.now u k) (λ u. setf ev env others.now u)) machine.old result machine.new }
     ensures small { Grows value_weight machine.old.levels result machine.new }
 {
     match place_named(place.operator()) {
@@ -164,9 +158,7 @@ fn set_to(
     form: &Form,
     others: &Forms,
 ) -> Result<Doing, Stop>
-    ensures leads { (run : Run) (w : State)
-        → ((t : ℕ) → then_do (assigned (meaning machine.old.room) machine.old.context (Some (place_of place.now)) parts.now form.now (at machine.old w) t) (λ u. setf (meaning machine.old.room) machine.old.context others.now u) ≡ run (at machine.old w) t)
-        → Leads (inside machine.old run) w result machine.new }
+    ensures leads { Does (λ ev env u k. then_do (assigned ev env (Some (place_of place.now)) parts.now form.now u k) (λ u. setf ev env others.now u)) machine.old result machine.new }
     ensures small { Grows value_weight machine.old.levels result machine.new }
 {
     match place {
@@ -188,9 +180,7 @@ fn set_variable(
     form: &Form,
     others: &Forms,
 ) -> Result<Doing, Stop>
-    ensures leads { (run : Run) (w : State)
-        → ((t : ℕ) → then_do (collected (meaning machine.old.room) machine.old.context (alone form.now) (Store name.now) (at machine.old w) t) (λ u. setf (meaning machine.old.room) machine.old.context others.now u) ≡ run (at machine.old w) t)
-        → Leads (inside machine.old run) w result machine.new }
+    ensures leads { Does (λ ev env u k. then_do (collected ev env (alone form.now) (Store name.now) u k) (λ u. setf ev env others.now u)) machine.old result machine.new }
     ensures small { Grows value_weight machine.old.levels result machine.new }
 {
     let value = form.copy()?;
@@ -209,9 +199,7 @@ fn set_through(
     form: &Form,
     others: &Forms,
 ) -> Result<Doing, Stop>
-    ensures leads { (run : Run) (w : State)
-        → ((t : ℕ) → then_do (collected (meaning machine.old.room) machine.old.context parts.now (NewValue target form.now) (at machine.old w) t) (λ u. setf (meaning machine.old.room) machine.old.context others.now u) ≡ run (at machine.old w) t)
-        → Leads (inside machine.old run) w result machine.new }
+    ensures leads { Does (λ ev env u k. then_do (collected ev env parts.now (NewValue target form.now) u k) (λ u. setf ev env others.now u)) machine.old result machine.new }
     ensures small { Grows value_weight machine.old.levels result machine.new }
 {
     match parts.split_first() {
@@ -228,9 +216,7 @@ fn set_alone(
     form: &Form,
     others: &Forms,
 ) -> Result<Doing, Stop>
-    ensures leads { (run : Run) (w : State)
-        → ((t : ℕ) → then_do (collected (meaning machine.old.room) machine.old.context nil (NewValue target form.now) (at machine.old w) t) (λ u. setf (meaning machine.old.room) machine.old.context others.now u) ≡ run (at machine.old w) t)
-        → Leads (inside machine.old run) w result machine.new }
+    ensures leads { Does (λ ev env u k. then_do (collected ev env nil (NewValue target form.now) u k) (λ u. setf ev env others.now u)) machine.old result machine.new }
     ensures small { Grows value_weight machine.old.levels result machine.new }
 {
     let value = form.copy()?;
@@ -248,9 +234,7 @@ fn set_after(
     form: &Form,
     others: &Forms,
 ) -> Result<Doing, Stop>
-    ensures leads { (run : Run) (w : State)
-        → ((t : ℕ) → then_do (collected (meaning machine.old.room) machine.old.context (cons first.now rest.now) (NewValue target form.now) (at machine.old w) t) (λ u. setf (meaning machine.old.room) machine.old.context others.now u) ≡ run (at machine.old w) t)
-        → Leads (inside machine.old run) w result machine.new }
+    ensures leads { Does (λ ev env u k. then_do (collected ev env (cons first.now rest.now) (NewValue target form.now) u k) (λ u. setf ev env others.now u)) machine.old result machine.new }
     ensures small { Grows value_weight machine.old.levels result machine.new }
 {
     let form = form.copy()?;
@@ -266,9 +250,7 @@ fn set_by(
     rest: &Forms,
     others: &Forms,
 ) -> Result<Doing, Stop>
-    ensures leads { (run : Run) (w : State)
-        → ((t : ℕ) → then_do (collected (meaning machine.old.room) machine.old.context (cons first.now rest.now) (NewValue target form) (at machine.old w) t) (λ u. setf (meaning machine.old.room) machine.old.context others.now u) ≡ run (at machine.old w) t)
-        → Leads (inside machine.old run) w result machine.new }
+    ensures leads { Does (λ ev env u k. then_do (collected ev env (cons first.now rest.now) (NewValue target form) u k) (λ u. setf ev env others.now u)) machine.old result machine.new }
     ensures small { Grows value_weight machine.old.levels result machine.new }
 {
     let next = first.copy()?;
@@ -286,9 +268,7 @@ pub fn change(
     primitive: Primitive,
     parts: &Forms,
 ) -> Result<Doing, Stop>
-    ensures leads { (run : Run) (w : State)
-        → ((t : ℕ) → changing (meaning machine.old.room) machine.old.context primitive parts.now (at machine.old w) t ≡ run (at machine.old w) t)
-        → Leads (inside machine.old run) w result machine.new }
+    ensures leads { Does (λ ev env. changing ev env primitive parts.now) machine.old result machine.new }
     ensures small { Grows form_growth machine.old.levels result machine.new }
 {
     match parts.split_first() {
@@ -315,9 +295,7 @@ fn change_place(
     parts: &Forms,
     amount: &Forms,
 ) -> Result<Doing, Stop>
-    ensures leads { (run : Run) (w : State)
-        → ((t : ℕ) → changed_by (meaning machine.old.room) machine.old.context primitive (place_in (operator_of operator.now)) parts.now amount.now (at machine.old w) t ≡ run (at machine.old w) t)
-        → Leads (inside machine.old run) w result machine.new }
+    ensures leads { Does (λ ev env. changed_by ev env primitive (place_in (operator_of operator.now)) parts.now amount.now) machine.old result machine.new }
     ensures small { Grows form_growth machine.old.levels result machine.new }
 {
     match place_named(operator) {
@@ -335,9 +313,7 @@ fn change_named(
     parts: &Forms,
     amount: &Forms,
 ) -> Result<Doing, Stop>
-    ensures leads { (run : Run) (w : State)
-        → ((t : ℕ) → changed_by (meaning machine.old.room) machine.old.context primitive (Some (place_of place.now)) parts.now amount.now (at machine.old w) t ≡ run (at machine.old w) t)
-        → Leads (inside machine.old run) w result machine.new }
+    ensures leads { Does (λ ev env. changed_by ev env primitive (Some (place_of place.now)) parts.now amount.now) machine.old result machine.new }
     ensures small { Grows form_growth machine.old.levels result machine.new }
 {
     match place {
@@ -364,9 +340,7 @@ fn change_through(
     parts: &Forms,
     amount: &Forms,
 ) -> Result<Doing, Stop>
-    ensures leads { (run : Run) (w : State)
-        → ((t : ℕ) → collected (meaning machine.old.room) machine.old.context parts.now (Amount primitive target amount.now) (at machine.old w) t ≡ run (at machine.old w) t)
-        → Leads (inside machine.old run) w result machine.new }
+    ensures leads { Does (λ ev env. collected ev env parts.now (Amount primitive target amount.now)) machine.old result machine.new }
     ensures small { Grows form_growth machine.old.levels result machine.new }
 {
     let action = Action::Amount(primitive, target, amount.copy()?);
@@ -380,9 +354,7 @@ pub fn with_amount(
     amount: &Forms,
     mut values: Values,
 ) -> Result<Doing, Stop>
-    ensures leads { (run : Run) (w : State)
-        → ((t : ℕ) → with_amount (meaning machine.old.room) machine.old.context amount.now values (acted (meaning machine.old.room) machine.old.context action) (at machine.old w) t ≡ run (at machine.old w) t)
-        → Leads (inside machine.old run) w result machine.new }
+    ensures leads { Does (λ ev env. with_amount ev env amount.now values (acted ev env action)) machine.old result machine.new }
     ensures small { Grows (collect_weight action) machine.old.levels result machine.new }
 {
     match amount.split_first() {
@@ -406,7 +378,7 @@ pub fn change_from(
     amount: Value,
     old: Value,
 ) -> Result<Doing, Stop>
-    ensures leads { (w : State) → Leads (inside machine.old (changed_from (meaning machine.old.room) machine.old.context primitive (access_of target) values (value_of amount) (value_of old))) w result machine.new }
+    ensures leads { (w : State) → Leads (here machine.old (λ ev env. changed_from ev env primitive (access_of target) values (value_of amount) (value_of old))) w result machine.new }
     ensures small { Grows (waiting_weight + act_weight) machine.old.levels result machine.new }
 {
     let made = combine(alloc, primitive, &old, &amount);
@@ -425,7 +397,7 @@ fn set_changed(
     mut values: Values,
     value: Value,
 ) -> Result<Doing, Stop>
-    ensures leads { (w : State) → Leads (inside machine.old (set_place (meaning machine.old.room) machine.old.context (access_of target) values (value_of value))) w result machine.new }
+    ensures leads { (w : State) → Leads (here machine.old (λ ev env. set_place ev env (access_of target) values (value_of value))) w result machine.new }
     ensures small { Grows (waiting_weight + act_weight) machine.old.levels result machine.new }
 {
     let given = value.copy()?;

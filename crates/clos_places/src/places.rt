@@ -1,13 +1,12 @@
 //! Places that are set and read to be changed, and names that are set and changed: as the places that they stand for, or as
 //! variables (HyperSpec 5.1.1, 7.7 `with-slots`).
-ghost use Rattle.std.specs.Prelude.{◌≡◌, ◌∷◌, ℕ, ◌+◌, ◌≤◌, IfOk};
+ghost use Rattle.std.specs.Prelude.{◌≡◌, ◌∷◌, ◌+◌, ◌≤◌, IfOk};
 ghost use Rattle.lisp_data.specs.ValueView.{value_of};
 ghost use Rattle.clos_machine.specs.clos_world.Values.{last_first};
-ghost use Rattle.clos_machine.specs.clos_world.World.{State, seen};
+ghost use Rattle.clos_machine.specs.clos_world.World.{seen};
 ghost use Rattle.clos_machine.specs.clos_meaning.Functions.{place_set};
-ghost use Rattle.clos_machine.specs.Machine.{access_of, act_weight, action_weight, at, changed_weight, Grows, inside, Leads, Turns, value_weight};
-ghost use Rattle.clos_machine.specs.clos_meaning.Meaning.{alone, changed_place, collect, meaning, name_changed};
-ghost use Rattle.clos_machine.specs.clos_meaning.Outcome.{Run};
+ghost use Rattle.clos_machine.specs.Machine.{access_of, act_weight, action_weight, changed_weight, Grows, Turns, value_weight, here, Does};
+ghost use Rattle.clos_machine.specs.clos_meaning.Meaning.{alone, changed_place, collect, name_changed};
 ghost use Rattle.clos_machine.specs.clos_meaning.SlotNames.{name_set, place_denoted};
 ghost use Rattle.clos_machine.specs.declared.machine.Action.TheVariants.{ChangePlace};
 ghost use Rattle.clos_machine.specs.declared.machine.Target.TheVariants.{SlotValue};
@@ -30,9 +29,7 @@ pub fn new_value(
     form: &Form,
     values: Values,
 ) -> Result<Doing, Stop>
-    ensures leads { (run : Run) (w : State)
-        → ((t : ℕ) → collect (meaning machine.old.room) machine.old.context (alone form.now) values (λ vs u k. place_set (meaning machine.old.room) machine.old.context (access_of target) vs u k) (at machine.old w) t ≡ run (at machine.old w) t)
-        → Leads (inside machine.old run) w result machine.new }
+    ensures leads { Does (λ ev env. collect ev env (alone form.now) values (λ vs u k. place_set ev env (access_of target) vs u k)) machine.old result machine.new }
     ensures small { Grows value_weight machine.old.levels result machine.new }
 {
     let next = form.copy()?;
@@ -62,9 +59,7 @@ pub fn change_place(
     target: Target,
     mut values: Values,
 ) -> Result<Doing, Stop>
-    ensures leads { (run : Run) (w : State)
-        → ((t : ℕ) → changed_place (meaning machine.old.room) machine.old.context primitive (access_of target) (last_first values) (at machine.old w) t ≡ run (at machine.old w) t)
-        → Leads (inside machine.old run) w result machine.new }
+    ensures leads { Does (λ ev env. changed_place ev env primitive (access_of target) (last_first values)) machine.old result machine.new }
     ensures small { Grows (changed_weight + act_weight) machine.old.levels result machine.new }
 {
     match values.take_last() {
@@ -82,9 +77,7 @@ fn change_by(
     values: Values,
     amount: Value,
 ) -> Result<Doing, Stop>
-    ensures leads { (run : Run) (w : State)
-        → ((t : ℕ) → changed_place (meaning machine.old.room) machine.old.context primitive (access_of target) (value_of amount ∷ values) (at machine.old w) t ≡ run (at machine.old w) t)
-        → Leads (inside machine.old run) w result machine.new }
+    ensures leads { Does (λ ev env. changed_place ev env primitive (access_of target) (value_of amount ∷ values)) machine.old result machine.new }
     ensures small { Grows (changed_weight + act_weight) machine.old.levels result machine.new }
 {
     let Ok(read) = copy_target(&target) else {
@@ -109,7 +102,7 @@ pub fn set_name(
     values: Values,
     steps: &mut u64,
 ) -> Result<Doing, Stop>
-    ensures turns { Turns (inside machine.old (λ w. name_set (meaning machine.old.room) machine.old.context name.now (place_denoted w name.now) values w)) (seen world.old) steps.old result machine.new (seen world.new) steps.new }
+    ensures turns { Turns (here machine.old (λ ev env w. name_set ev env name.now (place_denoted w name.now) values w)) (seen world.old) steps.old result machine.new (seen world.new) steps.new }
     ensures small { Grows act_weight machine.old.levels result machine.new }
     ensures fewer { steps.new ≤ steps.old }
 {
@@ -133,7 +126,7 @@ pub fn change_name(
     values: Values,
     steps: &mut u64,
 ) -> Result<Doing, Stop>
-    ensures turns { Turns (inside machine.old (λ w. name_changed (meaning machine.old.room) machine.old.context primitive name.now (place_denoted w name.now) values w)) (seen world.old) steps.old result machine.new (seen world.new) steps.new }
+    ensures turns { Turns (here machine.old (λ ev env w. name_changed ev env primitive name.now (place_denoted w name.now) values w)) (seen world.old) steps.old result machine.new (seen world.new) steps.new }
     ensures small { Grows (action_weight (ChangePlace primitive SlotValue)) machine.old.levels result machine.new }
     ensures fewer { steps.new ≤ steps.old }
 {
