@@ -3,15 +3,17 @@ use Rattle.std.proofs.Common.{ℕ, drop, List, [], ◌∷◌, ◌++◌, refl}
 use Rattle.lisp_data.specs.Value.{Val}
 use Rattle.lisp_data.specs.ValueView.{value_of}
 use Rattle.clos_forms.specs.Form.{Frm, Frms, nil, operator_in}
-use Rattle.clos_forms.specs.declared.operator.FunctionName.TheVariants.{Setf}
-use Rattle.clos_meaning.specs.clos_world.clos_generic_core.declared.system.SystemFunction.{SystemFunction}
+use Rattle.clos_forms.specs.Quotation.{name_value}
 use Rattle.clos_meaning.specs.clos_world.Values.{last_first}
-use Rattle.clos_meaning.specs.clos_world.World.{State, unbound, held}
+use Rattle.clos_meaning.specs.clos_world.World.{State, class_of_instance, unbound, held}
+use Rattle.clos_meaning.specs.clos_world.clos_class.Slots.{Effective}
+use Rattle.clos_meaning.specs.clos_world.clos_class.clos_syntax.declared.class.DefaultInitarg.{DefaultInitarg}
+use Rattle.clos_meaning.specs.clos_world.clos_class.declared.effective_slots.EffectiveSlot.{EffectiveSlot}
 use Rattle.clos_meaning.specs.Callee.{callee_of}
 use Rattle.clos_meaning.specs.Bodies.{parameters_run}
-use Rattle.clos_meaning.specs.GenericCalls.{invoked}
 use Rattle.clos_meaning.specs.Control.{sequence}
-use Rattle.clos_machine.specs.Machine.{access_of, acted, at, below, after, doing_run, followed, resume, denote, loop_of, performed, slot_names, slots_left, subject_of, targets}
+use Rattle.clos_meaning.specs.Filling.{Subject, is_the_class}
+use Rattle.clos_machine.specs.Machine.{access_of, acted, at, below, after, default_given, doing_run, fill_with, followed, resume, denote, loop_of, performed, slot_names, slots_left, subject_of, targets}
 use Rattle.clos_meaning.specs.Meaning.{collect, meaning, closed}
 use Rattle.clos_meaning.specs.Functions.{place_set}
 use Rattle.clos_meaning.specs.Outcome.{leaves, Out, then_do, is_true}
@@ -31,7 +33,6 @@ use Rattle.clos_machine.specs.declared.machine.Frame.{Frame}
 use Rattle.clos_machine.specs.declared.machine.Frame.TheVariants.{Rest, Keep, Clause, Collect, Body, Bind, Scope, InOrder, Aside, Count, Turn, Setq, Setf, Changed, Default, Filled, Truth, Slots}
 use Rattle.clos_machine.specs.declared.machine.Level.{Level}
 use Rattle.clos_machine.specs.declared.machine.Machine.{Machine}
-use Rattle.clos_machine.specs.declared.machine.Repetition.{Repetition}
 use Rattle.clos_meaning.proofs.Quiet.{Quiet, allocate_quiet, amount_quiet, and_quiet, applied_quiet, aside_quiet, binding_quiet, branch_quiet, change_place_quiet, changed_from_quiet, checked_quiet, choice_quiet, collect_quiet, defaulted_quiet, fill_quiet, follows_quiet, invoked_quiet, keeping_quiet, name_changed_quiet, name_set_quiet, next_given_quiet, or_quiet, order_quiet, parameters_quiet, read_quiet, reader_quiet, repeated_quiet, restored_quiet, sequence_quiet, set_quiet, setf_quiet, setq_quiet, system_quiet, task_quiet, tested_quiet, then_quiet, turn_quiet, turns_quiet, where_false_quiet, where_true_quiet, within_quiet, within_slots_quiet, written_quiet}
 
 -- ---- points of return
