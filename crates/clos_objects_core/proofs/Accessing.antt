@@ -14,13 +14,13 @@ use Rattle.clos_machine.specs.clos_meaning.Accessors.{read_by, read_of, written_
 use Rattle.clos_machine.specs.Machine.{DesignatesInstance, Leads, Turns, at, inside, resume}
 use Rattle.clos_machine.specs.clos_meaning.Meaning.{closed}
 use Rattle.clos_machine.specs.clos_meaning.Outcome.{Eval, Stopped, stopped}
-use Rattle.clos_machine.specs.clos_meaning.Slots.{instance_in, slot_read}
+use Rattle.clos_machine.specs.clos_meaning.Slots.{instance_in, slot_changed, slot_read}
 use Rattle.clos_machine.specs.clos_meaning.declared.arguments.Context.{Context}
 use Rattle.clos_machine.specs.declared.machine.Doing.{Doing}
 use Rattle.clos_machine.specs.declared.machine.Machine.{Machine}
 use Rattle.clos_machine.proofs.Turns.{leads_same, stopped_through}
 use Rattle.clos_objects_core.specs.Slots.{two_of}
-use Rattle.clos_machine.proofs.Runs.{stops_at_once}
+use Rattle.clos_machine.proofs.Runs.{stops_at_once, turns_same}
 
 module _ (ev : Eval) (env : Context) (slot : Nam) where
   -- ---- a reader
@@ -80,3 +80,12 @@ module _ (ev : Eval) (env : Context) (slot : Nam) where
   writes_nothing m n vs us x v (Refused c) w s e k d =
       stops_at_once m n (written_by ev env slot vs) w s c
       (ap (λ xs. written_by ev env slot xs (at m w) s) (sym k) ∙ sym (two_at us x v (at m w) s e) ∙ ap (λ q. written_of ev env slot x q (at m w) s) d)
+
+  pub writes : (m n : Machine) (vs : List Val) (x v y z : Val) (i : ℕ) (r : Result Doing Stop) (w : State) (s : ℕ) (w' : State) (s' : ℕ) → Some (x, v) ≡ two_of vs → instance_in v ≡ Ok i
+      → y ≡ x → z ≡ x → Turns (inside m (λ u. slot_changed ev env i slot (Some y) z (slot_found u.store i slot) u)) w s r n w' s' → Turns (inside m (written_by ev env slot vs)) w s r n w' s'
+  writes m n vs x v y z i r w s w' s' e d j k h =
+      turns_same (inside m (λ u. slot_changed ev env i slot (Some y) z (slot_found u.store i slot) u)) (inside m (written_by ev env slot vs)) w s r n w' s'
+      (λ t. ap (λ o. closed (resume m.levels m.context o))
+      (ap (λ q. slot_changed ev env i slot (Some q) z (slot_found w.store i slot) (at m w) t) j
+      ∙ ap (λ q. slot_changed ev env i slot (Some x) q (slot_found w.store i slot) (at m w) t) k
+      ∙ ap (λ q. written_of ev env slot x q (at m w) t) (sym d) ∙ two_at vs x v (at m w) t e)) h
