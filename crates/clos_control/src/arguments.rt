@@ -3,7 +3,7 @@ ghost use Rattle.std.specs.Prelude.{◌≡◌, ◌∷◌, ◌++◌, [], ◌≤�
 ghost use Rattle.lisp_data.specs.ValueView.{value_of};
 ghost use Rattle.clos_forms.specs.OperatorView.{operator_of};
 ghost use Rattle.clos_machine.specs.clos_world.World.{seen};
-ghost use Rattle.clos_machine.specs.Machine.{Turns, Took, Grows, at, at_once, acted, action_weight, here, Does};
+ghost use Rattle.clos_machine.specs.Machine.{Turns, Took, Grows, at, at_once, acted, action_weight, collect_weight, here, Does};
 ghost use Rattle.clos_machine.specs.clos_meaning.Meaning.{collect};
 
 use clos_forms::{Forms, Operator};
