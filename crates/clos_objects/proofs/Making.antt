@@ -1,5 +1,5 @@
 -- The making of an instance.
-use Rattle.std.proofs.Common.{◌≡◌, ℕ, zero, suc, ◌+◌, ◌<◌, List, [], ◌∷◌, ◌++◌, Bool, true, false, Option, Some, None, Result, Ok, Err, drop, get_or, length, arith, add-one, refl, ap, sym, subst, ◌∙◌}
+use Rattle.std.proofs.Common.{◌≡◌, ℕ, zero, suc, ◌+◌, ◌*◌, ◌<◌, List, [], ◌∷◌, ◌++◌, Bool, true, false, Option, Some, None, Result, Ok, Err, drop, get_or, length, arith, add-one, refl, ap, sym, subst, ◌∙◌}
 use Rattle.std.specs.Prelude.{if◌then◌else◌}
 use Rattle.std.proofs.Math.Seq.{drop-cons}
 use Rattle.clos_forms.specs.Form.{Frm}
@@ -22,7 +22,7 @@ use Rattle.clos_machine.specs.clos_meaning.Bodies.{restoring}
 use Rattle.clos_machine.specs.clos_meaning.Contexts.{known}
 use Rattle.clos_machine.specs.clos_meaning.GenericCalls.{invoked}
 use Rattle.clos_machine.specs.clos_meaning.Initialization.{allocate, checked, defaulted, instance_made, making, initialized, invalid_for, invalid_initarg, is_given, made, making_of, methods_reached}
-use Rattle.clos_machine.specs.Machine.{apart, Designates, Leads, Turns, at, inside, resume, default_given}
+use Rattle.clos_machine.specs.Machine.{apart, Designates, Leads, Turns, at, inside, resume, default_given, Shrinks, act_weight, given, load, step_weight, value_weight}
 use Rattle.clos_machine.specs.clos_meaning.Meaning.{closed, meaning}
 use Rattle.clos_machine.specs.clos_meaning.Objects.{designated}
 use Rattle.clos_machine.specs.clos_meaning.Parameters.{are_pairs}
@@ -179,6 +179,13 @@ module _ (m n : Machine) (ev : Eval) (c : ℕ) (e : Effective) (vs : List Val) (
       ∙ bare_same m.levels m.context (initialized ev c vs i wrong_new (at m w) t) (checked ev c e vs i (at m w) t) refl) l
 
 -- ---- within a body without variables
+
+-- what is left to do is less, though a frame came on top
+pub within_less : (m n k : Machine) (s s' : ℕ) (r : Result Doing Stop) → Enters m n → Shrinks value_weight s s' n.levels r k → Shrinks act_weight s s' m.levels r k
+within_less m n k s s' (Ok d) e h =
+    let g : step_weight * s' + (load k.levels + given d) < step_weight * s + ((1 + load m.levels) + value_weight) = subst (λ x. Shrinks value_weight s s' x.levels (Ok d) k) e h in
+    omega (arith, g)
+within_less m n k s s' (Err stop) e h = tt
 
 module _ (m n k : Machine) (vs : List Val) (c : ℕ) (e : Effective) (w : State) (s : ℕ) (r : Result Doing Stop) where
   pub makes_at_once : (w' : State) (s' : ℕ) → Enters m n → ungiven vs e.defaults ≡ [] → Turns (inside n (allocate (meaning n.room) n.context c e vs)) w s r k w' s'

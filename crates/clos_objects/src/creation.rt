@@ -219,7 +219,7 @@ pub fn allocate(
     steps: &mut u64,
 ) -> Result<Doing, Stop>
     ensures turns { Turns (here machine.old (λ ev env. allocate ev env class.0 effective initargs)) (seen world.old) steps.old result machine.new (seen world.new) steps.new }
-    ensures small { Shrinks act_weight steps.old steps.new machine.old.levels result machine.new }
+    ensures small { Shrinks value_weight steps.old steps.new machine.old.levels result machine.new }
     ensures fewer { steps.new ≤ steps.old }
 {
     let _ = machine;

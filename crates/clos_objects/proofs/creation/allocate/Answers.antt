@@ -1,3 +1,5 @@
+use Rattle.std.proofs.Common.{◌-◌, ap, arith, ◌∙◌}
+use Rattle.clos_machine.specs.clos_world.clos_store.Store.{allocated, with_instance}
 use Rattle.clos_machine.specs.clos_world.World.{seen}
 use Rattle.clos_objects.proofs.Making.{allocate_full, allocate_goes, allocate_no_step}
 use Rattle.clos_objects.proofs.creation.allocate.Goals as goal
@@ -10,3 +12,10 @@ pub returns-then-steps-eq0-clause-turns : goal.returns-then-steps-eq0-clause-tur
 returns-then-steps-eq0-clause-turns c =
     allocate_no_step c.args.machine.now c.args.class.0 c.args.effective c.args.initargs c.args.machine.now c.in-Some.id c.plain-then-steps-eq0.result (seen c.args.world.now) c.args.steps.now
     c.in-Some.ensures c.if-steps-eq0.true c.plain-then-steps-eq0.ensures
+
+pub returns-clause-turns : goal.returns-clause-turns
+returns-clause-turns c =
+    allocate_goes c.args.machine.now c.args.class c.args.effective c.args.initargs c.in-Some.id (seen c.args.world.now) (record (seen c.args.world.now) { store = c.allocate.new.self })
+    c.args.steps.now (c.args.steps.now - 1) c.in-Some.ensures (omega (arith, c.if-steps-eq0.false))
+    (ap (λ x. record (seen c.args.world.now) { store = x })
+    (c.in-Ok.ensures.ok.1 ∙ ap (λ l. with_instance (allocated c.args.class.0 l) c.args.world.now.store) c.layout.ensures))
