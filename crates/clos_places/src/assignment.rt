@@ -9,7 +9,7 @@ ghost use Rattle.clos_machine.specs.clos_world.Values.{only_value};
 ghost use Rattle.clos_machine.specs.clos_world.World.{State, seen};
 ghost use Rattle.clos_machine.specs.clos_meaning.Assignment.{stored, stored_globally, stored_only, made_of, changed, changed_only};
 ghost use Rattle.clos_machine.specs.clos_meaning.Fault.{answered};
-ghost use Rattle.clos_machine.specs.Machine.{access_of, Leads, Turns, Grows, Becomes, at, inside, targets, acted, collected, act_weight, collect_weight, form_growth, value_weight, waiting_weight, here, Does};
+ghost use Rattle.clos_machine.specs.Machine.{access_of, Leads, Turns, Grows, Becomes, at, inside, targets, acted, collected, act_weight, collect_weight, form_growth, value_weight, waiting_weight, here, Does, follow_growth};
 ghost use Rattle.clos_machine.specs.clos_meaning.Meaning.{meaning, alone, setq, setf, assigned, with_amount, changed_from, set_place, changing, changed_by, place_in};
 ghost use Rattle.clos_machine.specs.clos_meaning.Outcome.{Run, then_do};
 ghost use Rattle.clos_machine.specs.declared.machine.Action.TheVariants.{Amount, NewValue, Store};
@@ -44,6 +44,7 @@ fn next_of(names: &[Name], place: usize) -> Option<(&Name, usize)>
 }
 
 /// The next variable of a `setq` form gets its value.
+#[tactic(auto, using(clos_machine::proofs::Turns::grows_more))]
 pub fn set_next(
     alloc: Global,
     machine: &mut Machine,
@@ -53,7 +54,7 @@ pub fn set_next(
     value: Value,
 ) -> Result<Doing, Stop>
     ensures leads { Does (λ ev env. setq ev env (drop place (targets (operator_in form.now))) forms.now (value_of value)) machine.old result machine.new }
-    ensures small { Grows value_weight machine.old.levels result machine.new }
+    ensures small { Grows (follow_growth + waiting_weight) machine.old.levels result machine.new }
 {
     match target(form, place) {
         None => Ok(done(machine, value)),
@@ -62,7 +63,7 @@ pub fn set_next(
 }
 
 /// This variable of a `setq` form gets its value.
-#[tactic(auto, using(clos_machine::proofs::Turns::stopped_through, clos_machine::proofs::Turns::then_then))]
+#[tactic(auto, using(clos_machine::proofs::Turns::grows_more, clos_machine::proofs::Turns::stopped_through, clos_machine::proofs::Turns::then_then))]
 fn set_target(
     alloc: Global,
     machine: &mut Machine,
@@ -74,7 +75,7 @@ fn set_target(
     ensures leads { (run : Run) (w : State) (v : Val)
         → ((t : ℕ) → setq (meaning machine.old.room) machine.old.context (name.now ∷ drop next (targets (operator_in form.now))) forms.now v (at machine.old w) t ≡ run (at machine.old w) t)
         → Leads (inside machine.old run) w result machine.new }
-    ensures small { Grows value_weight machine.old.levels result machine.new }
+    ensures small { Grows (follow_growth + waiting_weight) machine.old.levels result machine.new }
 {
     match forms.split_first() {
         None => Err(Stop::Refused(plain(alloc, ConditionKind::ProgramError))),
@@ -92,6 +93,7 @@ fn set_target(
 }
 
 /// The next place of a `setf` form gets its value.
+#[tactic(auto, using(clos_machine::proofs::Turns::grows_more))]
 pub fn set_next_place(
     alloc: Global,
     machine: &mut Machine,
@@ -99,7 +101,7 @@ pub fn set_next_place(
     value: Value,
 ) -> Result<Doing, Stop>
     ensures leads { Does (λ ev env. setf ev env forms.now (value_of value)) machine.old result machine.new }
-    ensures small { Grows value_weight machine.old.levels result machine.new }
+    ensures small { Grows (follow_growth + waiting_weight) machine.old.levels result machine.new }
 {
     match forms.split_first() {
         None => Ok(done(machine, value)),
@@ -113,7 +115,7 @@ fn set_pair(alloc: Global, machine: &mut Machine, place: &Form, rest: &Forms) ->
     ensures leads { (run : Run) (w : State) (v : Val)
         → ((t : ℕ) → setf (meaning machine.old.room) machine.old.context (cons place.now rest.now) v (at machine.old w) t ≡ run (at machine.old w) t)
         → Leads (inside machine.old run) w result machine.new }
-    ensures small { Grows value_weight machine.old.levels result machine.new }
+    ensures small { Grows (follow_growth + waiting_weight) machine.old.levels result machine.new }
 {
     match rest.split_first() {
         None => Err(Stop::Refused(plain(alloc, ConditionKind::ProgramError))),
@@ -141,7 +143,7 @@ fn set_place(
     others: &Forms,
 ) -> Result<Doing, Stop>
     ensures leads { Does (λ ev env u k. then_do (assigned ev env (place_in (operator_in place.now)) (parts_in place.now) form.now u k) (λ u. setf ev env others.now u)) machine.old result machine.new }
-    ensures small { Grows value_weight machine.old.levels result machine.new }
+    ensures small { Grows (follow_growth + waiting_weight) machine.old.levels result machine.new }
 {
     match place_named(place.operator()) {
         None => Err(Stop::Refused(plain(alloc, ConditionKind::ProgramError))),
@@ -159,7 +161,7 @@ fn set_to(
     others: &Forms,
 ) -> Result<Doing, Stop>
     ensures leads { Does (λ ev env u k. then_do (assigned ev env (Some (place_of place.now)) parts.now form.now u k) (λ u. setf ev env others.now u)) machine.old result machine.new }
-    ensures small { Grows value_weight machine.old.levels result machine.new }
+    ensures small { Grows (follow_growth + waiting_weight) machine.old.levels result machine.new }
 {
     match place {
         Place::Variable(name) => set_variable(alloc, machine, name, form, others),
@@ -172,7 +174,7 @@ fn set_to(
 }
 
 /// A variable gets the value of a form; then the next one of these places its own.
-#[tactic(auto, using(clos_machine::proofs::Turns::then_then))]
+#[tactic(auto, using(clos_machine::proofs::Turns::grows_more, clos_machine::proofs::Turns::then_then))]
 fn set_variable(
     alloc: Global,
     machine: &mut Machine,
@@ -181,7 +183,7 @@ fn set_variable(
     others: &Forms,
 ) -> Result<Doing, Stop>
     ensures leads { Does (λ ev env u k. then_do (collected ev env (alone form.now) (Store name.now) u k) (λ u. setf ev env others.now u)) machine.old result machine.new }
-    ensures small { Grows value_weight machine.old.levels result machine.new }
+    ensures small { Grows (follow_growth + waiting_weight) machine.old.levels result machine.new }
 {
     let value = form.copy()?;
     let name = name.copy()?;
@@ -200,7 +202,7 @@ fn set_through(
     others: &Forms,
 ) -> Result<Doing, Stop>
     ensures leads { Does (λ ev env u k. then_do (collected ev env parts.now (NewValue target form.now) u k) (λ u. setf ev env others.now u)) machine.old result machine.new }
-    ensures small { Grows value_weight machine.old.levels result machine.new }
+    ensures small { Grows (follow_growth + waiting_weight) machine.old.levels result machine.new }
 {
     match parts.split_first() {
         None => set_alone(alloc, machine, target, form, others),
@@ -208,7 +210,7 @@ fn set_through(
     }
 }
 
-#[tactic(auto, using(clos_machine::proofs::Turns::then_then))]
+#[tactic(auto, using(clos_machine::proofs::Turns::grows_more, clos_machine::proofs::Turns::then_then))]
 fn set_alone(
     alloc: Global,
     machine: &mut Machine,
@@ -217,7 +219,7 @@ fn set_alone(
     others: &Forms,
 ) -> Result<Doing, Stop>
     ensures leads { Does (λ ev env u k. then_do (collected ev env nil (NewValue target form.now) u k) (λ u. setf ev env others.now u)) machine.old result machine.new }
-    ensures small { Grows value_weight machine.old.levels result machine.new }
+    ensures small { Grows (follow_growth + waiting_weight) machine.old.levels result machine.new }
 {
     let value = form.copy()?;
     let others = others.copy()?;
@@ -235,12 +237,13 @@ fn set_after(
     others: &Forms,
 ) -> Result<Doing, Stop>
     ensures leads { Does (λ ev env u k. then_do (collected ev env (cons first.now rest.now) (NewValue target form.now) u k) (λ u. setf ev env others.now u)) machine.old result machine.new }
-    ensures small { Grows value_weight machine.old.levels result machine.new }
+    ensures small { Grows (follow_growth + waiting_weight) machine.old.levels result machine.new }
 {
     let form = form.copy()?;
     set_by(alloc, machine, target, form, first, rest, others)
 }
 
+#[tactic(auto, using(clos_machine::proofs::Turns::grows_more))]
 fn set_by(
     alloc: Global,
     machine: &mut Machine,
@@ -251,7 +254,7 @@ fn set_by(
     others: &Forms,
 ) -> Result<Doing, Stop>
     ensures leads { Does (λ ev env u k. then_do (collected ev env (cons first.now rest.now) (NewValue target form) u k) (λ u. setf ev env others.now u)) machine.old result machine.new }
-    ensures small { Grows value_weight machine.old.levels result machine.new }
+    ensures small { Grows (follow_growth + waiting_weight) machine.old.levels result machine.new }
 {
     let next = first.copy()?;
     let others = others.copy()?;
