@@ -9,10 +9,10 @@ returns-in_ok-context-in-Forms-clause-leads c =
     c.args.body.now (seen c.args.world.now) c.in-Forms.lambda_list c.in-Forms.body c.in_ok-context-in-Forms.context c.list.result.now c.run_forms.result
     c.in-Forms.is c.in_ok-context-in-Forms.ensures c.list.ensures c.run_forms.ensures.leads
 
-pub returns-in_ok-copy-clause-leads : goal.returns-in_ok-copy-clause-leads
-returns-in_ok-copy-clause-leads c =
+pub returns-in_ok-copy-in-Reader-clause-leads : goal.returns-in_ok-copy-in-Reader-clause-leads
+returns-in_ok-copy-in-Reader-clause-leads c =
     body_reads c.args.machine.now (running c.args.id.0 c.args.next.now c.args.forms.now (with_arguments c.args.arguments c.args.machine.now.context))
-    c.args.body.now (seen c.args.world.now) c.in-Reader.slot c.in_ok-copy.field-0 c.in-Reader.is c.in_ok-copy.ensures
+    c.args.body.now (seen c.args.world.now) c.in-Reader.slot c.in_ok-copy-in-Reader.field-0 c.in-Reader.is c.in_ok-copy-in-Reader.ensures
 
 pub returns-in_ok-copy-in-Writer-clause-leads : goal.returns-in_ok-copy-in-Writer-clause-leads
 returns-in_ok-copy-in-Writer-clause-leads c =
