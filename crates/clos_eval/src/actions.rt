@@ -125,7 +125,7 @@ pub fn perform(
 }
 
 /// An action is done with its values.
-#[tactic(auto, using(clos_machine::proofs::Runs::turns_of_leads, clos_machine::proofs::Turns::shrinks_by))]
+#[tactic(auto, using(clos_machine::proofs::Runs::turns_of_leads, clos_machine::proofs::Turns::shrinks_by, crate::proofs::Calling::shrinks_more))]
 pub fn act(
     alloc: Global,
     machine: &mut Machine,

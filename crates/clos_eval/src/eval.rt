@@ -18,6 +18,7 @@ use std::alloc::Global;
 
 /// Evaluates a form with this much room for depth. Steps fall by those taken. Where memory is refused, the world is
 /// that after the steps taken.
+#[tactic(auto, using(crate::proofs::Looping::goes_on, crate::proofs::Looping::stops, crate::proofs::Looping::gives, crate::proofs::Looping::gives_none, crate::proofs::Calling::turns_of_call))]
 pub fn evaluate(
     alloc: Global,
     world: &mut World,
