@@ -43,30 +43,49 @@ pub fn evaluate(
     let mut doing = Doing::Start(form);
     loop {
         match doing {
-            Doing::Start(begun) => {
-                doing = begin_form(alloc, &mut machine, world, begun, steps)?;
-            }
+            Doing::Start(begun) => match begin_form(alloc, &mut machine, world, begun, steps) {
+                Ok(next) => doing = next,
+                Err(stop) => return Err(stop),
+            },
             Doing::Collect(action, forms, values) => {
-                doing = collect_values(&mut machine, world, action, &forms, values, steps)?;
+                match collect_values(&mut machine, world, action, &forms, values, steps) {
+                    Ok(next) => doing = next,
+                    Err(stop) => return Err(stop),
+                }
             }
             Doing::Act(action, values) => {
-                doing = act(alloc, &mut machine, world, action, values, steps)?;
+                match act(alloc, &mut machine, world, action, values, steps) {
+                    Ok(next) => doing = next,
+                    Err(stop) => return Err(stop),
+                }
             }
             Doing::Invoke(function, values) => {
-                doing = invoke(alloc, &mut machine, world, function, values)?;
+                match invoke(alloc, &mut machine, world, function, values) {
+                    Ok(next) => doing = next,
+                    Err(stop) => return Err(stop),
+                }
             }
             Doing::Perform(method, arguments) => {
-                doing = perform(alloc, &mut machine, world, method, &arguments, steps)?;
+                match perform(alloc, &mut machine, world, method, &arguments, steps) {
+                    Ok(next) => doing = next,
+                    Err(stop) => return Err(stop),
+                }
             }
             Doing::Turn(repetition, counter) => {
-                doing = turn(alloc, &mut machine, world, repetition, counter, steps)?;
+                match turn(alloc, &mut machine, world, repetition, counter, steps) {
+                    Ok(next) => doing = next,
+                    Err(stop) => return Err(stop),
+                }
             }
             Doing::Give(value) => match machine.levels.pop() {
                 None => return Ok(value),
                 Some(level) => {
                     let Level { frame, room } = level;
                     machine.room = room;
-                    doing = give(alloc, &mut machine, world, frame, value)?;
+                    match give(alloc, &mut machine, world, frame, value) {
+                        Ok(next) => doing = next,
+                        Err(stop) => return Err(stop),
+                    }
                 }
             },
         }
