@@ -1,5 +1,4 @@
 pub mod Settled
-pub mod Growing
 pub mod Dispatching
 pub mod Counted
 pub mod Accessing

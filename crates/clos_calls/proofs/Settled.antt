@@ -19,7 +19,7 @@ use Rattle.clos_machine.specs.clos_meaning.Bodies.{body_run, parameters_run, res
 use Rattle.clos_machine.specs.clos_meaning.Control.{sequence}
 use Rattle.clos_machine.specs.Machine.{Binds, Leads, Settles, at, given_to, inside, resume, settled, under}
 use Rattle.clos_machine.specs.clos_meaning.Meaning.{closed, meaning}
-use Rattle.clos_machine.specs.clos_meaning.Outcome.{Out, Gave, Stopped, Run, Eval, then_do, stopped}
+use Rattle.clos_machine.specs.clos_meaning.Outcome.{Out, Stopped, Eval, then_do, stopped}
 use Rattle.clos_machine.specs.clos_meaning.Parameters.{Sources, argument, refused, init, is_empty, key_sources, optional_sources, required_sources, requires_only, rest_sources, sources}
 use Rattle.clos_machine.specs.clos_meaning.Variables.{inner}
 use Rattle.clos_machine.specs.clos_meaning.declared.arguments.Context.{Context}

@@ -1,8 +1,6 @@
 -- Definition forms that are refused, and those that go on.
-use Rattle.std.proofs.Common.{◌≡◌, ℕ, ◌+◌, zero, suc, List, [], ◌∷◌, Option, Some, None, Result, Ok, Err, map, length, refl, ap, sym, ◌∙◌, subst, arith}
+use Rattle.std.proofs.Common.{◌≡◌, ℕ, List, [], ◌∷◌, Option, Some, None, Result, Ok, Err, map, length, refl, ap, sym, ◌∙◌, subst, arith}
 use Rattle.lisp_data.specs.Value.{Val, class, generic, method}
-use Rattle.lisp_data.specs.declared.ids.GenericId.{GenericId}
-use Rattle.lisp_data.specs.declared.ids.MethodId.{MethodId}
 use Rattle.lisp_data.specs.declared.value.Value.{Value}
 use Rattle.clos_class.specs.declared.reserve.NewCell.{NewCell}
 use Rattle.clos_forms.specs.Form.{Frm}
@@ -25,7 +23,7 @@ use Rattle.clos_definition.specs.Removal.{Finds, removable, with_removed}
 use Rattle.clos_definition.specs.declared.effect.Effect.{Effect}
 use Rattle.clos_machine.specs.Machine.{Answers}
 use Rattle.clos_machine.specs.clos_meaning.Outcome.{Run, Stopped, leaves}
-use Rattle.clos_definition_forms.specs.Definition.{class_made, define_class, define_generic, define_method, generic_made, method_made, method_removed, new_class, remove_method, removed_if, takes_effect, unless, value_at, values_removed}
+use Rattle.clos_definition_forms.specs.Definition.{class_made, define_class, define_generic, define_method, generic_made, method_made, new_class, remove_method, removed_if, takes_effect, unless, value_at, values_removed}
 use Rattle.clos_definition_forms.specs.Forms.{EndsBefore, GoesOn, forms_evaluated}
 use Rattle.clos_definition_forms.proofs.Evaluations.{answers_same}
 use Rattle.clos_definition_forms.proofs.Quiet.{class_forms_quiet, class_made_quiet, define_generic_quiet, define_method_quiet, generic_forms_quiet, generic_made_quiet, method_forms_quiet, method_made_quiet, new_class_quiet, remove_method_quiet, values_removed_quiet}

@@ -1,6 +1,5 @@
 -- With no step left a definition changes nothing.
 use Rattle.std.proofs.Common.{◌≡◌, ℕ, List, [], ◌∷◌, Option, Some, None, Result, Ok, Err, map, length, refl}
-use Rattle.std.specs.Prelude.{slice_get}
 use Rattle.lisp_data.specs.Value.{Val, class, generic, method}
 use Rattle.clos_forms.specs.Form.{Frm}
 use Rattle.clos_forms.specs.declared.operator.FunctionName.{FunctionName}
@@ -15,7 +14,7 @@ use Rattle.clos_definition.specs.Generic.{eql_forms, generic_refusal, with_defin
 use Rattle.clos_definition.specs.Method.{eql_form, method_refusal, with_defined_method}
 use Rattle.clos_definition.specs.Removal.{removable}
 use Rattle.clos_machine.specs.clos_meaning.Outcome.{Run, leaves}
-use Rattle.clos_definition_forms.specs.Definition.{class_made, define_class, define_generic, define_method, generic_made, method_made, method_removed, new_class, removed_if, remove_method, takes_effect, unless, value_at, values_removed}
+use Rattle.clos_definition_forms.specs.Definition.{class_made, define_class, define_generic, define_method, generic_made, method_made, new_class, removed_if, remove_method, takes_effect, unless, value_at, values_removed}
 use Rattle.clos_definition_forms.specs.Forms.{forms_evaluated}
 use Rattle.clos_definition_forms.proofs.Evaluated.{forms_quiet}
 

@@ -2,7 +2,7 @@
 use Rattle.std.proofs.Common.{ℕ, drop, List, [], ◌∷◌, ◌++◌, refl}
 use Rattle.lisp_data.specs.Value.{Val}
 use Rattle.lisp_data.specs.ValueView.{value_of}
-use Rattle.clos_forms.specs.Form.{Frm, Frms, nil, operator_in}
+use Rattle.clos_forms.specs.Form.{Frms, nil, operator_in}
 use Rattle.clos_forms.specs.Quotation.{name_value}
 use Rattle.clos_meaning.specs.clos_world.Values.{last_first}
 use Rattle.clos_meaning.specs.clos_world.World.{State, class_of_instance, unbound, held}
@@ -14,11 +14,11 @@ use Rattle.clos_meaning.specs.Bodies.{parameters_run}
 use Rattle.clos_meaning.specs.Control.{sequence}
 use Rattle.clos_meaning.specs.Filling.{Subject, is_the_class}
 use Rattle.clos_machine.specs.Machine.{access_of, acted, at, below, after, default_given, doing_run, fill_with, followed, resume, denote, loop_of, performed, slot_names, slots_left, subject_of, targets}
-use Rattle.clos_meaning.specs.Meaning.{collect, meaning, closed}
+use Rattle.clos_meaning.specs.Meaning.{collect, meaning}
 use Rattle.clos_meaning.specs.Functions.{place_set}
 use Rattle.clos_meaning.specs.Outcome.{leaves, Out, then_do, is_true}
 use Rattle.clos_meaning.specs.SlotNames.{place_denoted}
-use Rattle.clos_meaning.specs.Variables.{binding, in_order, turns}
+use Rattle.clos_meaning.specs.Variables.{binding, in_order}
 use Rattle.clos_meaning.specs.declared.arguments.Context.{Context}
 use Rattle.clos_machine.specs.declared.machine.Action.{Action}
 use Rattle.clos_machine.specs.declared.machine.Action.TheVariants.{Call, Set, Store, Change, NewValue, Amount, ChangePlace, Allocate, Initialize, Fill, FillWith, Read, CallNext}

@@ -29,7 +29,7 @@ use Rattle.clos_world.specs.clos_generic_core.System.{system_number}
 use Rattle.clos_world.specs.clos_generic_core.declared.system.SystemFunction.{SystemFunction}
 use Rattle.clos_world.specs.clos_generic_core.declared.system.SystemFunction.TheVariants.{InitializeInstance, ReinitializeInstance, SharedInitialize, UpdateInstanceForRedefinedClass, UpdateInstanceForDifferentClass, SlotUnbound, SlotMissing, NoApplicableMethod, NoNextMethod}
 use Rattle.clos_world.specs.Values.{only_value, last_first}
-use Rattle.clos_world.specs.World.{State, Local, unbound, bound_as, local_named, class_of, class_of_instance, held}
+use Rattle.clos_world.specs.World.{State, Local, unbound, bound_as, local_named, class_of, held}
 use Rattle.clos_world.specs.declared.condition.Condition.{Condition}
 use Rattle.clos_world.specs.declared.condition.ConditionKind.TheVariants.{ProgramError, StepLimit}
 use Rattle.clos_world.specs.declared.functions.Function.{Function}
@@ -50,7 +50,7 @@ use Rattle.clos_meaning.specs.Control.{keeping, sequence, while_true, until_true
 use Rattle.clos_meaning.specs.Fault.{answered}
 use Rattle.clos_meaning.specs.Meaning.{collect, alone, with_amount, set_place, changed_from, changed_place, setq, setf, assigned, place_in, meaning, closed, name_changed, place_set_to}
 use Rattle.clos_meaning.specs.Objects.{designated}
-use Rattle.clos_meaning.specs.Filling.{are_slot_names, Filler, nothing, initform, filler, filled_with, filled_by, fill, is_the_class, Subject}
+use Rattle.clos_meaning.specs.Filling.{are_slot_names, Filler, nothing, initform, filler, filled_with, filled_by, fill, Subject}
 use Rattle.clos_meaning.specs.Filling as filler
 use Rattle.clos_meaning.specs.Functions.{Access, applied, call_access, place_read, place_set, slot_access}
 use Rattle.clos_meaning.specs.Initialization.{allocate, checked, initialized, invalid_initarg, is_given, defaulted, making_of, making, methods_reached, instance_made}

@@ -7,10 +7,8 @@ use Rattle.lisp_data.specs.Value.{Val, instance}
 use Rattle.lisp_data.specs.declared.ids.ClassId.{ClassId}
 use Rattle.lisp_data.specs.declared.ids.InstanceId.{InstanceId}
 use Rattle.clos_forms.specs.Quotation.{name_value}
-use Rattle.clos_forms.specs.Form.{nil}
 use Rattle.clos_syntax.specs.declared.class.DefaultInitarg.{DefaultInitarg}
 use Rattle.clos_class.specs.Slots.{Effective}
-use Rattle.clos_class.specs.Table.{Table}
 use Rattle.clos_machine.specs.clos_world.clos_store.Store.{allocated, has_room, next_instance, with_instance}
 use Rattle.clos_machine.specs.clos_world.Class.{class_name, effective}
 use Rattle.clos_machine.specs.clos_world.World.{State, bound_as, unbound}
@@ -32,7 +30,6 @@ use Rattle.clos_machine.specs.declared.finalized.Finalized.{Finalized}
 use Rattle.clos_machine.specs.declared.machine.Action.TheVariants.{Initialize}
 use Rattle.clos_machine.specs.declared.machine.Doing.{Doing}
 use Rattle.clos_machine.specs.declared.machine.Doing.TheVariants.{Act}
-use Rattle.clos_machine.specs.declared.machine.Frame.TheVariants.{Body}
 use Rattle.clos_machine.specs.declared.machine.Machine.{Machine}
 use Rattle.clos_machine.proofs.Runs.{turns_of_leads, stops_at_once, turns_same}
 use Rattle.clos_machine.proofs.Turns.{bare, bare_same, leads_same, stopped_through}

@@ -6,11 +6,9 @@ use Rattle.clos_syntax.specs.declared.class.DefaultInitarg.{DefaultInitarg}
 use Rattle.clos_class.specs.declared.effective_slots.EffectiveSlot.{EffectiveSlot}
 use Rattle.clos_machine.specs.clos_world.World.{State}
 use Rattle.clos_machine.specs.clos_world.declared.condition.Condition.{Condition}
-use Rattle.clos_machine.specs.clos_world.declared.condition.Stop.{Stop}
-use Rattle.clos_machine.specs.clos_world.declared.condition.Stop.TheVariants.{Refused, Storage}
 use Rattle.clos_machine.specs.clos_meaning.Filling.{Filler, Subject, fill, filled, filler, nothing, value, initform}
 use Rattle.clos_class.specs.Slots.{Effective}
-use Rattle.clos_forms.specs.Form.{Frm, nil}
+use Rattle.clos_forms.specs.Form.{Frm}
 use Rattle.clos_machine.specs.clos_meaning.Contexts.{known}
 use Rattle.clos_machine.specs.clos_meaning.Initialization.{is_given}
 use Rattle.clos_machine.specs.clos_meaning.Outcome.{Gave, Run, Eval, then_do, stopped}

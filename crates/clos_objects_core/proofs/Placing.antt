@@ -22,7 +22,7 @@ use Rattle.clos_machine.specs.declared.machine.Doing.{Doing}
 use Rattle.clos_machine.specs.declared.machine.Doing.TheVariants.{Give}
 use Rattle.clos_machine.specs.declared.machine.Machine.{Machine}
 use Rattle.clos_machine.proofs.Runs.{stops_at_once, turns_of_leads, turns_same}
-use Rattle.clos_machine.proofs.Turns.{leads_same, stopped_through}
+use Rattle.clos_machine.proofs.Turns.{leads_same}
 use Rattle.clos_objects_core.specs.Slots.{DesignatesSlot, three_of, two_of}
 
 module _ (ev : Eval) (env : Context) where

@@ -3,7 +3,6 @@ use Rattle.std.specs.Prelude.{option_map}
 use Rattle.lisp_data.specs.Name.{Nam}
 use Rattle.lisp_data.specs.Value.{Val}
 use Rattle.lisp_data.specs.ValueView.{value_of}
-use Rattle.clos_forms.specs.Form.{Frms}
 use Rattle.clos_machine.specs.clos_world.World.{Local, State, bound_as, seen}
 use Rattle.clos_generic_core.specs.declared.system.SystemFunction.TheVariants.{SlotMissing}
 use Rattle.clos_machine.specs.Machine.{at}
