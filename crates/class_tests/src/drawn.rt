@@ -1,7 +1,7 @@
 //! Definitions that are drawn, against the slow search.
 use crate::model::{Model, name};
 use crate::script::{PREDEFINED, is_same, lists, told};
-use clos_class_core::Classes;
+use clos_hierarchy::Classes;
 use lisp_data::Name;
 use std::alloc::{AllocError, Global};
 use std::process::Abort;

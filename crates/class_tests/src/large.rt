@@ -1,5 +1,5 @@
 //! Many classes.
-use clos_class_core::{ClassFault, Classes};
+use clos_hierarchy::{ClassFault, Classes};
 use lisp_data::{ClassId, Name};
 use std::alloc::{AllocError, Global};
 use std::ops::Range;

@@ -1,6 +1,6 @@
 //! The numbers of predefined classes.
-use clos_class_core::Classes;
-use clos_class_core::numbers::{
+use clos_hierarchy::Classes;
+use clos_hierarchy::numbers::{
     BUILT_IN_CLASS, CONS, INTEGER, NULL, STANDARD_CLASS, STANDARD_GENERIC_FUNCTION,
     STANDARD_METHOD, STANDARD_OBJECT, STRING, SYMBOL,
 };

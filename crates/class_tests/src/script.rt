@@ -1,5 +1,5 @@
 //! Tables of classes as texts: what a definition answers, and class precedence lists.
-use clos_class_core::{Changed, ClassFault, Classes};
+use clos_hierarchy::{Changed, ClassFault, Classes};
 use lisp_data::{ClassId, Name};
 use std::alloc::{AllocError, Global};
 

@@ -1,12 +1,12 @@
 -- What a method's body does, whatever it knows of its call.
 use Rattle.std.proofs.Common.{◌≡◌, ℕ, List, [], ◌∷◌, Option, Some, None, Result, Ok, Err, refl, ap, sym, true, ◌∙◌}
 use Rattle.std.specs.Prelude.{if◌then◌else◌}
-use Rattle.lisp_data.specs.Name.{Nam}
+use Rattle.lisp_data.specs.Name.{Name}
 use Rattle.lisp_data.specs.Value.{Val}
-use Rattle.clos_forms.specs.Form.{Frms}
-use Rattle.clos_generic_core.specs.declared.method.MethodBody.{MethodBody}
-use Rattle.clos_generic_core.specs.declared.method.MethodBody.TheVariants.{Forms, Reader, System, Writer}
-use Rattle.clos_generic_core.specs.declared.system.SystemFunction.{SystemFunction}
+use Rattle.clos_forms.specs.Form.{Forms}
+use Rattle.clos_method.specs.declared.method.MethodBody.{MethodBody}
+use Rattle.clos_method.specs.declared.method.MethodBody.TheVariants.{Forms as Body, Reader, System, Writer}
+use Rattle.clos_method.specs.declared.system.SystemFunction.{SystemFunction}
 use Rattle.clos_lambda.specs.declared.lambda_list.LambdaList.{LambdaList}
 use Rattle.clos_machine.specs.clos_world.clos_store.Store.{slot_found}
 use Rattle.clos_machine.specs.clos_world.World.{State}
@@ -30,7 +30,7 @@ use Rattle.clos_machine.specs.declared.machine.Machine.{Machine}
 use Rattle.clos_machine.proofs.Turns.{leads_same}
 use Rattle.clos_calls.specs.Methods.{forms_run}
 
-module _ (ev : Eval) (env ctx : Context) (slot : Nam) (w : State) (s : ℕ) where
+module _ (ev : Eval) (env ctx : Context) (slot : Name) (w : State) (s : ℕ) where
   found_any : (i : ℕ) (o : Option (Option Val)) → slot_read ev env i slot o w s ≡ slot_read ev ctx i slot o w s
   found_any i None = refl
   found_any i (Some None) = refl
@@ -70,11 +70,11 @@ module _ (m n : Machine) (env : Context) (b : MethodBody) (w : State) where
   set_to : (x : MethodBody) (t : ℕ) → b ≡ x → method_body_run (meaning m.room) env x (at m w) t ≡ method_body_run (meaning m.room) env b (at m w) t
   set_to x t e = ap (λ y. method_body_run (meaning m.room) env y (at m w) t) (sym e)
 
-  pub body_of_forms : (l : LambdaList) (fs : Frms) (ctx : Context) (k : LambdaList) (r : Result Doing Stop) → b ≡ Forms l fs → ctx ≡ env → k ≡ l
+  pub body_of_forms : (l : LambdaList) (fs : Forms) (ctx : Context) (k : LambdaList) (r : Result Doing Stop) → b ≡ Body l fs → ctx ≡ env → k ≡ l
       → Leads (inside m (forms_run (meaning m.room) ctx k fs)) w r n → Leads (inside m (method_body_run (meaning m.room) env b)) w r n
   body_of_forms l fs ctx k r e h i =
       goes_as (forms_run (meaning m.room) ctx k fs) r
-      (λ t. ap (λ x. forms_run (meaning m.room) x k fs (at m w) t) h ∙ ap (λ x. forms_run (meaning m.room) env x fs (at m w) t) i ∙ set_to (Forms l fs) t e)
+      (λ t. ap (λ x. forms_run (meaning m.room) x k fs (at m w) t) h ∙ ap (λ x. forms_run (meaning m.room) env x fs (at m w) t) i ∙ set_to (Body l fs) t e)
 
 -- ---- bodies without forms, which are performed next
 
@@ -84,13 +84,13 @@ module _ (m : Machine) (env : Context) (b : MethodBody) (w : State) where
   performs x p e h = λ t.
       ap (λ o. closed (resume m.levels m.context o)) (h t ∙ ap (λ y. method_body_run (meaning m.room) env y (at m w) t) (sym e))
 
-  pub body_reads : (slot name : Nam) → b ≡ Reader slot → name ≡ slot
+  pub body_reads : (slot name : Name) → b ≡ Reader slot → name ≡ slot
       → Leads (inside m (method_body_run (meaning m.room) env b)) w (Ok (Perform (built_in.Reader name) env.arguments)) m
   body_reads slot name e h =
       performs (Reader slot) (built_in.Reader name) e
       (λ t. ap (λ x. read_by (meaning m.room) m.context x env.arguments (at m w) t) h ∙ read_any (meaning m.room) m.context env slot (at m w) t env.arguments)
 
-  pub body_writes : (slot name : Nam) → b ≡ Writer slot → name ≡ slot
+  pub body_writes : (slot name : Name) → b ≡ Writer slot → name ≡ slot
       → Leads (inside m (method_body_run (meaning m.room) env b)) w (Ok (Perform (built_in.Writer name) env.arguments)) m
   body_writes slot name e h =
       performs (Writer slot) (built_in.Writer name) e
@@ -100,7 +100,7 @@ module _ (m : Machine) (env : Context) (b : MethodBody) (w : State) where
       → Leads (inside m (method_body_run (meaning m.room) env b)) w (Ok (Perform (built_in.System f) env.arguments)) m
   body_of_system f e = performs (System f) (built_in.System f) e (λ t. refl)
 
-pub keys_even : (m n : Machine) (env : Context) (l : LambdaList) (fs : Frms) (w : State) (r : Result Doing Stop) → true ≡ keys_are_even l env.arguments
+pub keys_even : (m n : Machine) (env : Context) (l : LambdaList) (fs : Forms) (w : State) (r : Result Doing Stop) → true ≡ keys_are_even l env.arguments
     → Leads (inside m (body_run (meaning m.room) env (sources l env.arguments) fs)) w r n → Leads (inside m (forms_run (meaning m.room) env l fs)) w r n
 keys_even m n env l fs w r e h =
     leads_same (inside m (body_run (meaning m.room) env (sources l env.arguments) fs)) (inside m (forms_run (meaning m.room) env l fs)) w r n

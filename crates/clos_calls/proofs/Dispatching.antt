@@ -1,12 +1,12 @@
 -- Calls of generic functions, with applicable methods and without.
 use Rattle.std.proofs.Common.{◌≡◌, ℕ, List, [], ◌∷◌, true, false, Option, Some, None, Result, Err, length, slice_get, arith, refl, ap, sym, ◌∙◌}
 use Rattle.std.specs.Prelude.{if◌then◌else◌, is_some, option_map}
-use Rattle.lisp_data.specs.Name.{Nam}
+use Rattle.lisp_data.specs.Name.{Name}
 use Rattle.lisp_data.specs.Value.{Val, generic, method}
 use Rattle.clos_machine.specs.clos_world.clos_generic.Table.{Function}
-use Rattle.clos_generic_core.specs.Shape.{takes_count}
-use Rattle.clos_generic_core.specs.System.{system_number}
-use Rattle.clos_generic_core.specs.declared.system.SystemFunction.TheVariants.{NoApplicableMethod}
+use Rattle.clos_method.specs.Shape.{takes_count}
+use Rattle.clos_method.specs.System.{system_number}
+use Rattle.clos_method.specs.declared.system.SystemFunction.TheVariants.{NoApplicableMethod}
 use Rattle.clos_machine.specs.clos_world.Dispatch.{ordered}
 use Rattle.clos_machine.specs.clos_world.World.{State, unbound}
 use Rattle.clos_machine.specs.clos_world.declared.condition.Condition.{Condition}
@@ -144,7 +144,7 @@ module _ (m n : Machine) (ev : Eval) (w : State) where
       ap (λ y. closed (resume m.levels m.context (combined_run ev env f y (at m w) t))) e
       ∙ stopped_through m.levels m.context (record { kind = InvalidMethod; items = method k ∷ [] }) (at m w) t ∙ ap (λ y. Stopped y (unbound w) t) (sym h)
 
-  pub empty_told : (env : Context) (f : Function) (x : Combined) (group : Nam) (stop : Stop) → x ≡ group_empty group.text → TellsCondition (empty_group f group) stop
+  pub empty_told : (env : Context) (f : Function) (x : Combined) (group : Name) (stop : Stop) → x ≡ group_empty group.text → TellsCondition (empty_group f group) stop
       → Leads (inside m (combined_run ev env f x)) w (Err stop) n
   empty_told env f x group Storage e h = tt
   empty_told env f x group (Refused c) e h = λ t.

@@ -3,10 +3,10 @@ use Rattle.std.proofs.Common.{◌≡◌, ℕ, List, [], ◌∷◌, Bool, true, f
 use Rattle.std.specs.Prelude.{if◌then◌else◌}
 use Rattle.std.specs.Str.{bytes_eq}
 use Rattle.lisp_data.specs.Value.{Val, method}
-use Rattle.clos_forms.specs.Form.{Frm, Frms, cons, nil}
+use Rattle.clos_forms.specs.Form.{Form, Forms, cons, nil}
 use Rattle.clos_forms.specs.Operator.{Callable, the_method, made}
 use Rattle.clos_machine.specs.clos_world.clos_generic.Table.{Function}
-use Rattle.clos_generic_core.specs.Shape.{takes_count}
+use Rattle.clos_method.specs.Shape.{takes_count}
 use Rattle.clos_machine.specs.clos_world.Dispatch.{ordered}
 use Rattle.clos_machine.specs.clos_world.World.{State}
 use Rattle.clos_machine.specs.clos_world.declared.condition.Condition.{Condition}
@@ -102,13 +102,13 @@ module _ (m n : Machine) (vs : List Val) (w : State) where
     pub none_runs : x.next ≡ [] → Leads (inside m (none_next (meaning m.room) m.context.call x.method.0 vs)) w r n → Leads (inside m calling_next) w r n
     none_runs h = next_as (none_next (meaning m.room) m.context.call x.method.0 vs) [] (sym h) (λ t. refl)
 
-    pub method_runs : (k : ℕ) (ns : List Callable) (fs : Frms) → the_method k ∷ ns ≡ x.next → fs ≡ x.forms
+    pub method_runs : (k : ℕ) (ns : List Callable) (fs : Forms) → the_method k ∷ ns ≡ x.next → fs ≡ x.forms
         → Leads (inside m (method_run (meaning m.room) (running k ns fs (with_arguments vs m.context)) (slice_get w.generics.methods k))) w r n → Leads (inside m calling_next) w r n
     method_runs k ns fs h i =
         next_as (method_run (meaning m.room) (running k ns fs (with_arguments vs m.context)) (slice_get w.generics.methods k)) (the_method k ∷ ns) h
         (λ t. ap (λ f. method_called (meaning m.room) (with_arguments vs m.context) (the_method k) ns f (at m w) t) i)
 
-    pub made_runs : (ns : List Callable) (fs : Frms) → made ∷ ns ≡ x.next → fs ≡ x.forms
+    pub made_runs : (ns : List Callable) (fs : Forms) → made ∷ ns ≡ x.next → fs ≡ x.forms
         → Leads (inside m (made_run (meaning m.room) (with_arguments vs m.context) fs)) w r n → Leads (inside m calling_next) w r n
     made_runs ns fs h i =
         next_as (made_run (meaning m.room) (with_arguments vs m.context) fs) (made ∷ ns) h
@@ -116,14 +116,14 @@ module _ (m n : Machine) (vs : List Val) (w : State) where
 
   -- ---- a form without forms, and one with some
 
-  pub none_given : (fs : Frms) (r : Result Doing Stop) → fs ≡ nil → vs ≡ m.context.arguments → Leads (inside m calling_next) w r n
+  pub none_given : (fs : Forms) (r : Result Doing Stop) → fs ≡ nil → vs ≡ m.context.arguments → Leads (inside m calling_next) w r n
       → Leads (inside m (next_method (meaning m.room) m.context fs)) w r n
   none_given fs r e h l =
       leads_same (inside m calling_next) (inside m (next_method (meaning m.room) m.context fs)) w r n
       (λ t. ap (λ o. closed (resume m.levels m.context o))
       (ap (λ x. next_called (meaning m.room) m.context m.context.running x (at m w) t) h ∙ ap (λ x. next_method (meaning m.room) m.context x (at m w) t) (sym e))) l
 
-pub some_given : (ev : Eval) (env : Context) (fs : Frms) (f : Frm) (rest : Frms) (vs : List Val) (w : State) (t : ℕ) → fs ≡ cons f rest → vs ≡ []
+pub some_given : (ev : Eval) (env : Context) (fs : Forms) (f : Form) (rest : Forms) (vs : List Val) (w : State) (t : ℕ) → fs ≡ cons f rest → vs ≡ []
     → collect ev env fs vs (acted ev env CallNext) w t ≡ next_method ev env fs w t
 some_given ev env fs f rest vs w t e h =
     ap (λ x. collect ev env fs x (acted ev env CallNext) w t) h

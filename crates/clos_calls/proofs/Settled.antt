@@ -2,10 +2,10 @@
 use Rattle.std.proofs.Common.{◌≡◌, ℕ, List, [], ◌∷◌, ◌++◌, Bool, true, false, Option, Some, None, Result, Ok, Err, length, drop, refl, ap, sym, ◌∙◌}
 use Rattle.std.specs.Prelude.{if◌then◌else◌, ◌&&◌, is_none}
 use Rattle.std.proofs.lemmas.List.{append-nil}
-use Rattle.lisp_data.specs.Name.{Nam}
+use Rattle.lisp_data.specs.Name.{Name}
 use Rattle.lisp_data.specs.Value.{Val}
 use Rattle.lisp_data.specs.Value as value
-use Rattle.clos_forms.specs.Form.{Frm, Frms}
+use Rattle.clos_forms.specs.Form.{Form, Forms}
 use Rattle.clos_lambda.specs.declared.lambda_list.Keys.{Keys}
 use Rattle.clos_lambda.specs.declared.lambda_list.LambdaList.{LambdaList}
 use Rattle.clos_lambda.specs.declared.lambda_list.Optional.{Optional}
@@ -29,7 +29,7 @@ use Rattle.clos_machine.specs.declared.machine.Level.{Level}
 use Rattle.clos_machine.specs.declared.machine.Machine.{Machine}
 use Rattle.clos_machine.proofs.Turns.{leads_same, stopped_through, then_then}
 
-module _ (ls : List Level) (saved : Context) (outer : List Local) (ev : Eval) (env : Context) (fs : Frms) (w : State) (t : ℕ) where
+module _ (ls : List Level) (saved : Context) (outer : List Local) (ev : Eval) (env : Context) (fs : Forms) (w : State) (t : ℕ) where
   -- how the run goes on from there
   abbrev pub from : Result (List Local × Sources) Condition → Out
   from (Err c) = Stopped c (unbound w) t
@@ -56,20 +56,20 @@ module _ (ls : List Level) (saved : Context) (outer : List Local) (ev : Eval) (e
 
 -- ---- a body whose parameters are bound
 
-pub settled_stops : (m : Machine) (saved : Context) (outer : List Local) (ev : Eval) (env : Context) (fs : Frms) (ps : Sources) (w : State) (stop : Stop) (xs : List Local) (ys : Sources) (p : Machine)
+pub settled_stops : (m : Machine) (saved : Context) (outer : List Local) (ev : Eval) (env : Context) (fs : Forms) (ps : Sources) (w : State) (stop : Stop) (xs : List Local) (ys : Sources) (p : Machine)
     → Settles (settled w.globals ps m.locals) (Err stop) xs ys → Leads (under m saved outer (parameters_run ev env ps fs)) w (Err stop) p
 settled_stops m saved outer ev env fs ps w Storage xs ys p e = tt
 settled_stops m saved outer ev env fs ps w (Refused d) xs ys p e = λ t.
     settles m.levels saved outer ev env fs w t ps m.locals ∙ ap (from m.levels saved outer ev env fs w t) e
 
-pub settled_goes : (m : Machine) (saved : Context) (outer : List Local) (ev : Eval) (env : Context) (fs : Frms) (ps : Sources) (w : State) (xs : List Local) (ys : Sources) (r : Result Doing Stop) (p : Machine)
+pub settled_goes : (m : Machine) (saved : Context) (outer : List Local) (ev : Eval) (env : Context) (fs : Forms) (ps : Sources) (w : State) (xs : List Local) (ys : Sources) (r : Result Doing Stop) (p : Machine)
     → settled w.globals ps m.locals ≡ Ok (xs, ys) → Leads (under (record m { locals = xs }) saved outer (parameters_run ev env ys fs)) w r p
     → Leads (under m saved outer (parameters_run ev env ps fs)) w r p
 settled_goes m saved outer ev env fs ps w xs ys r p e h =
     leads_same (under (record m { locals = xs }) saved outer (parameters_run ev env ys fs)) (under m saved outer (parameters_run ev env ps fs)) w r p
     (λ t. sym (settles m.levels saved outer ev env fs w t ps m.locals ∙ ap (from m.levels saved outer ev env fs w t) e)) h
 
-pub init_begins : (m : Machine) (saved : Context) (outer : List Local) (x : Nam) (f : Frm) (ps : Sources) (fs : Frms) (w : State) (t : ℕ)
+pub init_begins : (m : Machine) (saved : Context) (outer : List Local) (x : Name) (f : Form) (ps : Sources) (fs : Forms) (w : State) (t : ℕ)
     → closed (resume (record { frame = Bind x ps fs saved outer; room = m.room } ∷ m.levels) m.context (meaning m.room m.context f (at m w) t))
     ≡ under m saved outer (parameters_run (meaning m.room) m.context ((x, init f) ∷ ps) fs) w t
 init_begins m saved outer x f ps fs w t =
@@ -78,18 +78,18 @@ init_begins m saved outer x f ps fs w t =
     (restoring outer)))
 
 -- one parameter
-abbrev bound_or_not : (m : Machine) (saved : Context) (outer : List Local) (x : Nam) (v : Val) (ps : Sources) (fs : Frms) (w : State) (t : ℕ) → Bool → Out
+abbrev bound_or_not : (m : Machine) (saved : Context) (outer : List Local) (x : Name) (v : Val) (ps : Sources) (fs : Forms) (w : State) (t : ℕ) → Bool → Out
 bound_or_not m saved outer x v ps fs w t b =
     closed (resume m.levels saved (then_do (if b then stopped Unsupported [] (at m w) t
     else parameters_run (meaning m.room) m.context ps fs (inner x v (at m w)) t) (restoring outer)))
 
-pub parameter_stops : (m : Machine) (saved : Context) (outer : List Local) (x : Nam) (v : Val) (ps : Sources) (fs : Frms) (w : State) (d : Condition)
+pub parameter_stops : (m : Machine) (saved : Context) (outer : List Local) (x : Name) (v : Val) (ps : Sources) (fs : Forms) (w : State) (d : Condition)
     → true ≡ is_global w.globals x → d ≡ record { kind = Unsupported; items = [] } → (t : ℕ) → given_to m (Bind x ps fs saved outer) v w t ≡ Stopped d (unbound w) t
 parameter_stops m saved outer x v ps fs w d e k t =
     sym (ap (bound_or_not m saved outer x v ps fs w t) e) ∙ stopped_through m.levels saved (record { kind = Unsupported; items = [] }) (at m w) t
     ∙ ap (λ c. Stopped c (unbound w) t) (sym k)
 
-pub parameter_bound : (m : Machine) (saved : Context) (outer : List Local) (x : Nam) (v : Val) (ps : Sources) (fs : Frms) (w : State) (r : Result Doing Stop) (p : Machine)
+pub parameter_bound : (m : Machine) (saved : Context) (outer : List Local) (x : Name) (v : Val) (ps : Sources) (fs : Forms) (w : State) (r : Result Doing Stop) (p : Machine)
     → false ≡ is_global w.globals x → Leads (under (record m { locals = (x, held v) ∷ m.locals }) saved outer (parameters_run (meaning m.room) m.context ps fs)) w r p
     → Leads (given_to m (Bind x ps fs saved outer) v) w r p
 parameter_bound m saved outer x v ps fs w r p e h =
@@ -97,7 +97,7 @@ parameter_bound m saved outer x v ps fs w r p e h =
     (given_to m (Bind x ps fs saved outer) v) w r p (λ t. ap (bound_or_not m saved outer x v ps fs w t) e) h
 
 -- a body in a context of its own
-pub planned : (m : Machine) (saved env : Context) (outer xs : List Local) (ctx : Context) (ps : Sources) (fs : Frms) (w : State) (r : Result Doing Stop) (p : Machine)
+pub planned : (m : Machine) (saved env : Context) (outer xs : List Local) (ctx : Context) (ps : Sources) (fs : Forms) (w : State) (r : Result Doing Stop) (p : Machine)
     → saved ≡ m.context → outer ≡ m.locals → env ≡ ctx → xs ≡ []
     → Leads (under (record m { context = env; locals = xs }) saved outer (parameters_run (meaning m.room) env ps fs)) w r p → Leads (inside m (body_run (meaning m.room) ctx ps fs)) w r p
 planned m saved env outer xs ctx ps fs w r p e d k l h =
@@ -107,14 +107,14 @@ planned m saved env outer xs ctx ps fs w r p e d k l h =
     ∙ ap (λ x. under (record m { context = ctx; locals = [] }) x outer (parameters_run (meaning m.room) ctx ps fs) w t) e
     ∙ ap (λ x. under (record m { context = ctx; locals = [] }) m.context x (parameters_run (meaning m.room) ctx ps fs) w t) d) h
 
-pub bound_stops : (m : Machine) (ctx : Context) (us : List Val) (ns : List Nam) (fs : Frms) (w : State) (stop : Stop) (p : Machine) → us ≡ ctx.arguments
+pub bound_stops : (m : Machine) (ctx : Context) (us : List Val) (ns : List Name) (fs : Forms) (w : State) (stop : Stop) (p : Machine) → us ≡ ctx.arguments
     → Binds (settled w.globals (required_sources ns us) []) (Err stop) → Leads (inside m (body_run (meaning m.room) ctx (required_sources ns ctx.arguments) fs)) w (Err stop) p
 bound_stops m ctx us ns fs w Storage p k e = tt
 bound_stops m ctx us ns fs w (Refused d) p k e = λ t.
     settles m.levels m.context m.locals (meaning m.room) ctx fs w t (required_sources ns ctx.arguments) []
     ∙ ap (from m.levels m.context m.locals (meaning m.room) ctx fs w t) (ap (λ x. settled w.globals (required_sources ns x) []) (sym k) ∙ e)
 
-pub bound_goes : (m : Machine) (ctx : Context) (us : List Val) (ns : List Nam) (fs : Frms) (w : State) (xs : List Local) (r : Result Doing Stop) (p : Machine) → us ≡ ctx.arguments
+pub bound_goes : (m : Machine) (ctx : Context) (us : List Val) (ns : List Name) (fs : Forms) (w : State) (xs : List Local) (r : Result Doing Stop) (p : Machine) → us ≡ ctx.arguments
     → settled w.globals (required_sources ns us) [] ≡ Ok (xs, [])
     → Leads (inside m (scoped (sequence (meaning m.room) ctx fs (value.list value.nil)) xs)) w r p → Leads (inside m (body_run (meaning m.room) ctx (required_sources ns ctx.arguments) fs)) w r p
 bound_goes m ctx us ns fs w xs r p k e h =
@@ -123,7 +123,7 @@ bound_goes m ctx us ns fs w xs r p k e h =
     ∙ ap (from m.levels m.context m.locals (meaning m.room) ctx fs w t) (ap (λ x. settled w.globals (required_sources ns x) []) (sym k) ∙ e))) h
 
 -- where all parameters are required
-none_other : (ns : List Nam) (os : List Optional) (o : Option Nam) (k : Option Keys) (vs us : List Val) → true ≡ (is_empty os && is_none o && is_none k)
+none_other : (ns : List Name) (os : List Optional) (o : Option Name) (k : Option Keys) (vs us : List Val) → true ≡ (is_empty os && is_none o && is_none k)
     → required_sources ns vs ++ (optional_sources os (drop (length ns) vs) ++ (rest_sources o us ++ key_sources k us)) ≡ required_sources ns vs
 none_other ns [] None None vs us e = append-nil (required_sources ns vs)
 none_other ns [] None (Some k) vs us e = absurd (cc e)

@@ -1,6 +1,6 @@
 -- What parts of methods are told to do.
 use Rattle.std.specs.Prelude.{[], if◌then◌else◌}
-use Rattle.clos_forms.specs.Form.{Frms}
+use Rattle.clos_forms.specs.Form.{Forms}
 use Rattle.clos_lambda.specs.declared.lambda_list.LambdaList.{LambdaList}
 use Rattle.clos_machine.specs.clos_world.declared.condition.ConditionKind.TheVariants.{ProgramError}
 use Rattle.clos_machine.specs.clos_meaning.Bodies.{body_run}
@@ -10,5 +10,5 @@ use Rattle.clos_machine.specs.clos_meaning.Parameters.{sources}
 use Rattle.clos_machine.specs.clos_meaning.declared.arguments.Context.{Context}
 
 -- the forms of a method, with the parameters of this lambda list
-abbrev pub forms_run : Eval → Context → LambdaList → Frms → Run
+abbrev pub forms_run : Eval → Context → LambdaList → Forms → Run
 forms_run ev env l fs w s = if keys_are_even l env.arguments then body_run ev env (sources l env.arguments) fs w s else stopped ProgramError [] w s

@@ -14,13 +14,13 @@ ghost use Rattle.clos_calls.specs.GenericCalls.{empty_group, takes_in};
 use crate::keywords::keywords_fit;
 use clos_comb::Outcome;
 use clos_forms::Form;
-use clos_generic_core::{MethodIds, SystemFunction};
 use clos_machine::machine::{Doing, Machine};
 use clos_machine::moves::set_apart;
 use clos_machine::{
     Arguments, Condition, ConditionKind, Context, Dispatch, Stop, Values, World, about, about_both,
     called_value, plain,
 };
+use clos_method::{MethodIds, SystemFunction};
 use lisp_data::{GenericId, Name, Value};
 use std::alloc::{AllocError, Global};
 

@@ -2,14 +2,14 @@
 ghost use Rattle.std.specs.Prelude.{◌≡◌, Some, drop, map, slice_get};
 ghost use Rattle.lisp_data.specs.ValueView.{value_of};
 ghost use Rattle.clos_machine.specs.clos_world.clos_generic.Table.{Function};
-ghost use Rattle.clos_generic_core.specs.MethodIds.{method_numbers};
+ghost use Rattle.clos_method.specs.MethodIds.{method_numbers};
 ghost use Rattle.clos_machine.specs.clos_world.World.{seen};
 ghost use Rattle.clos_machine.specs.clos_meaning.ClassFunctions.{symbol_in};
 ghost use Rattle.clos_machine.specs.clos_meaning.GenericCalls.{after_positional, are_accepted, is_accepted, keys_fit, keywords_fit};
 
-use clos_generic_core::Shape;
 use clos_machine::World;
 use clos_machine::parameters::{are_pairs, is_allowing};
+use clos_method::Shape;
 use lisp_data::{GenericId, MethodId, Name, Value};
 
 /// Whether the keyword arguments of a call fit, for which these methods are applicable.

@@ -10,12 +10,12 @@ ghost use Rattle.clos_calls.specs.Methods.{forms_run};
 use crate::bodies::run_body;
 use crate::generic_calls::enter_effect;
 use clos_forms::{CalledMethod, Forms, NextMethods};
-use clos_generic_core::MethodBody;
 use clos_lambda::LambdaList;
 use clos_machine::machine::{BuiltIn, Doing, Machine};
 use clos_machine::moves::split;
 use clos_machine::parameters::keys_are_even;
 use clos_machine::{Arguments, ConditionKind, Context, Running, Stop, World, plain};
+use clos_method::MethodBody;
 use lisp_data::MethodId;
 use std::alloc::{AllocError, Global};
 

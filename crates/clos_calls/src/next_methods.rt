@@ -3,7 +3,7 @@ ghost use Rattle.std.specs.Prelude.{◌≡◌, ◌∷◌, IfOk, map};
 ghost use Rattle.std.specs.Str.{bytes_eq};
 ghost use Rattle.lisp_data.specs.Value.{generic, method};
 ghost use Rattle.lisp_data.specs.ValueView.{value_of};
-ghost use Rattle.clos_generic_core.specs.MethodIds.{method_numbers};
+ghost use Rattle.clos_method.specs.MethodIds.{method_numbers};
 ghost use Rattle.clos_machine.specs.clos_world.World.{seen};
 ghost use Rattle.clos_machine.specs.clos_meaning.Calls.{made_run};
 ghost use Rattle.clos_machine.specs.clos_meaning.Contexts.{with_arguments};
@@ -16,10 +16,10 @@ ghost use Rattle.clos_machine.specs.declared.machine.Action.TheVariants.{CallNex
 use crate::generic_calls::{enter_effect, takes};
 use crate::methods::run_method;
 use clos_forms::{CalledMethod, Forms};
-use clos_generic_core::SystemFunction;
 use clos_machine::machine::{Action, Doing, Machine};
 use clos_machine::moves::{collect_next, split};
 use clos_machine::{Arguments, ConditionKind, Dispatch, Stop, Values, World, about, plain};
+use clos_method::SystemFunction;
 use lisp_data::{MethodId, Value};
 use std::alloc::{AllocError, Global};
 

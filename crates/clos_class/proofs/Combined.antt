@@ -3,9 +3,9 @@ use Rattle.std.proofs.Common.{◌≡◌, List, [], ◌∷◌, ◌++◌, Option, 
 use Rattle.std.specs.List.{flat_map}
 use Rattle.std.specs.Prelude.{ℕ, reverse}
 use Rattle.std.proofs.lemmas.List.{map-append}
-use Rattle.lisp_data.specs.Name.{Nam}
+use Rattle.lisp_data.specs.Name.{Name}
 use Rattle.lisp_data.specs.declared.ids.ClassId.{ClassId}
-use Rattle.clos_forms.specs.Form.{Frm}
+use Rattle.clos_forms.specs.Form.{Form}
 use Rattle.clos_precedence.specs.PrecedenceView.{latest_first, numbers}
 use Rattle.clos_precedence.proofs.Lists.{latest}
 use Rattle.clos_class.specs.declared.direct.SlotAllocation.{SlotAllocation}
@@ -22,7 +22,7 @@ pub all_accessible : (of : DirectSlots) (cs : List ClassId) → with_names [] (a
 all_accessible of cs = all_added (all_names of cs)
 
 -- those of one class more
-pub next_class : (of : DirectSlots) (found more : List Nam) (cs : List ClassId) (c : ClassId) → more ≡ with_names found (names (of c.0))
+pub next_class : (of : DirectSlots) (found more : List Name) (cs : List ClassId) (c : ClassId) → more ≡ with_names found (names (of c.0))
     → with_names more (all_names of cs) ≡ with_names found (all_names of (cs ++ c ∷ []))
 next_class of found more cs c e =
     more_names found more (names (of c.0)) (all_names of cs) e
@@ -30,18 +30,18 @@ next_class of found more cs c e =
 
 -- ---- the layout and the slots
 
-layout_built : (of : DirectSlots) (l : List ℕ) (f : Nam → Option SlotAllocation) (ns : List Nam) → ((n : Nam) → f n ≡ allocation of l n) → ns ≡ accessible of l → with_slots f no_slots ns ≡ layout_of of l
+layout_built : (of : DirectSlots) (l : List ℕ) (f : Name → Option SlotAllocation) (ns : List Name) → ((n : Name) → f n ≡ allocation of l n) → ns ≡ accessible of l → with_slots f no_slots ns ≡ layout_of of l
 layout_built of l f ns e h =
     ap (λ g. with_slots g no_slots ns) (λ i n. e n i)
     ∙ ap (with_slots (allocation of l) no_slots) h
     ∙ are_built (allocation of l) (accessible of l)
     ∙ ap (layout_by (allocation of l)) (distinct_again (names (flat_map of (reverse l))))
 
-slots_built : (of : DirectSlots) (l : List ℕ) (f : Nam → Option SlotAllocation) (g : Nam → List Nam) (h : Nam → Option Frm) (ns : List Nam)
-    → ((n : Nam) → f n ≡ allocation of l n) → ((n : Nam) → g n ≡ initargs of l n) → ((n : Nam) → h n ≡ initform of l n) → ns ≡ accessible of l → map (slot_by f g h) ns ≡ effective_slots of l
+slots_built : (of : DirectSlots) (l : List ℕ) (f : Name → Option SlotAllocation) (g : Name → List Name) (h : Name → Option Form) (ns : List Name)
+    → ((n : Name) → f n ≡ allocation of l n) → ((n : Name) → g n ≡ initargs of l n) → ((n : Name) → h n ≡ initform of l n) → ns ≡ accessible of l → map (slot_by f g h) ns ≡ effective_slots of l
 slots_built of l f g h ns e a o p = λ i. map (slot_by (λ n. e n i) (λ n. a n i) (λ n. o n i)) (p i)
 
-pub own_names : (f : Nam → Option SlotAllocation) (g : Nam → List Nam) (h : Nam → Option Frm) (ns : List Nam) → ns ≡ map (λ s. s.name) (map (slot_by f g h) ns)
+pub own_names : (f : Name → Option SlotAllocation) (g : Name → List Name) (h : Name → Option Form) (ns : List Name) → ns ≡ map (λ s. s.name) (map (slot_by f g h) ns)
 own_names f g h [] = refl
 own_names f g h (n ∷ ns) = ap (λ l. n ∷ l) (own_names f g h ns)
 
@@ -50,8 +50,8 @@ some_effective of given [] h = absurd (omega (arith, h))
 some_effective of given (c ∷ cs) h = refl
 
 -- all that a class has
-pub is_effective : (of : DirectSlots) (given : Defaults) (cs : List ClassId) (f : Nam → Option SlotAllocation) (g : Nam → List Nam) (h : Nam → Option Frm) (ns : List Nam) (e : Effective)
-    → ((n : Nam) → f n ≡ allocation of (numbers cs) n) → ((n : Nam) → g n ≡ initargs of (numbers cs) n) → ((n : Nam) → h n ≡ initform of (numbers cs) n) → ns ≡ accessible of (numbers cs)
+pub is_effective : (of : DirectSlots) (given : Defaults) (cs : List ClassId) (f : Name → Option SlotAllocation) (g : Name → List Name) (h : Name → Option Form) (ns : List Name) (e : Effective)
+    → ((n : Name) → f n ≡ allocation of (numbers cs) n) → ((n : Name) → g n ≡ initargs of (numbers cs) n) → ((n : Name) → h n ≡ initform of (numbers cs) n) → ns ≡ accessible of (numbers cs)
     → e.layout ≡ with_slots f no_slots ns → e.slots ≡ map (slot_by f g h) ns → e.defaults ≡ default_initargs given (numbers cs) → 0 < length cs → Some e ≡ effective_if of given (numbers cs)
 is_effective of given cs f g h ns e ef eg eh en y s d b =
     let p : e.layout ≡ layout_of of (numbers cs) = y ∙ layout_built of (numbers cs) f ns ef en in

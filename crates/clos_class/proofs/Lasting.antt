@@ -5,7 +5,7 @@ use Rattle.std.specs.declared.alloc.Global.{Global}
 use Rattle.std.specs.declared.rc.Rc.{Rc}
 use Rattle.std.proofs.lemmas.Bool.{eqb-true, eqb-false, le-ltb, ltb-false, ltb-true}
 use Rattle.std.proofs.lemmas.Option.{slice_get_past}
-use Rattle.clos_class_core.specs.Classes.{Classes, lacking, list_in, listing_within}
+use Rattle.clos_hierarchy.specs.Classes.{Classes, lacking, list_in, listing_within}
 use Rattle.clos_class.specs.declared.direct.ClassSlots.{ClassSlots}
 use Rattle.clos_class.specs.Keeping.{Kept, Tells, TellsAll, kept_at, lists_of}
 use Rattle.clos_class.specs.Slots.{Defaults, DirectSlots, Effective}

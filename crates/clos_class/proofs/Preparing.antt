@@ -6,12 +6,12 @@ use Rattle.std.specs.Str.{bytes_eq}
 use Rattle.std.proofs.lemmas.Bool.{eq-eqb, eqb-true, eqb-false, le-ltb, lt-ltb}
 use Rattle.std.proofs.lemmas.List.Folds.{list_any-append}
 use Rattle.std.proofs.lemmas.Slice.Eq.{bytes_eq-Decides}
-use Rattle.lisp_data.specs.Name.{Nam, same_name}
+use Rattle.lisp_data.specs.Name.{Name, same_name}
 use Rattle.clos_syntax.specs.declared.class.ClassDefinition.{ClassDefinition}
-use Rattle.clos_class_core.specs.Classes.{Classes, Listing, lacking, broken, listed, list_in, listing, number_of, with_class}
-use Rattle.clos_class_core.specs.Outlook.{Outlook, listing_then}
+use Rattle.clos_hierarchy.specs.Classes.{Classes, Listing, lacking, broken, listed, list_in, listing, number_of, with_class}
+use Rattle.clos_hierarchy.specs.Outlook.{Outlook, listing_then}
 use Rattle.clos_precedence.specs.Precedence.{has}
-use Rattle.clos_class_core.specs.Table.{Table as NameTable, changed, changed_among, is_other, or_standard}
+use Rattle.clos_hierarchy.specs.Table.{Table as NameTable, changed, changed_among, is_other, or_standard}
 use Rattle.clos_class.specs.declared.direct.ClassSlots.{ClassSlots}
 use Rattle.clos_class.specs.Keeping.{Kept, Stays, Tells, TellsAll, kept_at, len_with, lists_of, lists_then}
 use Rattle.clos_class.specs.SlotsView.{defaults, direct_slots}
@@ -66,25 +66,25 @@ stay cs to o e c n h f =
 
 -- ---- how many they are
 
-present_by : (p : Nam → Bool) (x : Nam) (xs : List Nam) (b : Bool) → p x ≡ b → (b || list_any p xs) ≡ true → (list_any p xs ≡ true → position_or_len p xs < length xs)
+present_by : (p : Name → Bool) (x : Name) (xs : List Name) (b : Bool) → p x ≡ b → (b || list_any p xs) ≡ true → (list_any p xs ≡ true → position_or_len p xs < length xs)
     → position_or_len p (x ∷ xs) < length (x ∷ xs)
 present_by p x xs true e h r = let i : position_or_len p (x ∷ xs) ≡ 0 = cc in omega (arith, i)
 present_by p x xs false e h r = let i : position_or_len p (x ∷ xs) ≡ 1 + position_or_len p xs = cc in omega (arith, i, r h)
 
-present : (p : Nam → Bool) (xs : List Nam) → list_any p xs ≡ true → position_or_len p xs < length xs
+present : (p : Name → Bool) (xs : List Name) → list_any p xs ≡ true → position_or_len p xs < length xs
 present p [] h = absurd (true≢false (sym h))
 present p (x ∷ xs) h = present_by p x xs (p x) refl h (λ k. present p xs k)
 
-absent_by : (p : Nam → Bool) (x : Nam) (xs : List Nam) (b : Bool) → p x ≡ b → (b || list_any p xs) ≡ false → (list_any p xs ≡ false → position_or_len p xs ≡ length xs)
+absent_by : (p : Name → Bool) (x : Name) (xs : List Name) (b : Bool) → p x ≡ b → (b || list_any p xs) ≡ false → (list_any p xs ≡ false → position_or_len p xs ≡ length xs)
     → position_or_len p (x ∷ xs) ≡ length (x ∷ xs)
 absent_by p x xs true e h r = absurd (true≢false h)
 absent_by p x xs false e h r = let i : position_or_len p (x ∷ xs) ≡ 1 + position_or_len p xs = cc in omega (arith, i, r h)
 
-absent : (p : Nam → Bool) (xs : List Nam) → list_any p xs ≡ false → position_or_len p xs ≡ length xs
+absent : (p : Name → Bool) (xs : List Name) → list_any p xs ≡ false → position_or_len p xs ≡ length xs
 absent p [] h = refl
 absent p (x ∷ xs) h = absent_by p x xs (p x) refl h (λ k. absent p xs k)
 
-numbered_by : (cs : Classes) (name : Nam) (above : List Nam) (b : Bool) → list_any (same_name name) cs.names ≡ b
+numbered_by : (cs : Classes) (name : Name) (above : List Name) (b : Bool) → list_any (same_name name) cs.names ≡ b
     → (number_of cs name ≤ length cs.names) × (len_with (length cs.names) (number_of cs name) ≡ length (with_class cs name above).names)
 numbered_by cs name above true e =
     let p : number_of cs name < length cs.names = present (same_name name) cs.names e in
@@ -99,7 +99,7 @@ numbered_by cs name above false e =
     let t : suc (length cs.names) ≡ length (cs.names ++ name ∷ []) = omega (arith, s) in
     (omega (arith, p), ap (λ b. if b then length cs.names else suc (length cs.names)) q ∙ t ∙ ap length (sym r))
 
-numbered : (cs : Classes) (name : Nam) (above : List Nam) → (number_of cs name ≤ length cs.names) × (len_with (length cs.names) (number_of cs name) ≡ length (with_class cs name above).names)
+numbered : (cs : Classes) (name : Name) (above : List Name) → (number_of cs name ≤ length cs.names) × (len_with (length cs.names) (number_of cs name) ≡ length (with_class cs name above).names)
 numbered cs name above = numbered_by cs name above (list_any (same_name name) cs.names) refl
 
 pub known : (t : NameTable) (d : ClassDefinition) (n len : ℕ) → len ≡ length t.classes.names → n ≡ number t d → n ≤ len

@@ -3,11 +3,11 @@ use Rattle.std.proofs.Common.{◌≡◌, ℕ, zero, suc, Bool, true, false, true
 use Rattle.std.specs.Prelude.{cond, is_some, nat_lt, option_copied, replicate, slice_get, slice_set, if◌then◌else◌}
 use Rattle.std.proofs.lemmas.List.{length-set}
 use Rattle.std.proofs.lemmas.Option.{slice_get_within}
-use Rattle.lisp_data.specs.Name.{Nam}
+use Rattle.lisp_data.specs.Name.{Name}
 use Rattle.lisp_data.specs.declared.ids.CellId.{CellId}
 use Rattle.clos_syntax.specs.declared.class.ClassDefinition.{ClassDefinition}
-use Rattle.clos_class_core.specs.Classes.{Classes}
-use Rattle.clos_class_core.specs.Table.{Table as NameTable}
+use Rattle.clos_hierarchy.specs.Classes.{Classes}
+use Rattle.clos_hierarchy.specs.Table.{Table as NameTable}
 use Rattle.clos_class.specs.declared.direct.ClassSlots.{ClassSlots}
 use Rattle.clos_class.specs.Keeping.{Kept, Tells, TellsAll, kept_at, len_with, lists_of}
 use Rattle.clos_class.specs.SlotsView.{defaults, direct_slots}
@@ -31,16 +31,16 @@ one_row xs new x r e h k =
 pub longer_by_one : (xs new : List ClassSlots) (x : ClassSlots) → new ≡ xs ++ x ∷ [] → length new ≡ length xs + 1
 longer_by_one xs new x e = ap length e ∙ length-append xs (x ∷ [])
 
-pub there : (names : List Nam) (n : ℕ) (o : Option (Bor Nam)) → is_some o ≡ true → option_copied o ≡ slice_get names n → n < length names
+pub there : (names : List Name) (n : ℕ) (o : Option (Bor Name)) → is_some o ≡ true → option_copied o ≡ slice_get names n → n < length names
 there names n None h e = absurd (true≢false (sym h))
 there names n (Some b) h e = slice_get_within names n b.now (sym e)
 
-none_there : (names : List Nam) (n : ℕ) → None ≡ slice_get names n → length names ≤ n
+none_there : (names : List Name) (n : ℕ) → None ≡ slice_get names n → length names ≤ n
 none_there [] n e = omega arith
 none_there (x ∷ xs) zero e = cc
 none_there (x ∷ xs) (suc n) e = omega (arith, none_there xs n e)
 
-pub not_there : (names : List Nam) (n : ℕ) (o : Option (Bor Nam)) → is_some o ≡ false → option_copied o ≡ slice_get names n → length names ≤ n
+pub not_there : (names : List Name) (n : ℕ) (o : Option (Bor Name)) → is_some o ≡ false → option_copied o ≡ slice_get names n → length names ≤ n
 not_there names n None h e = none_there names n e
 not_there names n (Some b) h e = absurd (true≢false h)
 

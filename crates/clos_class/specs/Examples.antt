@@ -1,8 +1,8 @@
 -- Slots of a class POINT-3D, which is 2, below POINT, which is 1, below a class 0 without slots: of POINT the slot X with an
 -- initform, and COUNT, shared in the cell 7; of POINT-3D the slots Z, and COUNT again, now local, without an initform.
 use Rattle.std.specs.Prelude.{◌≡◌, ℕ, List, [], ◌∷◌, false, Some, None, codes, slice_get, unwrap_or, refl}
-use Rattle.lisp_data.specs.Name.{Nam}
-use Rattle.clos_forms.specs.Form.{Frm}
+use Rattle.lisp_data.specs.Name.{Name}
+use Rattle.clos_forms.specs.Form.{Form}
 use Rattle.clos_class.specs.declared.direct.SlotAllocation.TheVariants.{Local, Shared}
 use Rattle.lisp_data.specs.declared.ids.CellId.{CellId}
 use Rattle.clos_syntax.specs.declared.class.ClassDefinition.{ClassDefinition}
@@ -13,10 +13,10 @@ use Rattle.clos_class.specs.SlotsView.{direct_slots, says_nothing}
 use Rattle.clos_class.specs.Table.{Table, new_cells, with_definition}
 use Rattle.clos_class.specs.Slots.{DirectSlots, accessible, effective_slots, initargs, initform, layout_of}
 
-abbrev called : List ℕ → Nam
+abbrev called : List ℕ → Name
 called text = record { text = text; keyword = false }
 
-abbrev points : Frm → DirectSlots
+abbrev points : Form → DirectSlots
 points zero_form n =
     unwrap_or
     (slice_get
@@ -32,29 +32,29 @@ points zero_form n =
     []
 
 -- the slots of the superclass come first
-layout_order : (f : Frm) → accessible (points f) (2 ∷ 1 ∷ 0 ∷ []) ≡ called (codes "X") ∷ called (codes "COUNT") ∷ called (codes "Z") ∷ []
+layout_order : (f : Form) → accessible (points f) (2 ∷ 1 ∷ 0 ∷ []) ≡ called (codes "X") ∷ called (codes "COUNT") ∷ called (codes "Z") ∷ []
 layout_order f = refl
 
-shared_above : (f : Frm) → layout_of (points f) (1 ∷ 0 ∷ []) ≡ record { locals = called (codes "X") ∷ []; shared = (called (codes "COUNT"), record { 0 = 7 }) ∷ [] }
+shared_above : (f : Form) → layout_of (points f) (1 ∷ 0 ∷ []) ≡ record { locals = called (codes "X") ∷ []; shared = (called (codes "COUNT"), record { 0 = 7 }) ∷ [] }
 shared_above f = refl
 
-local_below : (f : Frm) → layout_of (points f) (2 ∷ 1 ∷ 0 ∷ []) ≡ record { locals = called (codes "X") ∷ called (codes "COUNT") ∷ called (codes "Z") ∷ []; shared = [] }
+local_below : (f : Form) → layout_of (points f) (2 ∷ 1 ∷ 0 ∷ []) ≡ record { locals = called (codes "X") ∷ called (codes "COUNT") ∷ called (codes "Z") ∷ []; shared = [] }
 local_below f = refl
 
 -- the most specific specifier has none
-initform_above : (f : Frm) → initform (points f) (2 ∷ 1 ∷ 0 ∷ []) (called (codes "COUNT")) ≡ Some f
+initform_above : (f : Form) → initform (points f) (2 ∷ 1 ∷ 0 ∷ []) (called (codes "COUNT")) ≡ Some f
 initform_above f = refl
 
-all_initargs : (f : Frm) → initargs (points f) (2 ∷ 1 ∷ 0 ∷ []) (called (codes "COUNT")) ≡ called (codes "M") ∷ called (codes "N") ∷ []
+all_initargs : (f : Form) → initargs (points f) (2 ∷ 1 ∷ 0 ∷ []) (called (codes "COUNT")) ≡ called (codes "M") ∷ called (codes "N") ∷ []
 all_initargs f = refl
 
-slots_above : (f : Frm) → effective_slots (points f) (1 ∷ 0 ∷ [])
+slots_above : (f : Form) → effective_slots (points f) (1 ∷ 0 ∷ [])
     ≡ record { name = called (codes "X"); cell = None; initargs = called (codes "X") ∷ []; initform = Some f }
     ∷ record { name = called (codes "COUNT"); cell = Some (record { 0 = 7 }); initargs = called (codes "N") ∷ []; initform = Some f }
     ∷ []
 slots_above f = refl
 
-slots_below : (f : Frm) → effective_slots (points f) (2 ∷ 1 ∷ 0 ∷ [])
+slots_below : (f : Form) → effective_slots (points f) (2 ∷ 1 ∷ 0 ∷ [])
     ≡ record { name = called (codes "X"); cell = None; initargs = called (codes "X") ∷ []; initform = Some f }
     ∷ record { name = called (codes "COUNT"); cell = None; initargs = called (codes "M") ∷ called (codes "N") ∷ []; initform = Some f }
     ∷ record { name = called (codes "Z"); cell = None; initargs = []; initform = None }
@@ -63,7 +63,7 @@ slots_below f = refl
 
 -- ---- a table of classes: STANDARD-OBJECT alone, and then COUNTER with a shared slot COUNT and a local one
 
-abbrev standard : Nam
+abbrev standard : Name
 standard = called (codes "STANDARD-OBJECT")
 
 abbrev slot : List ℕ → Allocation → SlotSpecifier

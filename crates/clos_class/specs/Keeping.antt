@@ -2,8 +2,8 @@
 use Rattle.std.specs.Prelude.{◌≡◌, ℕ, suc, nat_lt, List, [], ◌∷◌, Option, Some, None, false, option_map, slice_get, unwrap_or, if◌then◌else◌}
 use Rattle.std.specs.declared.alloc.Global.{Global}
 use Rattle.std.specs.declared.rc.Rc.{Rc}
-use Rattle.clos_class_core.specs.Classes.{Classes, list_in, listing}
-use Rattle.clos_class_core.specs.Outlook.{Outlook, listing_then}
+use Rattle.clos_hierarchy.specs.Classes.{Classes, list_in, listing}
+use Rattle.clos_hierarchy.specs.Outlook.{Outlook, listing_then}
 use Rattle.clos_precedence.specs.Precedence.{has}
 use Rattle.clos_class.specs.declared.direct.ClassSlots.{ClassSlots}
 use Rattle.clos_class.specs.Slots.{Defaults, DirectSlots, Effective, effective_of}

@@ -2,9 +2,9 @@
 -- specific one stands first in the list.
 use Rattle.std.specs.Prelude.{ℕ, List, [], ◌∷◌, Bool, true, false, not, Option, Some, None, map, option_map, reverse}
 use Rattle.std.specs.List.{filter, filter_map, flat_map}
-use Rattle.lisp_data.specs.Name.{Nam, same_name}
+use Rattle.lisp_data.specs.Name.{Name, same_name}
 use Rattle.lisp_data.specs.declared.ids.CellId.{CellId}
-use Rattle.clos_forms.specs.Form.{Frm}
+use Rattle.clos_forms.specs.Form.{Form}
 use Rattle.clos_syntax.specs.declared.class.DefaultInitarg.{DefaultInitarg}
 use Rattle.clos_class.specs.declared.direct.DirectSlot.{DirectSlot}
 use Rattle.clos_class.specs.declared.direct.SlotAllocation.{SlotAllocation}
@@ -24,29 +24,29 @@ first [] = None
 first (x ∷ xs) = Some x
 
 -- of those that have one name, the first
-abbrev pub first_of_each : {X : Type 0} → (X → Nam) → List X → List X
+abbrev pub first_of_each : {X : Type 0} → (X → Name) → List X → List X
 first_of_each name [] = []
 first_of_each name (x ∷ xs) = x ∷ filter (λ y. not (same_name (name x) (name y))) (first_of_each name xs)
 
 -- names, each where it stands first
-abbrev pub distinct : List Nam → List Nam
+abbrev pub distinct : List Name → List Name
 distinct ns = first_of_each (λ n. n) ns
 
 -- ---- one slot
 
 -- the slots of this name
-abbrev pub called : Nam → List DirectSlot → List DirectSlot
+abbrev pub called : Name → List DirectSlot → List DirectSlot
 called name ss = filter (λ s. same_name name s.name) ss
 
 -- the specifiers of a slot: the direct slots of this name of all classes of the list, the most specific first
-abbrev pub specifiers : DirectSlots → List ℕ → Nam → List DirectSlot
+abbrev pub specifiers : DirectSlots → List ℕ → Name → List DirectSlot
 specifiers of l name = called name (flat_map of l)
 
 -- the allocation is that of the most specific specifier
 abbrev pub first_allocation : List DirectSlot → Option SlotAllocation
 first_allocation ss = option_map (λ s. s.allocation) (first ss)
 
-abbrev pub allocation : DirectSlots → List ℕ → Nam → Option SlotAllocation
+abbrev pub allocation : DirectSlots → List ℕ → Name → Option SlotAllocation
 allocation of l name = first_allocation (specifiers of l name)
 
 abbrev pub cell_in : Option SlotAllocation → Option CellId
@@ -55,14 +55,14 @@ cell_in (Some Local) = None
 cell_in (Some (Shared c)) = Some c
 
 -- the initform is that of the most specific specifier that has one
-abbrev pub first_initform : List DirectSlot → Option Frm
+abbrev pub first_initform : List DirectSlot → Option Form
 first_initform ss = first (filter_map (λ s. s.initform) ss)
 
-abbrev pub initform : DirectSlots → List ℕ → Nam → Option Frm
+abbrev pub initform : DirectSlots → List ℕ → Name → Option Form
 initform of l name = first_initform (specifiers of l name)
 
 -- the initargs are those of all specifiers
-abbrev pub initargs : DirectSlots → List ℕ → Nam → List Nam
+abbrev pub initargs : DirectSlots → List ℕ → Name → List Name
 initargs of l name = distinct (flat_map (λ s. s.initargs) (specifiers of l name))
 
 -- ---- default initargs: those of all classes of the list, for each name that of the most specific class
@@ -72,24 +72,24 @@ default_initargs of l = first_of_each (λ d. d.name) (flat_map of l)
 
 -- ---- layouts
 
-abbrev pub names : List DirectSlot → List Nam
+abbrev pub names : List DirectSlot → List Name
 names ss = map (λ s. s.name) ss
 
 -- the accessible slots in layout order: from the last class of the list to the first, each slot where it stands first
-abbrev pub accessible : DirectSlots → List ℕ → List Nam
+abbrev pub accessible : DirectSlots → List ℕ → List Name
 accessible of l = distinct (names (flat_map of (reverse l)))
 
 -- the local slots, and the shared ones with their cells, both in layout order
 pub record Layout : Type 0 where
-  pub locals : List Nam
-  pub shared : List (Nam × CellId)
+  pub locals : List Name
+  pub shared : List (Name × CellId)
 
 abbrev pub is_local : Option SlotAllocation → Bool
 is_local None = false
 is_local (Some Local) = true
 is_local (Some (Shared c)) = false
 
-abbrev pub shared_in : Nam → Option SlotAllocation → Option (Nam × CellId)
+abbrev pub shared_in : Name → Option SlotAllocation → Option (Name × CellId)
 shared_in name None = None
 shared_in name (Some Local) = None
 shared_in name (Some (Shared c)) = Some (name, c)
@@ -103,7 +103,7 @@ layout_of of l = record {
 -- ---- effective slots (AMOP 5.4): the accessible slots, as the instances of a class have them
 
 -- a shared slot has a cell
-abbrev pub effective_slot : DirectSlots → List ℕ → Nam → EffectiveSlot
+abbrev pub effective_slot : DirectSlots → List ℕ → Name → EffectiveSlot
 effective_slot of l name = record { name = name; cell = cell_in (allocation of l name); initargs = initargs of l name; initform = initform of l name }
 
 -- in layout order

@@ -2,7 +2,7 @@
 use Rattle.std.specs.Prelude.{ℕ, nat_lt, Bool, true, false, not, ◌&&◌, List, [], ◌∷◌, ◌++◌, Option, Some, None, is_some, map, unwrap_or, length, position, replicate, slice_get, slice_set, if◌then◌else◌}
 use Rattle.std.specs.List.{filter, list_any}
 use Rattle.std.specs.Option.{option_or}
-use Rattle.lisp_data.specs.Name.{Nam, same_name}
+use Rattle.lisp_data.specs.Name.{Name, same_name}
 use Rattle.lisp_data.specs.declared.ids.CellId.{CellId}
 use Rattle.clos_forms.specs.Distinct.{are_distinct}
 use Rattle.clos_syntax.specs.Class.{default_names, slot_names}
@@ -10,11 +10,11 @@ use Rattle.clos_syntax.specs.declared.class.ClassDefinition.{ClassDefinition}
 use Rattle.clos_syntax.specs.declared.slot.Allocation.{Allocation}
 use Rattle.clos_syntax.specs.declared.slot.Allocation.TheVariants.{Instance, Class}
 use Rattle.clos_syntax.specs.declared.slot.SlotSpecifier.{SlotSpecifier}
-use Rattle.clos_class_core.specs.Classes.{Classes, list_in, listing, number_of, with_class}
-use Rattle.clos_class_core.specs.Table.{Refusal, or_else, or_standard, program_error, refusal as refusal_by_names, when}
-use Rattle.clos_class_core.specs.Table.{Table as NameTable}
+use Rattle.clos_hierarchy.specs.Classes.{Classes, list_in, listing, number_of, with_class}
+use Rattle.clos_hierarchy.specs.Table.{Refusal, or_else, or_standard, program_error, refusal as refusal_by_names, when}
+use Rattle.clos_hierarchy.specs.Table.{Table as NameTable}
 use Rattle.clos_class.specs.declared.direct.ClassSlots.{ClassSlots}
-use Rattle.clos_class_core.specs.Initial.{initial as predefined_only, predefined}
+use Rattle.clos_hierarchy.specs.Initial.{initial as predefined_only, predefined}
 use Rattle.clos_class.specs.declared.reserve.NewCell.{NewCell}
 use Rattle.clos_class.specs.Slots.{accessible, allocation, cell_in, initform}
 use Rattle.clos_class.specs.SlotsView.{direct_slot, direct_slots, says_nothing}
@@ -55,7 +55,7 @@ list_with t d = list_in (listing (classes_with t d) (number t d))
 -- ---- its slots
 
 -- the cell of a slot that this class itself makes shared
-abbrev pub own_cell : List ClassSlots → ℕ → Nam → Option CellId
+abbrev pub own_cell : List ClassSlots → ℕ → Name → Option CellId
 own_cell rows n name = cell_in (allocation (direct_slots rows) (n ∷ []) name)
 
 abbrev pub cell_at : List CellId → Option ℕ → Option CellId
@@ -66,10 +66,10 @@ abbrev pub no_cell : CellId
 no_cell = record { 0 = 0 }
 
 -- the cell that the class has for a slot, or else the one in its place among the new ones
-abbrev pub cell_for : (Nam → Option CellId) → List Nam → List CellId → Nam → CellId
+abbrev pub cell_for : (Name → Option CellId) → List Name → List CellId → Name → CellId
 cell_for own new cells name = unwrap_or (option_or (own name) (cell_at cells (position (same_name name) new))) no_cell
 
-abbrev pub said : (Nam → CellId) → ClassDefinition → ClassSlots
+abbrev pub said : (Name → CellId) → ClassDefinition → ClassSlots
 said cell d = record { slots = map (λ s. direct_slot s (cell s.name)) d.slots; defaults = d.defaults }
 
 -- with what a class says in its place; a new one comes last
@@ -77,15 +77,15 @@ abbrev pub with_row : List ClassSlots → ℕ → ClassSlots → List ClassSlots
 with_row rows n row = if nat_lt n (length rows) then slice_set rows n row else rows ++ row ∷ []
 
 -- what all classes say where a class says this, its slots in these new cells
-abbrev pub rows_with : List ClassSlots → ℕ → ClassDefinition → List Nam → List CellId → List ClassSlots
+abbrev pub rows_with : List ClassSlots → ℕ → ClassDefinition → List Name → List CellId → List ClassSlots
 rows_with rows n d new cells = with_row rows n (said (cell_for (own_cell rows n) new cells) d)
 
 -- whether a slot of this name is made shared for which the class has no cell
-abbrev pub needs_cell : (Nam → Option CellId) → List SlotSpecifier → Nam → Bool
+abbrev pub needs_cell : (Name → Option CellId) → List SlotSpecifier → Name → Bool
 needs_cell own ss name = list_any (λ s. same_name name s.name && (is_shared s.allocation && not (is_some (own s.name)))) ss
 
 -- the slots that need new cells, in layout order
-abbrev pub new_cells : List ClassSlots → ℕ → List ℕ → ClassDefinition → List Nam
+abbrev pub new_cells : List ClassSlots → ℕ → List ℕ → ClassDefinition → List Name
 new_cells rows n l d = filter (needs_cell (own_cell rows n) d.slots) (accessible (direct_slots (rows_with rows n d [] [])) l)
 
 -- A shared slot keeps its cell. The new cells are handed out in layout order.

@@ -2,7 +2,7 @@
 ghost use Rattle.std.specs.Prelude.{◌≡◌, ◌∷◌, [], IfOk, OnOk};
 ghost use Rattle.std.specs.Option.{option_or};
 ghost use Rattle.std.specs.HashMap.{get};
-ghost use Rattle.lisp_data.specs.Name.{Nam, same_name};
+ghost use Rattle.lisp_data.specs.Name.{Name, same_name};
 ghost use Rattle.clos_precedence.specs.PrecedenceView.{numbers};
 ghost use Rattle.clos_class.specs.Slots.{allocation, called, cell_in, first_allocation};
 ghost use Rattle.clos_class.specs.SlotsView.{slots_in};
@@ -15,7 +15,7 @@ use std::collections::HashMap;
 
 /// Notes the allocation of a slot, unless one is noted of its name.
 fn note(noted: &mut HashMap<Name, SlotAllocation>, slot: &DirectSlot) -> Result<(), AllocError>
-    ensures { OnOk result ((n : Nam) → get same_name noted.new n ≡ option_or (get same_name noted.old n) (first_allocation (called n (slot.now ∷ [])))) }
+    ensures { OnOk result ((n : Name) → get same_name noted.new n ≡ option_or (get same_name noted.old n) (first_allocation (called n (slot.now ∷ [])))) }
 {
     if !noted.contains_key(&slot.name) {
         noted.insert(slot.name.copy()?, slot.allocation)?;
@@ -29,7 +29,7 @@ fn note_all(
     noted: &mut HashMap<Name, SlotAllocation>,
     slots: &[DirectSlot],
 ) -> Result<(), AllocError>
-    ensures { OnOk result ((n : Nam) → get same_name noted.new n ≡ option_or (get same_name noted.old n) (first_allocation (called n slots.now))) }
+    ensures { OnOk result ((n : Name) → get same_name noted.new n ≡ option_or (get same_name noted.old n) (first_allocation (called n slots.now))) }
 {
     let mut left = slots;
     while let Some((slot, others)) = left.split_first() {
@@ -46,7 +46,7 @@ pub fn allocations(
     classes: &Rows<'_>,
     list: &[ClassId],
 ) -> Result<HashMap<Name, SlotAllocation>, AllocError>
-    ensures { IfOk result (λ r. (n : Nam) → get same_name r n ≡ allocation (slots_in classes.now) (numbers list.now) n) }
+    ensures { IfOk result (λ r. (n : Name) → get same_name r n ≡ allocation (slots_in classes.now) (numbers list.now) n) }
 {
     let mut noted = HashMap::new(alloc);
     let mut left = list;

@@ -2,7 +2,7 @@
 ghost use Rattle.std.specs.Prelude.{◌≡◌, ◌≤◌, ◌&&◌, [], not, is_some, length, map, IfOk, OnOk};
 ghost use Rattle.std.specs.HashMap.{get};
 ghost use Rattle.std.specs.List.{filter, list_any};
-ghost use Rattle.lisp_data.specs.Name.{Nam, same_name};
+ghost use Rattle.lisp_data.specs.Name.{Name, same_name};
 ghost use Rattle.clos_precedence.specs.PrecedenceView.{numbers};
 ghost use Rattle.clos_class.specs.Building.{with_names};
 ghost use Rattle.clos_class.specs.Slots.{accessible, cell_in, names};
@@ -40,7 +40,7 @@ fn lacking(
     own: &HashMap<Name, SlotAllocation>,
     slots: &[SlotSpecifier],
 ) -> Result<NameSet, AllocError>
-    ensures { IfOk result (λ r. (n : Nam) → list_any (same_name n) r ≡ needs_cell (λ m. cell_in (get same_name own.now m)) slots.now n) }
+    ensures { IfOk result (λ r. (n : Name) → list_any (same_name n) r ≡ needs_cell (λ m. cell_in (get same_name own.now m)) slots.now n) }
 {
     let mut lacking = NameSet::new(alloc);
     let mut left = slots;
@@ -95,7 +95,7 @@ impl Cells {
         definition: &ClassDefinition,
     ) -> Result<Cells, AllocError>
         requires { class.0 ≤ length rows.now }
-        ensures own { IfOk result (λ r. (m : Nam) → cell_in (get same_name r.own m) ≡ own_cell rows.now class.0 m) }
+        ensures own { IfOk result (λ r. (m : Name) → cell_in (get same_name r.own m) ≡ own_cell rows.now class.0 m) }
         ensures new { IfOk result (λ r. r.new ≡ new_cells rows.now class.0 (numbers list.now) definition.now) }
     {
         let own = allocations(alloc, &Rows::kept(rows), &[class])?;

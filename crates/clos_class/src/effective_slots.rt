@@ -1,7 +1,7 @@
 //! Slots as the instances of a class have them (AMOP 5.4, effective slot definitions).
 ghost use Rattle.std.specs.Prelude.{◌≡◌, IfOk, map};
 ghost use Rattle.std.specs.HashMap.{get};
-ghost use Rattle.lisp_data.specs.Name.{Nam, same_name};
+ghost use Rattle.lisp_data.specs.Name.{Name, same_name};
 ghost use Rattle.clos_precedence.specs.PrecedenceView.{numbers};
 ghost use Rattle.clos_class.specs.Building.{or_no_names, slot_by};
 ghost use Rattle.clos_class.specs.Slots.{allocation, initargs, initform};
@@ -44,9 +44,9 @@ impl Specified {
         classes: &Rows<'_>,
         list: &[ClassId],
     ) -> Result<Specified, AllocError>
-        ensures allocations { IfOk result (λ r. (n : Nam) → get same_name r.allocations n ≡ allocation (slots_in classes.now) (numbers list.now) n) }
-        ensures initargs { IfOk result (λ r. (n : Nam) → or_no_names (get same_name r.initargs n) ≡ initargs (slots_in classes.now) (numbers list.now) n) }
-        ensures initforms { IfOk result (λ r. (n : Nam) → get same_name r.initforms n ≡ initform (slots_in classes.now) (numbers list.now) n) }
+        ensures allocations { IfOk result (λ r. (n : Name) → get same_name r.allocations n ≡ allocation (slots_in classes.now) (numbers list.now) n) }
+        ensures initargs { IfOk result (λ r. (n : Name) → or_no_names (get same_name r.initargs n) ≡ initargs (slots_in classes.now) (numbers list.now) n) }
+        ensures initforms { IfOk result (λ r. (n : Name) → get same_name r.initforms n ≡ initform (slots_in classes.now) (numbers list.now) n) }
     {
         let allocations = allocations(alloc, classes, list)?;
         let initargs = all_initargs(alloc, classes, list)?;

@@ -2,7 +2,7 @@
 ghost use Rattle.std.specs.Prelude.{◌≡◌, ◌∷◌, [], IfOk, OnOk};
 ghost use Rattle.std.specs.HashMap.{get};
 ghost use Rattle.std.specs.Option.{option_or};
-ghost use Rattle.lisp_data.specs.Name.{Nam, same_name};
+ghost use Rattle.lisp_data.specs.Name.{Name, same_name};
 ghost use Rattle.clos_precedence.specs.PrecedenceView.{numbers};
 ghost use Rattle.clos_class.specs.Slots.{called, first_initform, initform};
 ghost use Rattle.clos_class.specs.SlotsView.{slots_in};
@@ -16,7 +16,7 @@ use std::collections::HashMap;
 
 /// Notes the initform of a slot that has one, unless one is noted of its name.
 fn note(noted: &mut HashMap<Name, Form>, slot: &DirectSlot) -> Result<(), AllocError>
-    ensures { OnOk result ((n : Nam) → get same_name noted.new n ≡ option_or (get same_name noted.old n) (first_initform (called n (slot.now ∷ [])))) }
+    ensures { OnOk result ((n : Name) → get same_name noted.new n ≡ option_or (get same_name noted.old n) (first_initform (called n (slot.now ∷ [])))) }
 {
     if let Some(form) = &slot.initform {
         if !noted.contains_key(&slot.name) {
@@ -29,7 +29,7 @@ fn note(noted: &mut HashMap<Name, Form>, slot: &DirectSlot) -> Result<(), AllocE
 /// Notes the initforms of slots, the first of each name.
 #[tactic(auto, using(crate::proofs::FirstInitform::more_noted, crate::proofs::FirstInitform::all_noted))]
 fn note_all(noted: &mut HashMap<Name, Form>, slots: &[DirectSlot]) -> Result<(), AllocError>
-    ensures { OnOk result ((n : Nam) → get same_name noted.new n ≡ option_or (get same_name noted.old n) (first_initform (called n slots.now))) }
+    ensures { OnOk result ((n : Name) → get same_name noted.new n ≡ option_or (get same_name noted.old n) (first_initform (called n slots.now))) }
 {
     let mut left = slots;
     while let Some((slot, others)) = left.split_first() {
@@ -47,7 +47,7 @@ pub fn initforms(
     classes: &Rows<'_>,
     list: &[ClassId],
 ) -> Result<HashMap<Name, Form>, AllocError>
-    ensures { IfOk result (λ r. (n : Nam) → get same_name r n ≡ initform (slots_in classes.now) (numbers list.now) n) }
+    ensures { IfOk result (λ r. (n : Name) → get same_name r n ≡ initform (slots_in classes.now) (numbers list.now) n) }
 {
     let mut noted = HashMap::new(alloc);
     let mut left = list;

@@ -8,7 +8,7 @@ ghost use Rattle.clos_class.specs.Table.{with_row};
 use crate::direct::ClassSlots;
 use crate::effective::{Effective, find_effective};
 use crate::rows::Rows;
-use clos_class_core::{Classes, Preview};
+use clos_hierarchy::{Classes, Preview};
 use clos_precedence::contains;
 use lisp_data::ClassId;
 use std::alloc::{AllocError, Global};

@@ -19,7 +19,7 @@ mod rows;
 mod slot_initargs;
 mod table;
 
-pub use clos_class_core::{Changed, ClassFault};
+pub use clos_hierarchy::{Changed, ClassFault};
 pub use direct::{ClassSlots, DirectSlot, SlotAllocation};
 pub use effective::Effective;
 pub use effective_slots::EffectiveSlot;

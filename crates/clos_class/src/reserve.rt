@@ -1,11 +1,11 @@
 //! What a definition of a class needs, and what it makes of the classes, before it takes effect.
 ghost use Rattle.std.specs.Prelude.{◌≡◌, ◌≤◌, ℕ, None, IfOk, IfErr, OnOk, length, map};
 ghost use Rattle.lisp_data.specs.declared.ids.CellId.{CellId};
-ghost use Rattle.clos_class_core.specs.Classes.{listing};
-ghost use Rattle.clos_class_core.specs.Outlook.{listing_then};
+ghost use Rattle.clos_hierarchy.specs.Classes.{listing};
+ghost use Rattle.clos_hierarchy.specs.Outlook.{listing_then};
 ghost use Rattle.clos_precedence.specs.PrecedenceView.{numbers};
-ghost use Rattle.clos_class_core.specs.Table.{changed};
-ghost use Rattle.clos_class_core.specs.TableView.{Refuses};
+ghost use Rattle.clos_hierarchy.specs.Table.{changed};
+ghost use Rattle.clos_hierarchy.specs.TableView.{Refuses};
 ghost use Rattle.clos_class.specs.Keeping.{TellsAll, lists_of};
 ghost use Rattle.clos_class.specs.Slots.{initform};
 ghost use Rattle.clos_class.specs.SlotsView.{slots_in};
@@ -19,8 +19,8 @@ use crate::initforms::{copy_initform, initforms};
 use crate::keep::keep_then;
 use crate::names::{NameSet, copy_names};
 use crate::rows::Rows;
-use clos_class_core::{ClassFault, Classes, Preview};
 use clos_forms::Form;
+use clos_hierarchy::{ClassFault, Classes, Preview};
 use clos_syntax::{ClassDefinition, Sequence};
 use lisp_data::{CellId, ClassId, Name};
 use std::alloc::{AllocError, Global};

@@ -2,7 +2,7 @@
 ghost use Rattle.std.specs.Prelude.{◌≡◌, ◌∷◌, [], IfOk, OnOk};
 ghost use Rattle.std.specs.HashMap.{get};
 ghost use Rattle.std.specs.List.{flat_map};
-ghost use Rattle.lisp_data.specs.Name.{Nam, same_name};
+ghost use Rattle.lisp_data.specs.Name.{Name, same_name};
 ghost use Rattle.clos_precedence.specs.PrecedenceView.{numbers};
 ghost use Rattle.clos_class.specs.Slots.{called, initargs};
 ghost use Rattle.clos_class.specs.SlotsView.{slots_in};
@@ -22,7 +22,7 @@ fn add(
     found: &mut HashMap<Name, Sequence<Name>>,
     slot: &DirectSlot,
 ) -> Result<(), AllocError>
-    ensures { OnOk result ((n : Nam) → or_no_names (get same_name found.new n) ≡ with_names (or_no_names (get same_name found.old n)) (flat_map (λ s. s.initargs) (called n (slot.now ∷ [])))) }
+    ensures { OnOk result ((n : Name) → or_no_names (get same_name found.new n) ≡ with_names (or_no_names (get same_name found.old n)) (flat_map (λ s. s.initargs) (called n (slot.now ∷ [])))) }
 {
     if slot.initargs.len() == 0 {
         return Ok(());
@@ -39,7 +39,7 @@ fn add_all(
     found: &mut HashMap<Name, Sequence<Name>>,
     slots: &[DirectSlot],
 ) -> Result<(), AllocError>
-    ensures { OnOk result ((n : Nam) → or_no_names (get same_name found.new n) ≡ with_names (or_no_names (get same_name found.old n)) (flat_map (λ s. s.initargs) (called n slots.now))) }
+    ensures { OnOk result ((n : Name) → or_no_names (get same_name found.new n) ≡ with_names (or_no_names (get same_name found.old n)) (flat_map (λ s. s.initargs) (called n slots.now))) }
 {
     let mut left = slots;
     while let Some((slot, others)) = left.split_first() {
@@ -56,7 +56,7 @@ pub fn all_initargs(
     classes: &Rows<'_>,
     list: &[ClassId],
 ) -> Result<HashMap<Name, Sequence<Name>>, AllocError>
-    ensures { IfOk result (λ r. (n : Nam) → or_no_names (get same_name r n) ≡ initargs (slots_in classes.now) (numbers list.now) n) }
+    ensures { IfOk result (λ r. (n : Name) → or_no_names (get same_name r n) ≡ initargs (slots_in classes.now) (numbers list.now) n) }
 {
     let mut found = HashMap::new(alloc);
     let mut left = list;

@@ -2,13 +2,13 @@
 ghost use Rattle.std.specs.Prelude.{◌≡◌, ◌↔◌, ◌<◌, ℕ, true, None, IfOk, IfErr, IfSome, IsNone, IsTrue, OnOk, OnErr, length, option_map, option_copied, slice_get, replicate, vec_len, vec_capacity};
 ghost use Rattle.std.specs.List.{find, list_any};
 ghost use Rattle.lisp_data.specs.Name.{same_name};
-ghost use Rattle.clos_class_core.specs.Classes.{named, listing, list_in};
-ghost use Rattle.clos_class_core.specs.Initial.{is_standard, class_of_class};
+ghost use Rattle.clos_hierarchy.specs.Classes.{named, listing, list_in};
+ghost use Rattle.clos_hierarchy.specs.Initial.{is_standard, class_of_class};
 ghost use Rattle.clos_precedence.specs.Precedence.{has};
 ghost use Rattle.clos_precedence.specs.PrecedenceView.{numbers};
-ghost use Rattle.clos_class_core.specs.Table.{changed, list_if};
-ghost use Rattle.clos_class_core.specs.TableView.{Refuses, IsListOf};
-ghost use Rattle.clos_class_core.specs.Ways.{IsSuperclass, IsSelfOrAbove, IsComplete, IsIncomplete};
+ghost use Rattle.clos_hierarchy.specs.Table.{changed, list_if};
+ghost use Rattle.clos_hierarchy.specs.TableView.{Refuses, IsListOf};
+ghost use Rattle.clos_hierarchy.specs.Ways.{IsSuperclass, IsSelfOrAbove, IsComplete, IsIncomplete};
 ghost use Rattle.clos_class.specs.Slots.{default_initargs, effective_of, effective_slots, initargs, initform, layout_of};
 ghost use Rattle.clos_class.specs.SlotsView.{defaults, direct_slots, says_nothing};
 ghost use Rattle.clos_class.specs.Table.{cells_to_make, classes_with, initial, is_unambiguous, list_with, number, refusal, with_definition, with_row};
@@ -21,8 +21,8 @@ use crate::keep::{keep_first, kept_at};
 use crate::layout::Layout;
 use crate::names::{copy_names, is_among};
 use crate::reserve::{Reserved, cells_to_make, check, prepare};
-use clos_class_core::{Changed, ClassFault};
 use clos_forms::Form;
+use clos_hierarchy::{Changed, ClassFault};
 use clos_syntax::{ClassDefinition, DefaultInitarg};
 use lisp_data::{CellId, ClassId, Name};
 use std::alloc::{AllocError, Global};
@@ -33,7 +33,7 @@ use std::rc::Rc;
 /// precedence list is kept.
 #[derive(Drop)]
 pub struct Classes {
-    table: clos_class_core::Classes,
+    table: clos_hierarchy::Classes,
     rows: Vec<ClassSlots>,
     kept: Vec<Option<Rc<Effective>>>,
 }
@@ -55,7 +55,7 @@ impl Model for Classes {
 }
 
 /// Nothing, of each class.
-fn no_rows(alloc: Global, table: &clos_class_core::Classes) -> Result<Vec<ClassSlots>, AllocError>
+fn no_rows(alloc: Global, table: &clos_hierarchy::Classes) -> Result<Vec<ClassSlots>, AllocError>
     ensures { IfOk result (λ r. r.items ≡ replicate (length table.now.classes.names) says_nothing) }
 {
     let mut rows = Vec::new(alloc);
@@ -81,7 +81,7 @@ fn put(rows: &mut Vec<ClassSlots>, class: ClassId, said: ClassSlots)
 
 fn define_name(
     alloc: Global,
-    table: &mut clos_class_core::Classes,
+    table: &mut clos_hierarchy::Classes,
     definition: &ClassDefinition,
 ) -> Result<Changed, ClassFault>
     ensures ok { OnOk result (table.new ≡ record table.old { classes = classes_with table.old definition.now }) }
@@ -104,7 +104,7 @@ impl Classes {
     pub fn new(alloc: Global, limit: u64) -> Result<Classes, AllocError>
         ensures { IfOk result (λ r. r ≡ initial limit) }
     {
-        let table = clos_class_core::Classes::new(alloc, limit)?;
+        let table = clos_hierarchy::Classes::new(alloc, limit)?;
         let rows = no_rows(alloc, &table)?;
         let kept = keep_first(alloc, &table, &rows)?;
         Ok(Classes { table, rows, kept })

@@ -2,7 +2,7 @@
 use Rattle.std.proofs.Common.{◌≡◌, ℕ, List, [], ◌∷◌, Bool, true, false, Option, Some, None, refl, ap, sym, ◌∙◌}
 use Rattle.std.specs.Prelude.{codes, filter, if◌then◌else◌, ◌||◌}
 use Rattle.std.specs.List.{list_any}
-use Rattle.clos_generic_core.specs.declared.method.Method.{Method}
+use Rattle.clos_method.specs.declared.method.Method.{Method}
 use Rattle.clos_comb.specs.Outcome.{Combined, group_empty}
 use Rattle.clos_comb.specs.Role.{group, has_primary, has_role, role_of, without_role}
 use Rattle.clos_comb.specs.Standard.{combined, unless_invalid, with_primary}

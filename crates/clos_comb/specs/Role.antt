@@ -2,11 +2,11 @@
 use Rattle.std.specs.Prelude.{ℕ, ◌&&◌, codes, Bool, true, false, List, [], ◌∷◌, Option, Some, None, if◌then◌else◌, filter, slice_get}
 use Rattle.std.specs.List.{find, list_any}
 use Rattle.std.specs.Str.{bytes_eq}
-use Rattle.lisp_data.specs.Name.{Nam}
+use Rattle.lisp_data.specs.Name.{Name}
 use Rattle.lisp_data.specs.Value.{Val, symbol}
 use Rattle.clos_comb.specs.declared.role.Role.{Role}
 use Rattle.clos_comb.specs.declared.role.Role.TheVariants.{Around, Before, Primary, After}
-use Rattle.clos_generic_core.specs.declared.method.Method.{Method}
+use Rattle.clos_method.specs.declared.method.Method.{Method}
 
 -- the role that a keyword gives
 abbrev pub role_called : List ℕ → Option Role
@@ -14,7 +14,7 @@ role_called text =
     if bytes_eq text (codes "AROUND") then Some Around
     else if bytes_eq text (codes "BEFORE") then Some Before else if bytes_eq text (codes "AFTER") then Some After else None
 
-abbrev pub role_of_name : Nam → Option Role
+abbrev pub role_of_name : Name → Option Role
 role_of_name name = if name.keyword then role_called name.text else None
 
 abbrev pub role_named : Val → Option Role

@@ -5,7 +5,7 @@ ghost use Rattle.std.specs.List.{list_any};
 ghost use Rattle.clos_comb.specs.Role.{group, has_role, is_primary, is_role, role_called, role_in, role_named, role_of, role_of_name, without_role};
 ghost use Rattle.clos_comb.specs.Numbers.{numbers};
 
-use clos_generic_core::{Method, Qualifiers, method_numbered};
+use clos_method::{Method, Qualifiers, method_numbered};
 use lisp_data::{MethodId, Name, Value};
 use std::alloc::{AllocError, Global};
 

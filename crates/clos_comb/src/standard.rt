@@ -11,7 +11,7 @@ ghost use Rattle.clos_comb.specs.Standard.{alone, around_form, called_before, co
 use crate::outcome::Outcome;
 use crate::role::{Role, group, has_primary, without_role};
 use clos_forms::{CalledMethod, Form, Forms, NextMethods, Operator};
-use clos_generic_core::Method;
+use clos_method::Method;
 use lisp_data::{MethodId, Name};
 use std::alloc::{AllocError, Global};
 

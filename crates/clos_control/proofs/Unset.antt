@@ -2,7 +2,7 @@
 use Rattle.std.proofs.Common.{◌≡◌, ℕ, List, [], ◌∷◌, Option, Some, None, Bool, true, false, Err, refl, ap, sym, ◌∙◌}
 use Rattle.std.specs.Prelude.{if◌then◌else◌}
 use Rattle.lisp_data.specs.Value as value
-use Rattle.clos_forms.specs.Form.{Frms}
+use Rattle.clos_forms.specs.Form.{Forms}
 use Rattle.clos_forms.specs.Operator.{Bound}
 use Rattle.clos_machine.specs.clos_world.Globals.{is_global}
 use Rattle.clos_machine.specs.clos_world.World.{State, held, Local, bound_as, unbound}
@@ -20,7 +20,7 @@ use Rattle.clos_machine.proofs.Turns.{stopped_through}
 
 -- ---- let*
 
-module _ (ls : List Level) (c : Context) (ev : Eval) (env : Context) (n : ℕ) (fs : Frms) (w : State) (t : ℕ) where
+module _ (ls : List Level) (c : Context) (ev : Eval) (env : Context) (n : ℕ) (fs : Forms) (w : State) (t : ℕ) where
   -- how the run goes on from there
   abbrev pub skipped : Option (List Local × List Bound) → Out
   skipped None = stopped Unsupported [] (unbound w) t
@@ -52,7 +52,7 @@ module _ (ls : List Level) (c : Context) (ev : Eval) (env : Context) (n : ℕ) (
           ∙ r
           ∙ ap (λ x. skipped (left false x)) d ∙ ap (λ x. skipped (left x (is_global w.globals b.name))) e
 
-pub not_skipped : (m : Machine) (ev : Eval) (env : Context) (n : ℕ) (fs : Frms) (bs : List Bound) (w : State) (run : Run) (stop : Stop) (xs : List Local) (ys : List Bound) (p : Machine)
+pub not_skipped : (m : Machine) (ev : Eval) (env : Context) (n : ℕ) (fs : Forms) (bs : List Bound) (w : State) (run : Run) (stop : Stop) (xs : List Local) (ys : List Bound) (p : Machine)
     → ((t : ℕ) → in_order ev env n bs fs (at m w) t ≡ run (at m w) t) → Skips (unset w.globals bs m.locals) (Err stop) xs ys → Leads (inside m run) w (Err stop) p
 not_skipped m ev env n fs bs w run Storage xs ys p h e = tt
 not_skipped m ev env n fs bs w run (Refused d) xs ys p h e = λ t.
@@ -61,7 +61,7 @@ not_skipped m ev env n fs bs w run (Refused d) xs ys p h e = λ t.
 
 -- ---- let
 
-module _ (ev : Eval) (env : Context) (n : ℕ) (fs : Frms) (w : State) (t : ℕ) where
+module _ (ev : Eval) (env : Context) (n : ℕ) (fs : Forms) (w : State) (t : ℕ) where
   abbrev pub put_aside : List Local × List Bound → Out
   put_aside p = aside ev env n p.1 fs p.0 w t
 

@@ -8,7 +8,7 @@ use Rattle.clos_generic.specs.Changes.{released, reserved}
 use Rattle.clos_generic.specs.Table.{Table, after_first, is_first, named, same_function, with_definition, with_method, without_method}
 use Rattle.clos_generic.specs.declared.changes.Definition.{Definition}
 use Rattle.clos_generic.specs.declared.changes.Removal.{Removal}
-use Rattle.clos_generic_core.specs.declared.method.Method.{Method}
+use Rattle.clos_method.specs.declared.method.Method.{Method}
 use Rattle.clos_definition.specs.Effect.{IsReserved, addition_of, changed, changes_of, with_definitions, with_methods, without_all}
 use Rattle.clos_definition.specs.declared.effect.Effect.{Effect}
 

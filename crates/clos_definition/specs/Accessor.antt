@@ -1,8 +1,8 @@
 -- The accessors of the slots of a class: methods that read and write them (HyperSpec 7.5.2).
 use Rattle.std.specs.Prelude.{ℕ, ◌+◌, codes, Bool, false, not, ◌||◌, is_some, List, [], ◌∷◌, ◌++◌, Option, Some, None, length, map, position, unwrap_or, if◌then◌else◌}
-use Rattle.lisp_data.specs.Name.{Nam}
+use Rattle.lisp_data.specs.Name.{Name}
 use Rattle.lisp_data.specs.Print.{Specializer, on_class}
-use Rattle.clos_class_core.specs.Initial.{number as predefined_number}
+use Rattle.clos_hierarchy.specs.Initial.{number as predefined_number}
 use Rattle.clos_forms.specs.declared.operator.FunctionName.{FunctionName}
 use Rattle.clos_forms.specs.declared.operator.FunctionName.TheVariants.{Symbol}
 use Rattle.clos_syntax.specs.declared.slot.Accessor.{Accessor}
@@ -12,17 +12,17 @@ use Rattle.clos_generic.specs.Changes.{addition_fits}
 use Rattle.clos_generic.specs.Initial.{standard_options}
 use Rattle.clos_generic.specs.Table.{Table, named, same_function}
 use Rattle.clos_generic.specs.declared.changes.Definition.{Definition}
-use Rattle.clos_generic_core.specs.declared.method.Method.{Method}
-use Rattle.clos_generic_core.specs.declared.method.MethodBody.{MethodBody}
-use Rattle.clos_generic_core.specs.declared.method.MethodBody.TheVariants as body
-use Rattle.clos_generic_core.specs.declared.shape.Shape.{Shape}
+use Rattle.clos_method.specs.declared.method.Method.{Method}
+use Rattle.clos_method.specs.declared.method.MethodBody.{MethodBody}
+use Rattle.clos_method.specs.declared.method.MethodBody.TheVariants as body
+use Rattle.clos_method.specs.declared.shape.Shape.{Shape}
 use Rattle.clos_world.specs.World.{State}
 use Rattle.clos_world.specs.declared.condition.Condition.{Condition}
 use Rattle.clos_definition.specs.Effect.{addition_of}
 use Rattle.clos_definition.specs.Refusal.{not_congruent, or_else, taken_refusal, when}
 use Rattle.clos_definition.specs.declared.accessor.SlotAccessor.{SlotAccessor}
 
-abbrev pub of_slot : Nam → Accessor → SlotAccessor
+abbrev pub of_slot : Name → Accessor → SlotAccessor
 of_slot name a = record { slot = name; accessor = a }
 
 -- those of all slots, in order
@@ -52,7 +52,7 @@ abbrev pub accessor_specializers : ℕ → Accessor → List Specializer
 accessor_specializers c (Reader name) = on_class c ∷ []
 accessor_specializers c (Writer name) = on_class (predefined_number (codes "T")) ∷ on_class c ∷ []
 
-abbrev pub accessor_body : Nam → Accessor → MethodBody
+abbrev pub accessor_body : Name → Accessor → MethodBody
 accessor_body slot (Reader name) = body.Reader slot
 accessor_body slot (Writer name) = body.Writer slot
 

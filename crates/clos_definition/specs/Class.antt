@@ -1,18 +1,18 @@
 -- Classes that are defined (HyperSpec 7.7 defclass).
 use Rattle.std.specs.Prelude.{◌≡◌, ℕ, not, List, [], ◌∷◌, Option, Some, None, length, map, option_map}
-use Rattle.lisp_data.specs.Name.{Nam}
+use Rattle.lisp_data.specs.Name.{Name}
 use Rattle.lisp_data.specs.Value.{Val}
 use Rattle.clos_class.specs.Table.{cells_to_make, list_with, number, refusal, with_definition}
 use Rattle.clos_class.specs.declared.reserve.NewCell.{NewCell}
-use Rattle.clos_class_core.specs.Table.{Refusal, program_error, table_limit, invalid_superclass, superclass_cycle, incomplete_class, inconsistent_precedence}
-use Rattle.clos_forms.specs.Form.{Frm}
+use Rattle.clos_hierarchy.specs.Table.{Refusal, program_error, table_limit, invalid_superclass, superclass_cycle, incomplete_class, inconsistent_precedence}
+use Rattle.clos_forms.specs.Form.{Form}
 use Rattle.clos_forms.specs.Quotation.{name_value}
 use Rattle.clos_forms.specs.declared.operator.FunctionName.TheVariants.{Symbol}
 use Rattle.clos_store.specs.Store.{cells_from, has_room_for, with_cells}
 use Rattle.clos_syntax.specs.declared.class.ClassDefinition.{ClassDefinition}
 use Rattle.clos_generic.specs.Changes.{Changes}
 use Rattle.clos_generic.specs.declared.changes.Definition.{Definition}
-use Rattle.clos_generic_core.specs.declared.method.Method.{Method}
+use Rattle.clos_method.specs.declared.method.Method.{Method}
 use Rattle.clos_world.specs.World.{State}
 use Rattle.clos_world.specs.declared.condition.Condition.{Condition}
 use Rattle.clos_world.specs.declared.condition.ConditionKind.TheVariants.{ProgramError, InvalidSuperclass, InconsistentPrecedence, SuperclassCycle, IncompleteClass, TableLimit}
@@ -21,7 +21,7 @@ use Rattle.clos_definition.specs.Effect.{changed, changes_of}
 use Rattle.clos_definition.specs.Refusal.{or_else, table_full, table_refusal, when}
 
 -- the condition of a definition of the class of this name that the table of classes refuses
-abbrev pub condition_for : Nam → Refusal → Condition
+abbrev pub condition_for : Name → Refusal → Condition
 condition_for name program_error = record { kind = ProgramError; items = [] }
 condition_for name table_limit = record { kind = TableLimit; items = [] }
 condition_for name (invalid_superclass super) = record { kind = InvalidSuperclass; items = name_value name ∷ name_value super ∷ [] }
@@ -39,7 +39,7 @@ abbrev pub cells_needed : ClassDefinition → State → List NewCell
 cells_needed d w = cells_to_make w.classes.slots (class_number d w) (list_with w.classes.table d) d
 
 -- the forms of their first values
-abbrev pub initforms : List NewCell → List (Option Frm)
+abbrev pub initforms : List NewCell → List (Option Form)
 initforms cells = map (λ c. c.initform) cells
 
 -- ---- its accessors

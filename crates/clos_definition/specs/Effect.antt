@@ -7,7 +7,7 @@ use Rattle.clos_generic.specs.Table.{Table, with_definition, with_method, withou
 use Rattle.clos_generic.specs.declared.changes.Addition.{Addition}
 use Rattle.clos_generic.specs.declared.changes.Definition.{Definition}
 use Rattle.clos_generic.specs.declared.changes.Removal.{Removal}
-use Rattle.clos_generic_core.specs.declared.method.Method.{Method}
+use Rattle.clos_method.specs.declared.method.Method.{Method}
 use Rattle.clos_world.specs.World.{State}
 use Rattle.clos_definition.specs.declared.effect.Effect as code
 

@@ -2,10 +2,10 @@
 use Rattle.std.specs.Prelude.{ℕ, Bool, true, false, not, List, [], ◌∷◌, ◌++◌, Option, Some, None, drop, length, map, position, slice_get, unwrap_or}
 use Rattle.std.specs.List.{filter}
 use Rattle.lisp_data.specs.Datum.{Dats, nil, cons}
-use Rattle.lisp_data.specs.Name.{Nam, same_name}
+use Rattle.lisp_data.specs.Name.{Name, same_name}
 use Rattle.lisp_data.specs.Value.{Val}
 use Rattle.clos_class.specs.Table as classes
-use Rattle.clos_forms.specs.Form.{Frm}
+use Rattle.clos_forms.specs.Form.{Form}
 use Rattle.clos_syntax.specs.declared.generic.CombinationUse.{CombinationUse}
 use Rattle.clos_syntax.specs.declared.generic.GenericDefinition.{GenericDefinition}
 use Rattle.clos_syntax.specs.declared.method.MethodDefinition.{MethodDefinition}
@@ -15,8 +15,8 @@ use Rattle.clos_generic.specs.Table.{Table, methods_of, named, number}
 use Rattle.clos_generic.specs.declared.changes.Definition.{Definition}
 use Rattle.clos_generic.specs.declared.changes.Removal.{Removal}
 use Rattle.clos_generic.specs.declared.options.Options.{Options}
-use Rattle.clos_generic_core.specs.Shape.{shape_of}
-use Rattle.clos_generic_core.specs.declared.method.Method.{Method}
+use Rattle.clos_method.specs.Shape.{shape_of}
+use Rattle.clos_method.specs.declared.method.Method.{Method}
 use Rattle.clos_world.specs.World.{State}
 use Rattle.clos_world.specs.declared.condition.Condition.{Condition}
 use Rattle.clos_definition.specs.Effect.{changed, changes_of}
@@ -26,11 +26,11 @@ use Rattle.clos_definition.specs.Refusal.{or_else, program_error, table_refusal,
 -- ---- its options: one that is not written is as if the function were new
 
 -- the place of a required parameter
-abbrev pub place_in : List Nam → Nam → ℕ
+abbrev pub place_in : List Name → Name → ℕ
 place_in required name = unwrap_or (position (same_name name) required) (length required)
 
 -- the argument precedence order (7.6.6.1.2)
-abbrev pub precedence_of : List Nam → Option (List Nam) → List ℕ
+abbrev pub precedence_of : List Name → Option (List Name) → List ℕ
 precedence_of required None = left_to_right (length required)
 precedence_of required (Some names) = map (place_in required) names
 
@@ -81,7 +81,7 @@ methods_refusal [] w = None
 methods_refusal (m ∷ ms) w = or_else (specializers_refusal m.specializers w) (methods_refusal ms w)
 
 -- the forms of all their specializers
-abbrev pub eql_forms : List MethodDefinition → List (Option Frm)
+abbrev pub eql_forms : List MethodDefinition → List (Option Form)
 eql_forms [] = []
 eql_forms (m ∷ ms) = map eql_form m.specializers ++ eql_forms ms
 

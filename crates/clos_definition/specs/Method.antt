@@ -5,7 +5,7 @@ use Rattle.lisp_data.specs.Datum as datum
 use Rattle.lisp_data.specs.Print.{Specializer, on_class, on_eql}
 use Rattle.lisp_data.specs.Value.{Val, list, nil}
 use Rattle.clos_class.specs.Table as classes
-use Rattle.clos_forms.specs.Form.{Frm}
+use Rattle.clos_forms.specs.Form.{Form}
 use Rattle.clos_forms.specs.Quotation.{quotation}
 use Rattle.clos_forms.specs.declared.operator.FunctionName.{FunctionName}
 use Rattle.clos_syntax.specs.declared.method.MethodDefinition.{MethodDefinition}
@@ -16,10 +16,10 @@ use Rattle.clos_generic.specs.Initial.{standard_options}
 use Rattle.clos_generic.specs.Table.{Table, named as function_named, number}
 use Rattle.clos_generic.specs.declared.changes.Addition.{Addition}
 use Rattle.clos_generic.specs.declared.changes.Definition.{Definition}
-use Rattle.clos_generic_core.specs.Shape.{made_by, shape_of}
-use Rattle.clos_generic_core.specs.declared.method.Method.{Method}
-use Rattle.clos_generic_core.specs.declared.method.MethodBody.TheVariants.{Forms}
-use Rattle.clos_generic_core.specs.declared.shape.Shape.{Shape}
+use Rattle.clos_method.specs.Shape.{made_by, shape_of}
+use Rattle.clos_method.specs.declared.method.Method.{Method}
+use Rattle.clos_method.specs.declared.method.MethodBody.TheVariants.{Forms}
+use Rattle.clos_method.specs.declared.shape.Shape.{Shape}
 use Rattle.clos_world.specs.Class.{named}
 use Rattle.clos_world.specs.World.{State}
 use Rattle.clos_world.specs.declared.condition.Condition.{Condition}
@@ -44,7 +44,7 @@ specializers_refusal [] w = None
 specializers_refusal (s ∷ ss) w = or_else (specializer_refusal w s) (specializers_refusal ss w)
 
 -- the form that is evaluated for it
-abbrev pub eql_form : ParameterSpecializer → Option Frm
+abbrev pub eql_form : ParameterSpecializer → Option Form
 eql_form (Class name) = None
 eql_form (Eql f) = Some f
 

@@ -1,6 +1,6 @@
 -- Why a definition is refused (HyperSpec 7.7).
 use Rattle.std.specs.Prelude.{◌≡◌, Bool, true, false, List, [], ◌∷◌, Option, Some, None, Result, Ok, Err, is_some, option_map}
-use Rattle.lisp_data.specs.Name.{Nam}
+use Rattle.lisp_data.specs.Name.{Name}
 use Rattle.clos_forms.specs.Quotation.{name_value}
 use Rattle.clos_forms.specs.declared.operator.FunctionName.{FunctionName}
 use Rattle.clos_forms.specs.declared.operator.FunctionName.TheVariants.{Symbol, Setf}
@@ -23,7 +23,7 @@ table_full = record { kind = TableLimit; items = [] }
 abbrev pub not_supported : Condition
 not_supported = record { kind = Unsupported; items = [] }
 
-abbrev pub undefined_class : Nam → Condition
+abbrev pub undefined_class : Name → Condition
 undefined_class name = record { kind = UndefinedClass; items = name_value name ∷ [] }
 
 abbrev pub not_congruent : FunctionName → Condition

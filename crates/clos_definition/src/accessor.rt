@@ -7,10 +7,10 @@ ghost use Rattle.clos_definition.specs.Refusal.{Allows};
 
 use crate::effect::{Effect, addition_of};
 use crate::refusal::{not_congruent, refuse_taken};
-use clos_class_core::numbers;
 use clos_forms::FunctionName;
 use clos_generic::{Changes, Definition, Generics, Options, copy_name, is_same};
-use clos_generic_core::{Method, MethodBody, Qualifiers, Shape, Specializer, Specializers};
+use clos_hierarchy::numbers;
+use clos_method::{Method, MethodBody, Qualifiers, Shape, Specializer, Specializers};
 use clos_syntax::{Accessor, SlotSpecifier};
 use clos_world::{Stop, World};
 use lisp_data::{ClassId, GenericId, Name};

@@ -1,8 +1,8 @@
 //! Classes that are defined: what a `defclass` does.
 ghost use Rattle.std.specs.Prelude.{◌≡◌, ◌≤◌, IfOk, IfErr, Option, OnOk, OnErr, Some, length, not, option_map};
 ghost use Rattle.clos_class.specs.Table.{refusal};
-ghost use Rattle.clos_class_core.specs.Table.{Refusal};
-ghost use Rattle.clos_class_core.specs.TableView.{Refuses};
+ghost use Rattle.clos_hierarchy.specs.Table.{Refusal};
+ghost use Rattle.clos_hierarchy.specs.TableView.{Refuses};
 ghost use Rattle.clos_forms.specs.declared.operator.FunctionName.TheVariants.{Symbol};
 ghost use Rattle.clos_store.specs.Store.{cells_from, has_room_for};
 ghost use Rattle.clos_world.specs.World.{seen};

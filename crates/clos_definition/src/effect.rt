@@ -8,7 +8,7 @@ ghost use Rattle.clos_definition.specs.Refusal.{Allows, table_refusal};
 use crate::refusal::stop_for;
 use clos_forms::FunctionName;
 use clos_generic::{Addition, Changes, Generics, Likeness, Removal};
-use clos_generic_core::Method;
+use clos_method::Method;
 use clos_world::{Stop, World};
 use std::alloc::{AllocError, Global};
 use std::collections::VecDeque;

@@ -3,7 +3,7 @@ ghost use Rattle.std.specs.Prelude.{◌≡◌, ◌∷◌, [], IfOk, OnOk, None, 
 ghost use Rattle.lisp_data.specs.Name.{same_name};
 ghost use Rattle.clos_generic.specs.Initial.{standard};
 ghost use Rattle.clos_generic.specs.Table.{named};
-ghost use Rattle.clos_generic_core.specs.MethodIds.{method_numbers};
+ghost use Rattle.clos_method.specs.MethodIds.{method_numbers};
 ghost use Rattle.clos_world.specs.World.{seen};
 ghost use Rattle.clos_definition.specs.Effect.{IsReserved, adding, addition_of, with_effect};
 ghost use Rattle.clos_definition.specs.Generic.{combination_refusal, definition_of, earlier_methods, eql_forms, generic_changes, generic_refusal, initial_among, is_initial, methods_refusal, methods_with, names_refusal, options_of, place_in, precedence_of, removing, with_defined_generic};
@@ -19,7 +19,7 @@ use clos_generic::{
     Addition, Changes, Definition, Generics, Options, Positions, Removal, copy_name,
     standard_combination,
 };
-use clos_generic_core::Shape;
+use clos_method::Shape;
 use clos_store::Slot;
 use clos_syntax::{CombinationUse, GenericDefinition, MethodDefinition, Sequence};
 use clos_world::{ConditionKind, Stop, World, plain};

@@ -5,7 +5,7 @@ ghost use Rattle.lisp_data.specs.Value.{list, nil};
 ghost use Rattle.lisp_data.specs.ValueView.{value_of};
 ghost use Rattle.clos_forms.specs.Quotation.{quotation};
 ghost use Rattle.clos_generic.specs.Table.{number};
-ghost use Rattle.clos_generic_core.specs.Specializer.{specializer_of};
+ghost use Rattle.clos_method.specs.Specializer.{specializer_of};
 ghost use Rattle.clos_world.specs.World.{seen};
 ghost use Rattle.clos_definition.specs.Effect.{IsReserved, with_effect};
 ghost use Rattle.clos_definition.specs.Method.{defined_method, eql_form, first_value, function_for, method_changes, method_refusal, method_with, qualifiers_of, specializer_refusal, specializer_with, specializers_refusal, specializers_with, with_defined_method};
@@ -16,7 +16,7 @@ use crate::refusal::refuse_taken;
 use clos_class::Classes;
 use clos_forms::{Form, FunctionName, quoted_value};
 use clos_generic::{Addition, Changes, Definition, Generics, Options, copy_name};
-use clos_generic_core::{
+use clos_method::{
     Method, MethodBody, Qualifiers, Shape, SharedLambdaList, Specializer, Specializers,
 };
 use clos_store::Slot;

@@ -4,7 +4,7 @@ ghost use Rattle.lisp_data.specs.ValueView.{value_of};
 ghost use Rattle.clos_world.specs.World.{seen};
 ghost use Rattle.clos_definition.specs.Removal.{Finds, generic_in, method_in, removable, with_removed, wrong_type};
 
-use clos_generic_core::SystemFunction;
+use clos_method::SystemFunction;
 use clos_world::{Condition, ConditionKind, Stop, World, about, plain};
 use lisp_data::{GenericId, MethodId, Value};
 use std::alloc::{AllocError, Global};

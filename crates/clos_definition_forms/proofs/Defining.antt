@@ -3,7 +3,7 @@ use Rattle.std.proofs.Common.{◌≡◌, ℕ, List, [], ◌∷◌, Option, Some,
 use Rattle.lisp_data.specs.Value.{Val, class, generic, method}
 use Rattle.lisp_data.specs.declared.value.Value.{Value}
 use Rattle.clos_class.specs.declared.reserve.NewCell.{NewCell}
-use Rattle.clos_forms.specs.Form.{Frm}
+use Rattle.clos_forms.specs.Form.{Form}
 use Rattle.clos_forms.specs.declared.operator.FunctionName.{FunctionName}
 use Rattle.clos_machine.specs.clos_world.clos_generic.Table.{number}
 use Rattle.clos_syntax.specs.declared.class.ClassDefinition.{ClassDefinition}
@@ -67,13 +67,13 @@ module _ (name : FunctionName) (m : MethodDefinition) (w u : State) (s : ℕ) wh
   pub method_not_begun : w.locals ≡ [] → Answers (forms_evaluated (map eql_form m.specializers) [] (method_made name m)) w s (Err Storage) w s
   method_not_begun l = storage_at (forms_evaluated (map eql_form m.specializers) [] (method_made name m)) w s (method_forms_quiet name m w l)
 
-  pub method_forms_stop : (fs : List (Option Frm)) (k : ℕ) (stop : Stop) → fs ≡ map eql_form m.specializers → EndsBefore (forms_evaluated fs []) w s stop u k
+  pub method_forms_stop : (fs : List (Option Form)) (k : ℕ) (stop : Stop) → fs ≡ map eql_form m.specializers → EndsBefore (forms_evaluated fs []) w s stop u k
       → Answers (forms_evaluated (map eql_form m.specializers) [] (method_made name m)) w s (Err stop) u k
   method_forms_stop fs k stop e h =
       forms_stop (map eql_form m.specializers) (method_made name m) w u s k stop (λ vs. method_made_quiet name m vs u)
       (subst (λ l. EndsBefore (forms_evaluated l []) w s stop u k) e h)
 
-  pub method_forms_go_on : (fs : List (Option Frm)) (k : ℕ) (vs : List (Option Val)) (r : Result Value Stop) (x : State) (j : ℕ) → fs ≡ map eql_form m.specializers
+  pub method_forms_go_on : (fs : List (Option Form)) (k : ℕ) (vs : List (Option Val)) (r : Result Value Stop) (x : State) (j : ℕ) → fs ≡ map eql_form m.specializers
       → GoesOn (forms_evaluated fs []) w s vs u k → Answers (method_made name m vs) u k r x j
       → Answers (forms_evaluated (map eql_form m.specializers) [] (method_made name m)) w s r x j
   method_forms_go_on fs k vs r x j e h a =
@@ -105,13 +105,13 @@ module _ (d : GenericDefinition) (w u : State) (s : ℕ) where
   pub generic_not_begun : w.locals ≡ [] → Answers (forms_evaluated (eql_forms d.methods) [] (generic_made d)) w s (Err Storage) w s
   generic_not_begun l = storage_at (forms_evaluated (eql_forms d.methods) [] (generic_made d)) w s (generic_forms_quiet d w l)
 
-  pub generic_forms_stop : (fs : List (Option Frm)) (k : ℕ) (stop : Stop) → fs ≡ eql_forms d.methods → EndsBefore (forms_evaluated fs []) w s stop u k
+  pub generic_forms_stop : (fs : List (Option Form)) (k : ℕ) (stop : Stop) → fs ≡ eql_forms d.methods → EndsBefore (forms_evaluated fs []) w s stop u k
       → Answers (forms_evaluated (eql_forms d.methods) [] (generic_made d)) w s (Err stop) u k
   generic_forms_stop fs k stop e h =
       forms_stop (eql_forms d.methods) (generic_made d) w u s k stop (λ vs. generic_made_quiet d vs u)
       (subst (λ l. EndsBefore (forms_evaluated l []) w s stop u k) e h)
 
-  pub generic_forms_go_on : (fs : List (Option Frm)) (k : ℕ) (vs : List (Option Val)) (r : Result Value Stop) (x : State) (j : ℕ) → fs ≡ eql_forms d.methods
+  pub generic_forms_go_on : (fs : List (Option Form)) (k : ℕ) (vs : List (Option Val)) (r : Result Value Stop) (x : State) (j : ℕ) → fs ≡ eql_forms d.methods
       → GoesOn (forms_evaluated fs []) w s vs u k → Answers (generic_made d vs) u k r x j
       → Answers (forms_evaluated (eql_forms d.methods) [] (generic_made d)) w s r x j
   generic_forms_go_on fs k vs r x j e h a =
@@ -149,15 +149,15 @@ module _ (d : ClassDefinition) (w u : State) (s : ℕ) where
       passes_at (class_refusal d (length (cells_needed d w)) w) (forms_evaluated (initforms (cells_needed d w)) [] (class_made d)) w u s j x r e h
       (subst (λ l. Answers (forms_evaluated (initforms l) [] (class_made d)) u s r x j) q a)
 
-  pub class_not_begun : (fs : List (Option Frm)) → w.locals ≡ [] → Answers (forms_evaluated fs [] (class_made d)) w s (Err Storage) w s
+  pub class_not_begun : (fs : List (Option Form)) → w.locals ≡ [] → Answers (forms_evaluated fs [] (class_made d)) w s (Err Storage) w s
   class_not_begun fs l = storage_at (forms_evaluated fs [] (class_made d)) w s (class_forms_quiet d fs w l)
 
-  pub class_forms_stop : (fs gs : List (Option Frm)) (k : ℕ) (stop : Stop) → fs ≡ gs → EndsBefore (forms_evaluated fs []) w s stop u k
+  pub class_forms_stop : (fs gs : List (Option Form)) (k : ℕ) (stop : Stop) → fs ≡ gs → EndsBefore (forms_evaluated fs []) w s stop u k
       → Answers (forms_evaluated gs [] (class_made d)) w s (Err stop) u k
   class_forms_stop fs gs k stop e h =
       forms_stop gs (class_made d) w u s k stop (λ vs. class_made_quiet d vs u) (subst (λ l. EndsBefore (forms_evaluated l []) w s stop u k) e h)
 
-  pub class_forms_go_on : (fs gs : List (Option Frm)) (k : ℕ) (vs : List (Option Val)) (r : Result Value Stop) (x : State) (j : ℕ) → fs ≡ gs
+  pub class_forms_go_on : (fs gs : List (Option Form)) (k : ℕ) (vs : List (Option Val)) (r : Result Value Stop) (x : State) (j : ℕ) → fs ≡ gs
       → GoesOn (forms_evaluated fs []) w s vs u k → Answers (class_made d vs) u k r x j → Answers (forms_evaluated gs [] (class_made d)) w s r x j
   class_forms_go_on fs gs k vs r x j e h a =
       forms_go_on gs (class_made d) w u s k vs r x j (subst (λ l. GoesOn (forms_evaluated l []) w s vs u k) e h) a
@@ -178,17 +178,17 @@ module _ (d : ClassDefinition) (w u : State) (s : ℕ) where
 
 -- ---- remove-method
 
-module _ (f m : Frm) (w u : State) (s : ℕ) where
+module _ (f m : Form) (w u : State) (s : ℕ) where
   pub removal_not_begun : w.locals ≡ [] → Answers (remove_method f m) w s (Err Storage) w s
   removal_not_begun l = storage_at (remove_method f m) w s (remove_method_quiet f m w l)
 
-  pub removal_forms_stop : (fs : List (Option Frm)) (k : ℕ) (stop : Stop) → fs ≡ Some f ∷ Some m ∷ [] → EndsBefore (forms_evaluated fs []) w s stop u k
+  pub removal_forms_stop : (fs : List (Option Form)) (k : ℕ) (stop : Stop) → fs ≡ Some f ∷ Some m ∷ [] → EndsBefore (forms_evaluated fs []) w s stop u k
       → Answers (remove_method f m) w s (Err stop) u k
   removal_forms_stop fs k stop e h =
       forms_stop (Some f ∷ Some m ∷ []) values_removed w u s k stop (λ vs. values_removed_quiet vs u)
       (subst (λ l. EndsBefore (forms_evaluated l []) w s stop u k) e h)
 
-  pub removal_forms_go_on : (fs : List (Option Frm)) (k : ℕ) (vs : List (Option Val)) (r : Result Value Stop) (x : State) (j : ℕ) → fs ≡ Some f ∷ Some m ∷ []
+  pub removal_forms_go_on : (fs : List (Option Form)) (k : ℕ) (vs : List (Option Val)) (r : Result Value Stop) (x : State) (j : ℕ) → fs ≡ Some f ∷ Some m ∷ []
       → GoesOn (forms_evaluated fs []) w s vs u k → Answers (values_removed vs) u k r x j → Answers (remove_method f m) w s r x j
   removal_forms_go_on fs k vs r x j e h a =
       forms_go_on (Some f ∷ Some m ∷ []) values_removed w u s k vs r x j (subst (λ l. GoesOn (forms_evaluated l []) w s vs u k) e h) a

@@ -3,7 +3,7 @@ use Rattle.std.proofs.Common.{◌≡◌, ℕ, ◌+◌, List, [], ◌∷◌, ◌+
 use Rattle.lisp_data.specs.Value.{Val}
 use Rattle.lisp_data.specs.ValueView.{value_of}
 use Rattle.lisp_data.specs.declared.value.Value.{Value}
-use Rattle.clos_forms.specs.Form.{Frm}
+use Rattle.clos_forms.specs.Form.{Form}
 use Rattle.clos_machine.specs.clos_world.World.{State, unbound}
 use Rattle.clos_machine.specs.clos_world.declared.condition.Stop.{Stop}
 use Rattle.clos_machine.specs.clos_world.declared.condition.Stop.TheVariants.{Refused, Storage}
@@ -23,14 +23,14 @@ then_quiet (Stopped c x k) go u h q = h
 then_quiet (Noted n o) go u h q = then_quiet o go u h q
 then_quiet (Gave v x k) go u h q = subst (λ y. leaves (go v y k) u 0) (sym h.0) (subst (λ i. leaves (go v u i) u 0) (sym h.1) (q v))
 
-bare_quiet : (n : ℕ) (f : Frm) (w : State) → w.locals ≡ [] → leaves (evaluation n f w 0) w 0
+bare_quiet : (n : ℕ) (f : Form) (w : State) → w.locals ≡ [] → leaves (evaluation n f w 0) w 0
 bare_quiet n f w e = subst (λ x. leaves (evaluation n f w 0) x 0) (ap (λ ls. record w { locals = ls }) (sym e)) (evaluation_quiet n (known []) f (unbound w))
 
-form_quiet : (o : Option Frm) (go : Option Val → Run) (w : State) → w.locals ≡ [] → ((v : Option Val) → leaves (go v w 0) w 0) → leaves (form_evaluated o go w 0) w 0
+form_quiet : (o : Option Form) (go : Option Val → Run) (w : State) → w.locals ≡ [] → ((v : Option Val) → leaves (go v w 0) w 0) → leaves (form_evaluated o go w 0) w 0
 form_quiet None go w e q = q None
 form_quiet (Some f) go w e q = then_quiet (evaluation (room_below w) f w 0) (λ v. go (Some v)) w (bare_quiet (room_below w) f w e) (λ v. q (Some v))
 
-pub forms_quiet : (cs : List (Option Frm)) (vs : List (Option Val)) (go : List (Option Val) → Run) (w : State) → w.locals ≡ [] → ((us : List (Option Val)) → leaves (go us w 0) w 0)
+pub forms_quiet : (cs : List (Option Form)) (vs : List (Option Val)) (go : List (Option Val) → Run) (w : State) → w.locals ≡ [] → ((us : List (Option Val)) → leaves (go us w 0) w 0)
     → leaves (forms_evaluated cs vs go w 0) w 0
 forms_quiet [] vs go w e q = q vs
 forms_quiet (c ∷ cs) vs go w e q =
@@ -41,10 +41,10 @@ forms_quiet (c ∷ cs) vs go w e q =
 pub no_form : (w : State) (s : ℕ) → GoesOn (form_evaluated None) w s None w s
 no_form w s = (0, omega arith, λ go t. ap (λ i. go None w i) (omega arith))
 
-pub not_begun : (o : Option Frm) (w : State) (s : ℕ) → w.locals ≡ [] → EndsBefore (form_evaluated o) w s Storage w s
+pub not_begun : (o : Option Form) (w : State) (s : ℕ) → w.locals ≡ [] → EndsBefore (form_evaluated o) w s Storage w s
 not_begun o w s e = (0, omega arith, λ go q. form_quiet o go w e q)
 
-module _ (f : Frm) (n : ℕ) (w u : State) (s k : ℕ) where
+module _ (f : Form) (n : ℕ) (w u : State) (s k : ℕ) where
   -- in this room
   ended : (stop : Stop) → u.locals ≡ [] → Answers (evaluation (room_below w) f) w s (Err stop) u k → EndsBefore (form_evaluated (Some f)) w s stop u k
   ended (Refused c) e h = λ go. ap (λ o. then_do o (λ v. go (Some v))) h
@@ -61,14 +61,14 @@ module _ (f : Frm) (n : ℕ) (w u : State) (s k : ℕ) where
 -- ---- one after another
 
 -- The first of them are evaluated.
-abbrev pub Comes : List (Option Frm) → State → ℕ → List (Option Frm) → List (Option Val) → State → ℕ → Type 0
+abbrev pub Comes : List (Option Form) → State → ℕ → List (Option Form) → List (Option Val) → State → ℕ → Type 0
 Comes cs w s rest vs u k =
     (taken : ℕ) × (s ≡ taken + k) × ((go : List (Option Val) → Run) (t : ℕ) → forms_evaluated cs [] go w (taken + t) ≡ forms_evaluated rest vs go u t)
 
-pub none_yet : (cs : List (Option Frm)) (w : State) (s : ℕ) → Comes cs w s cs [] w s
+pub none_yet : (cs : List (Option Form)) (w : State) (s : ℕ) → Comes cs w s cs [] w s
 none_yet cs w s = (0, omega arith, λ go t. ap (λ i. forms_evaluated cs [] go w i) (omega arith))
 
-module _ (all : List (Option Frm)) (w0 w u : State) (c : Option Frm) (cs : List (Option Frm)) (vs : List (Option Val)) (s0 s k : ℕ) where
+module _ (all : List (Option Form)) (w0 w u : State) (c : Option Form) (cs : List (Option Form)) (vs : List (Option Val)) (s0 s k : ℕ) where
   pub one_more : (v : Option Val) → Comes all w0 s0 (c ∷ cs) vs w s → GoesOn (form_evaluated c) w s v u k → Comes all w0 s0 cs (vs ++ v ∷ []) u k
   one_more v h g = (
     h.0 + g.0,
@@ -88,7 +88,7 @@ module _ (all : List (Option Frm)) (w0 w u : State) (c : Option Frm) (cs : List 
   )
 
 -- memory ran out between two of them
-pub between : (all cs : List (Option Frm)) (vs : List (Option Val)) (w0 w : State) (s0 s : ℕ) → w.locals ≡ [] → Comes all w0 s0 cs vs w s → EndsBefore (forms_evaluated all []) w0 s0 Storage w s
+pub between : (all cs : List (Option Form)) (vs : List (Option Val)) (w0 w : State) (s0 s : ℕ) → w.locals ≡ [] → Comes all w0 s0 cs vs w s → EndsBefore (forms_evaluated all []) w0 s0 Storage w s
 between all cs vs w0 w s0 s e h = (
   h.0,
   h.1,
@@ -99,7 +99,7 @@ between all cs vs w0 w s0 s e h = (
 
 -- ---- and then what is made with them
 
-module _ (cs : List (Option Frm)) (made : List (Option Val) → Run) (w u : State) (s k : ℕ) where
+module _ (cs : List (Option Form)) (made : List (Option Val) → Run) (w u : State) (s k : ℕ) where
   pub forms_stop : (stop : Stop) → ((vs : List (Option Val)) → leaves (made vs u 0) u 0) → EndsBefore (forms_evaluated cs []) w s stop u k → Answers (forms_evaluated cs [] made) w s (Err stop) u k
   forms_stop (Refused c) q h = h made
   forms_stop Storage q h = (h.0, h.1, h.2 made q)

@@ -1,7 +1,7 @@
 -- With no step left a definition changes nothing.
 use Rattle.std.proofs.Common.{◌≡◌, ℕ, List, [], ◌∷◌, Option, Some, None, Result, Ok, Err, map, length, refl}
 use Rattle.lisp_data.specs.Value.{Val, class, generic, method}
-use Rattle.clos_forms.specs.Form.{Frm}
+use Rattle.clos_forms.specs.Form.{Form}
 use Rattle.clos_forms.specs.declared.operator.FunctionName.{FunctionName}
 use Rattle.clos_machine.specs.clos_world.clos_generic.Table.{number}
 use Rattle.clos_syntax.specs.declared.class.ClassDefinition.{ClassDefinition}
@@ -53,7 +53,7 @@ define_generic_quiet d w e = unless_quiet (generic_refusal d None w) (forms_eval
 pub class_made_quiet : (d : ClassDefinition) (vs : List (Option Val)) (w : State) → leaves (class_made d vs w 0) w 0
 class_made_quiet d vs w = effect_quiet (class_refusal d (length vs) w) (class (class_number d w)) (with_defined_class d vs w) w
 
-pub class_forms_quiet : (d : ClassDefinition) (fs : List (Option Frm)) (w : State) → w.locals ≡ [] → leaves (forms_evaluated fs [] (class_made d) w 0) w 0
+pub class_forms_quiet : (d : ClassDefinition) (fs : List (Option Form)) (w : State) → w.locals ≡ [] → leaves (forms_evaluated fs [] (class_made d) w 0) w 0
 class_forms_quiet d fs w e = forms_quiet fs [] (class_made d) w e (λ vs. class_made_quiet d vs w)
 
 pub new_class_quiet : (d : ClassDefinition) (w : State) → w.locals ≡ [] → leaves (new_class d w 0) w 0
@@ -74,5 +74,5 @@ removed_quiet v (Err c) w = (refl, refl)
 pub values_removed_quiet : (vs : List (Option Val)) (w : State) → leaves (values_removed vs w 0) w 0
 values_removed_quiet vs w = removed_quiet (value_at vs 0) (removable (value_at vs 0) (value_at vs 1)) w
 
-pub remove_method_quiet : (f m : Frm) (w : State) → w.locals ≡ [] → leaves (remove_method f m w 0) w 0
+pub remove_method_quiet : (f m : Form) (w : State) → w.locals ≡ [] → leaves (remove_method f m w 0) w 0
 remove_method_quiet f m w e = forms_quiet (Some f ∷ Some m ∷ []) [] values_removed w e (λ vs. values_removed_quiet vs w)

@@ -2,7 +2,7 @@
 -- their values, and last one step for the whole of the effect.
 use Rattle.std.specs.Prelude.{ℕ, List, [], ◌∷◌, length, map, slice_get, Option, Some, None, Result, Ok, Err}
 use Rattle.lisp_data.specs.Value.{Val, class, generic, list, method, nil}
-use Rattle.clos_forms.specs.Form.{Frm}
+use Rattle.clos_forms.specs.Form.{Form}
 use Rattle.clos_forms.specs.declared.operator.FunctionName.{FunctionName}
 use Rattle.clos_machine.specs.clos_world.clos_generic.Table.{number}
 use Rattle.clos_syntax.specs.declared.class.ClassDefinition.{ClassDefinition}
@@ -90,5 +90,5 @@ abbrev pub values_removed : List (Option Val) → Run
 values_removed vs w k = method_removed (value_at vs 0) (value_at vs 1) w k
 
 -- from left to right, each form by itself
-abbrev pub remove_method : Frm → Frm → Run
+abbrev pub remove_method : Form → Form → Run
 remove_method function m w k = forms_evaluated (Some function ∷ Some m ∷ []) [] values_removed w k

@@ -2,7 +2,7 @@
 -- eql specializers (7.7 defmethod).
 use Rattle.std.specs.Prelude.{◌≡◌, ℕ, ◌+◌, List, [], ◌∷◌, ◌++◌, Option, Some, None}
 use Rattle.lisp_data.specs.Value.{Val}
-use Rattle.clos_forms.specs.Form.{Frm}
+use Rattle.clos_forms.specs.Form.{Form}
 use Rattle.clos_machine.specs.clos_world.World.{State}
 use Rattle.clos_machine.specs.clos_world.declared.condition.Stop.{Stop}
 use Rattle.clos_machine.specs.clos_world.declared.condition.Stop.TheVariants.{Refused, Storage}
@@ -11,12 +11,12 @@ use Rattle.clos_machine.specs.clos_meaning.Outcome.{Run, Stopped, then_do, leave
 use Rattle.clos_definition_forms.specs.Variable.{room_below}
 
 -- what follows with the value of a form, where there is one
-abbrev pub form_evaluated : Option Frm → (Option Val → Run) → Run
+abbrev pub form_evaluated : Option Form → (Option Val → Run) → Run
 form_evaluated None go w k = go None w k
 form_evaluated (Some f) go w k = then_do (evaluation (room_below w) f w k) (λ v. go (Some v))
 
 -- what follows with the values of these forms after those that are there
-abbrev pub forms_evaluated : List (Option Frm) → List (Option Val) → (List (Option Val) → Run) → Run
+abbrev pub forms_evaluated : List (Option Form) → List (Option Val) → (List (Option Val) → Run) → Run
 forms_evaluated [] values go w k = go values w k
 forms_evaluated (f ∷ fs) values go w k = form_evaluated f (λ v. forms_evaluated fs (values ++ v ∷ []) go) w k
 

@@ -1,8 +1,8 @@
 -- What defvar and defparameter do (HyperSpec 5.3).
 use Rattle.std.specs.Prelude.{ℕ, ◌-◌, ◌||◌, min, nat_lt, Bool, false, [], Option, Some, None, is_some, length, if◌then◌else◌}
-use Rattle.lisp_data.specs.Name.{Nam}
+use Rattle.lisp_data.specs.Name.{Name}
 use Rattle.lisp_data.specs.Value.{Val}
-use Rattle.clos_forms.specs.Form.{Frm}
+use Rattle.clos_forms.specs.Form.{Form}
 use Rattle.clos_forms.specs.Quotation.{name_value}
 use Rattle.clos_syntax.specs.declared.variable.Definer.{Definer}
 use Rattle.clos_syntax.specs.declared.variable.Definer.TheVariants.{DefVar, DefParameter}
@@ -18,29 +18,29 @@ abbrev pub room_below : State → ℕ
 room_below w = min w.limits.depth 4_000 - 1
 
 -- a defvar leaves the value that there is
-abbrev pub keeps_value : State → Definer → Nam → Bool
+abbrev pub keeps_value : State → Definer → Name → Bool
 keeps_value w DefVar name = is_some (global_value w.globals name)
 keeps_value w DefParameter name = false
 
 -- the name is given, and nothing is changed
-abbrev pub named : Nam → Run
+abbrev pub named : Name → Run
 named name w k = Gave (name_value name) w k
 
 -- a variable without a value, where there is none yet
-abbrev pub declared : Nam → Run
+abbrev pub declared : Name → Run
 declared name w k =
     if is_global w.globals name then named name w k else Gave (name_value name) (record w { globals = with_global name None w.globals }) k
 
 -- the variable has this value, whether it was there or not; its name is given
-abbrev pub value_given : Nam → Val → Run
+abbrev pub value_given : Name → Val → Run
 value_given name v w k = Gave (name_value name) (record w { globals = with_global name (Some v) w.globals }) k
 
 -- the form is evaluated first; where that ends with a condition, the definition has no effect
-abbrev pub given_value : Nam → Frm → Run
+abbrev pub given_value : Name → Form → Run
 given_value name f w k = then_do (evaluation (room_below w) f w k) (λ v. step_then (value_given name v))
 
 -- a defvar alone may be without a form: there is the variable then, but no value
-abbrev pub new_value : Nam → Option Frm → Run
+abbrev pub new_value : Name → Option Form → Run
 new_value name None w k = step_then (declared name) w k
 new_value name (Some f) w k = given_value name f w k
 

@@ -5,7 +5,7 @@ use Rattle.std.specs.List.{list_any}
 use Rattle.std.specs.Str.{bytes_eq}
 use Rattle.clos_forms.specs.Special.{entry_of, special_of, specials, special_operators}
 use Rattle.clos_forms.specs.Names.{is_one_of}
-use Rattle.lisp_data.specs.Name.{Nam}
+use Rattle.lisp_data.specs.Name.{Name}
 use Rattle.clos_forms.specs.declared.special.Special.{Special}
 
 pub any_of_map : {A B : Type 0} (f : A → B) (p : B → Bool) (xs : List A) → list_any p (map f xs) ≡ list_any (λ x. p (f x)) xs
@@ -25,5 +25,5 @@ unless_keyword : (b : Bool) (x : Option Special) (r : Bool) → is_some x ≡ r 
 unless_keyword true x r h = refl
 unless_keyword false x r h = h
 
-pub special_is_one : (name : Nam) → is_some (special_of name) ≡ is_one_of special_operators name
+pub special_is_one : (name : Name) → is_some (special_of name) ≡ is_one_of special_operators name
 special_is_one name = unless_keyword name.keyword (entry_of specials name.text) _ (has_entry specials name.text)

@@ -4,7 +4,7 @@ use Rattle.std.proofs.lemmas.List.{map-append}
 use Rattle.clos_forms.specs.Fault.{◌>>=◌, Fails}
 use Rattle.clos_forms.specs.declared.fault.SyntaxFault.{SyntaxFault}
 use Rattle.clos_forms.specs.declared.fault.SyntaxFault.TheVariants.{Program, Memory}
-use Rattle.clos_forms.specs.Form.{Frm, form, Frms, cons}
+use Rattle.clos_forms.specs.Form.{Form, form, Forms, cons}
 use Rattle.clos_forms.specs.Grammar.{each_part, tree_at, trees_at}
 use Rattle.clos_forms.specs.Part.{Part, Shape}
 use Rattle.clos_forms.specs.Shape.{shape_of}
@@ -41,19 +41,19 @@ after_two (u ∷ xs) x o = ap (λ r. r >>= λ ys. Some (u ∷ ys)) (after_two xs
 
 -- ---- trees
 
-nothing_else : (o : Option Frm) → (o >>= λ f. None >>= λ (fs : Frms). Some (cons f fs)) ≡ None
+nothing_else : (o : Option Form) → (o >>= λ f. None >>= λ (fs : Forms). Some (cons f fs)) ≡ None
 nothing_else (Some f) = refl
 nothing_else None = refl
 
-pub no_trees : (tree : Part → Option Frm) (ps : List Part) → each_part tree ps None ≡ None
+pub no_trees : (tree : Part → Option Form) (ps : List Part) → each_part tree ps None ≡ None
 no_trees tree [] = refl
 no_trees tree (p ∷ ps) = ap (λ r. tree p >>= λ f. r >>= λ fs. Some (cons f fs)) (no_trees tree ps) ∙ nothing_else (tree p)
 
 -- the tree of a part, before these
-abbrev pub before_trees : Option Frm → Option Frms → Option Frms
+abbrev pub before_trees : Option Form → Option Forms → Option Forms
 before_trees t o = t >>= λ f. o >>= λ fs. Some (cons f fs)
 
-pub last_part : {A : Type 0} (view : A → Part) (tree : Part → Option Frm) (ps : List A) (p : A) (o : Option Frms) → each_part tree (map view (ps ++ p ∷ [])) o ≡ each_part tree (map view ps) (before_trees (tree (view p)) o)
+pub last_part : {A : Type 0} (view : A → Part) (tree : Part → Option Form) (ps : List A) (p : A) (o : Option Forms) → each_part tree (map view (ps ++ p ∷ [])) o ≡ each_part tree (map view ps) (before_trees (tree (view p)) o)
 last_part view tree [] p o = refl
 last_part view tree (q ∷ ps) p o = ap (λ r. tree (view q) >>= λ f. r >>= λ fs. Some (cons f fs)) (last_part view tree ps p o)
 
@@ -76,19 +76,19 @@ pub failed : {A : Type 0} (e : SyntaxFault) (xs : List A) (o t : Option (List A)
 failed Program xs o t h n = refused xs o t h n
 failed Memory xs o t h n = tt
 
-pub trees_failed : {A : Type 0} (view : A → Part) (tree : Part → Option Frm) (e : SyntaxFault) (all ps : List A) (p : A) (o t : Option Frms) → all ≡ ps ++ p ∷ [] → each_part tree (map view all) o ≡ t → Fails e (tree (view p)) → Fails e t
+pub trees_failed : {A : Type 0} (view : A → Part) (tree : Part → Option Form) (e : SyntaxFault) (all ps : List A) (p : A) (o t : Option Forms) → all ≡ ps ++ p ∷ [] → each_part tree (map view all) o ≡ t → Fails e (tree (view p)) → Fails e t
 trees_failed view tree Program all ps p o t a h n =
     sym h ∙ ap (λ xs. each_part tree (map view xs) o) a ∙ last_part view tree ps p o ∙ ap (λ x. each_part tree (map view ps) (before_trees x o)) n
     ∙ no_trees tree (map view ps)
 trees_failed view tree Memory all ps p o t a h n = tt
 
-pub trees_go_on : {A : Type 0} (view : A → Part) (tree : Part → Option Frm) (all ps : List A) (p : A) (f : Frm) (fs : Frms) (t : Option Frms) → all ≡ ps ++ p ∷ [] → each_part tree (map view all) (Some fs) ≡ t → tree (view p) ≡ Some f → each_part tree (map view ps) (Some (cons f fs)) ≡ t
+pub trees_go_on : {A : Type 0} (view : A → Part) (tree : Part → Option Form) (all ps : List A) (p : A) (f : Form) (fs : Forms) (t : Option Forms) → all ≡ ps ++ p ∷ [] → each_part tree (map view all) (Some fs) ≡ t → tree (view p) ≡ Some f → each_part tree (map view ps) (Some (cons f fs)) ≡ t
 trees_go_on view tree all ps p f fs t a h n =
     ap (λ x. each_part tree (map view ps) (before_trees x (Some fs))) (sym n) ∙ sym (last_part view tree ps p (Some fs))
     ∙ ap (λ xs. each_part tree (map view xs) (Some fs)) (sym a) ∙ h
 
 -- one list further in
-pub tree_step : (room m : ℕ) (context : Context) (p : Part) (s : Shape) (fs : Frms) → room ≡ suc m → shape_of context p.role p.datum ≡ Some s → trees_at m context s.parts ≡ Some fs → tree_at room context p ≡ Some (form s.operator fs)
+pub tree_step : (room m : ℕ) (context : Context) (p : Part) (s : Shape) (fs : Forms) → room ≡ suc m → shape_of context p.role p.datum ≡ Some s → trees_at m context s.parts ≡ Some fs → tree_at room context p ≡ Some (form s.operator fs)
 tree_step room m context p s fs r h n =
     ap (λ k. tree_at k context p) r ∙ ap (λ o. o >>= λ u. trees_at m context u.parts >>= λ gs. Some (form u.operator gs)) h
     ∙ ap (λ o. o >>= λ gs. Some (form s.operator gs)) n

@@ -1,17 +1,17 @@
 -- The parts of a shape nest less deep than the datum, so that room never ends.
 use Rattle.std.proofs.Common.{◌≡◌, ◌≤◌, ◌<◌, ℕ, zero, suc, Bool, true, false, List, [], ◌∷◌, ◌++◌, Option, Some, None, refl, ap, ◌∙◌, arith}
 use Rattle.std.specs.Prelude.{⊤, nat_le, ◌==◌, ◌&&◌, ◌||◌, if◌then◌else◌, codes}
-use Rattle.lisp_data.specs.Name.{Nam}
+use Rattle.lisp_data.specs.Name.{Name}
 use Rattle.lisp_data.specs.Datum.{Dat, integer, symbol, string, list, dotted, method, Dats, nil, cons, length_of, nesting_of, nesting_in}
 use Rattle.clos_forms.specs.Binding.{Entry, Counter, each, each_in, names_of, bounds_of, inits_of, binding_in, entry, let_with, let_shape, let_in_order_shape, assignments_in, counter_in, counted, dotimes_with, dotimes_shape}
 use Rattle.clos_forms.specs.Body.{body_of, body_parts, or_alone, is_declaration, is_string}
 use Rattle.clos_forms.specs.Distinct.{are_distinct}
 use Rattle.clos_forms.specs.Fault.{◌>>=◌}
-use Rattle.clos_forms.specs.Form.{Frm, form, Frms, cons as more, nil as none}
+use Rattle.clos_forms.specs.Form.{Form, form, Forms, cons as more, nil as none}
 use Rattle.clos_forms.specs.FunctionName.{symbol_in, variable_in, unless_constant, function_named}
 use Rattle.clos_forms.specs.Grammar.{each_part, tree_at}
 use Rattle.clos_forms.specs.Names.{is_called, is_one_of, definitions}
-use Rattle.clos_forms.specs.Operator.{Opr, BoundSlot, function, if_form, clause, when, unless, prog1, incf, decf, call, let_form, let_in_order, setq, setf, with_slots, place, slot_value_place, call_place, variable_place, call_next_method, next_method_p}
+use Rattle.clos_forms.specs.Operator.{Operator, BoundSlot, function, if_form, clause, when, unless, prog1, incf, decf, call, let_form, let_in_order, setq, setf, with_slots, place, slot_value_place, call_place, variable_place, call_next_method, next_method_p}
 use Rattle.clos_forms.specs.Part.{Part, Shape, shape, operation, in_role, in_roles, optional, only_in, at_most_one, in_method}
 use Rattle.clos_forms.specs.Place.{named_place, place_shape, setf_parts, change_shape}
 use Rattle.clos_forms.specs.Quotation.{quotation}
@@ -37,13 +37,13 @@ Deep k (Some s) = Within k s.parts
 
 -- ---- the same forms
 
-each_same : (f g : Part → Option Frm) (ps : List Part) (k : ℕ) → Within k ps → ((q : Part) → nesting_of q.datum < k → f q ≡ g q) → (o : Option Frms) → each_part f ps o ≡ each_part g ps o
+each_same : (f g : Part → Option Form) (ps : List Part) (k : ℕ) → Within k ps → ((q : Part) → nesting_of q.datum < k → f q ≡ g q) → (o : Option Forms) → each_part f ps o ≡ each_part g ps o
 each_same f g [] k w e o = refl
 each_same f g (p ∷ ps) k w e o =
     ap (λ x. x >>= λ t. each_part f ps o >>= λ ts. Some (more t ts)) (e p w.0)
     ∙ ap (λ r. g p >>= λ t. r >>= λ ts. Some (more t ts)) (each_same f g ps k w.1 e o)
 
-shape_same : (f g : Part → Option Frm) (k : ℕ) (o : Option Shape) → Deep k o → ((q : Part) → nesting_of q.datum < k → f q ≡ g q) → (o >>= λ s. each_part f s.parts (Some none) >>= λ fs. Some (form s.operator fs)) ≡ (o >>= λ s. each_part g s.parts (Some none) >>= λ fs. Some (form s.operator fs))
+shape_same : (f g : Part → Option Form) (k : ℕ) (o : Option Shape) → Deep k o → ((q : Part) → nesting_of q.datum < k → f q ≡ g q) → (o >>= λ s. each_part f s.parts (Some none) >>= λ fs. Some (form s.operator fs)) ≡ (o >>= λ s. each_part g s.parts (Some none) >>= λ fs. Some (form s.operator fs))
 shape_same f g k None w e = refl
 shape_same f g k (Some s) w e = ap (λ r. r >>= λ fs. Some (form s.operator fs)) (each_same f g s.parts k w e (Some none))
 
@@ -83,7 +83,7 @@ body l = wider (nesting_in (body_of l)) (nesting_in l) (body_parts l) (body_nest
 
 -- ---- shapes without parts, and shapes under a condition
 
-bare : {A : Type 0} (k : ℕ) (o : Option A) (f : A → Opr) → Deep k (o >>= λ x. Some (atom (f x)))
+bare : {A : Type 0} (k : ℕ) (o : Option A) (f : A → Operator) → Deep k (o >>= λ x. Some (atom (f x)))
 bare k None f = tt
 bare k (Some x) f = tt
 
@@ -106,13 +106,13 @@ abbrev Init : ℕ → Option Entry → Type 0
 Init k None = ⊤
 Init k (Some e) = Within k (optional e.init)
 
-init_after : (o : Option Nam) (l : Dats) → Init (nesting_in l) (o >>= λ n. at_most_one l >>= λ init. Some (entry n init))
+init_after : (o : Option Name) (l : Dats) → Init (nesting_in l) (o >>= λ n. at_most_one l >>= λ init. Some (entry n init))
 init_after None l = tt
 init_after (Some n) nil = tt
 init_after (Some n) (cons d nil) = (omega arith, tt)
 init_after (Some n) (cons d (cons e l)) = tt
 
-no_init : (k : ℕ) (o : Option Nam) → Init k (o >>= λ n. Some (entry n None))
+no_init : (k : ℕ) (o : Option Name) → Init k (o >>= λ n. Some (entry n None))
 no_init k None = tt
 no_init k (Some n) = tt
 
@@ -183,7 +183,7 @@ let_in_order_deep (cons d l) =
 
 -- ---- setq and setf
 
-assigned : (k : ℕ) (v : Option Nam) (d : Dat) (r : Option (List Entry)) → nesting_of d < k → Inits k r → Inits k (v >>= λ n. r >>= λ es. Some (entry n (Some d) ∷ es))
+assigned : (k : ℕ) (v : Option Name) (d : Dat) (r : Option (List Entry)) → nesting_of d < k → Inits k r → Inits k (v >>= λ n. r >>= λ es. Some (entry n (Some d) ∷ es))
 assigned k None d r lt w = tt
 assigned k (Some n) d None lt w = tt
 assigned k (Some n) d (Some es) lt w = (lt, w)
@@ -222,7 +222,7 @@ setf_case : (k : ℕ) (o : Option (List Part)) → Parts k o → Deep k (o >>= �
 setf_case k None w = tt
 setf_case k (Some ps) w = w
 
-change_deep : (o : Opr) (l : Dats) → Deep (nesting_in l) (change_shape o l)
+change_deep : (o : Operator) (l : Dats) → Deep (nesting_in l) (change_shape o l)
 change_deep o nil = tt
 change_deep o (cons p l) =
     when_so (nat_le (length_of l) 1) (nesting_in (cons p l)) (shape o (in_role Place p ∷ in_roles Expression l))
@@ -234,7 +234,7 @@ abbrev Count : ℕ → Option Counter → Type 0
 Count k None = ⊤
 Count k (Some c) = (nesting_of c.count < k) × Within k (optional c.result)
 
-count_after : (o : Option Nam) (l : Dats) → Count (nesting_in l) (o >>= λ n. counted n l)
+count_after : (o : Option Name) (l : Dats) → Count (nesting_in l) (o >>= λ n. counted n l)
 count_after None l = tt
 count_after (Some n) nil = tt
 count_after (Some n) (cons d nil) = (omega arith, tt)
@@ -298,7 +298,7 @@ special_deep context WithSlots l = with_slots_deep l
 special_deep context CallNextMethod l = when_so (in_method context) (nesting_in l) (operation call_next_method l) (roles Expression l)
 special_deep context NextMethodP l = when_so (in_method context && nat_le (length_of l) 0) (nesting_in l) (atom next_method_p) tt
 
-named_deep : (o : Option Special) (context : Context) (name : Nam) (l : Dats) → Deep (nesting_in l) (named_shape o context name l)
+named_deep : (o : Option Special) (context : Context) (name : Name) (l : Dats) → Deep (nesting_in l) (named_shape o context name l)
 named_deep None context name l = unless_so (is_one_of definitions name) (nesting_in l) (operation (call name) l) (roles Expression l)
 named_deep (Some s) context name l = special_deep context s l
 
@@ -327,11 +327,11 @@ clause_deep (list l) = when_so (nat_le 1 (length_of l)) (nesting_in l) (operatio
 clause_deep (dotted l d) = tt
 clause_deep (method n) = tt
 
-called_place : (a b c : Bool) (name : Nam) (l : Dats) → Deep (nesting_in l) (if a then (if b then Some (operation (place slot_value_place) l) else None) else if c then None else Some (operation (place (call_place name)) l))
+called_place : (a b c : Bool) (name : Name) (l : Dats) → Deep (nesting_in l) (if a then (if b then Some (operation (place slot_value_place) l) else None) else if c then None else Some (operation (place (call_place name)) l))
 called_place true b c name l = when_so b (nesting_in l) (operation (place slot_value_place) l) (roles Expression l)
 called_place false b c name l = unless_so c (nesting_in l) (operation (place (call_place name)) l) (roles Expression l)
 
-place_called : (o : Option Nam) (l : Dats) → Deep (nesting_in l) (o >>= λ n. named_place n l)
+place_called : (o : Option Name) (l : Dats) → Deep (nesting_in l) (o >>= λ n. named_place n l)
 place_called None l = tt
 place_called (Some name) l =
     called_place (is_called (codes "SLOT-VALUE") name) (length_of l == 2) (is_one_of special_operators name || is_one_of definitions name) name l

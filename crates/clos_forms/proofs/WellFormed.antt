@@ -1,17 +1,17 @@
 -- Each form that a datum is has the parts that its operator may have.
 use Rattle.std.proofs.Common.{◌≡◌, ◌+◌, ℕ, zero, suc, Bool, true, false, List, [], ◌∷◌, ◌++◌, Option, Some, None, length, refl, ap, sym, subst, ◌∙◌, arith}
 use Rattle.std.specs.Prelude.{⊤, nat_le, ◌==◌, ◌&&◌, ◌||◌, if◌then◌else◌, codes, is_some, Result, Ok, Err, IfOk}
-use Rattle.lisp_data.specs.Name.{Nam}
+use Rattle.lisp_data.specs.Name.{Name}
 use Rattle.lisp_data.specs.Datum.{Dat, integer, symbol, string, list, dotted, method, Dats, nil, cons, length_of}
 use Rattle.clos_forms.specs.Binding.{Entry, Counter, each_in, names_of, bounds_of, inits_of, binding_in, entry, let_with, let_shape, let_in_order_shape, assignments_in, counter_in, dotimes_with, dotimes_shape}
 use Rattle.clos_forms.specs.Body.{body_of, body_parts}
 use Rattle.clos_forms.specs.Distinct.{are_distinct}
 use Rattle.clos_forms.specs.Fault.{◌>>=◌, Gives}
-use Rattle.clos_forms.specs.Form.{Frm, form, Frms, cons as more, nil as no_forms, operator_in}
+use Rattle.clos_forms.specs.Form.{Form, form, Forms, cons as more, nil as no_forms, operator_in}
 use Rattle.clos_forms.specs.FunctionName.{symbol_in, variable_in, unless_constant, function_named}
 use Rattle.clos_forms.specs.Grammar.{each_part, tree_at}
 use Rattle.clos_forms.specs.Names.{is_called, is_constant, is_one_of, definitions}
-use Rattle.clos_forms.specs.Operator.{Opr, Bound, BoundSlot, constant, variable, function, if_form, cond, clause, when, unless, and_form, or_form, progn, prog1, incf, decf, call, let_form, let_in_order, setq, setf, with_slots, place, slot_value_place, call_place, variable_place, call_next_method, next_method_p}
+use Rattle.clos_forms.specs.Operator.{Operator, Bound, BoundSlot, constant, variable, function, if_form, cond, clause, when, unless, and_form, or_form, progn, prog1, incf, decf, call, let_form, let_in_order, setq, setf, with_slots, place, slot_value_place, call_place, variable_place, call_next_method, next_method_p}
 use Rattle.clos_forms.specs.Part.{Part, Shape, shape, operation, in_role, in_roles, optional, only_in, in_method}
 use Rattle.clos_forms.specs.Place.{named_place, place_shape, setf_parts, change_shape}
 use Rattle.clos_forms.specs.Quotation.{quotation, name_value}
@@ -37,11 +37,11 @@ Fits context r None = ⊤
 Fits context r (Some s) = (takes context s.operator (roles_in s.parts) ≡ true) × (role_of s.operator ≡ r)
 
 -- and so does a form
-abbrev Made : Context → Role → Option Frm → Type 0
+abbrev Made : Context → Role → Option Form → Type 0
 Made context r None = ⊤
 Made context r (Some f) = (is_made_well context f ≡ true) × (role_of (operator_in f) ≡ r)
 
-abbrev AllMade : Context → List Role → Option Frms → Type 0
+abbrev AllMade : Context → List Role → Option Forms → Type 0
 AllMade context rs None = ⊤
 AllMade context rs (Some fs) = (are_made_well context fs ≡ true) × (roles_of fs ≡ rs)
 
@@ -51,23 +51,23 @@ both_true false b h g = h
 
 -- ---- forms of parts
 
-one_more : (context : Context) (r : Role) (rs : List Role) (o : Option Frm) (os : Option Frms) → Made context r o → AllMade context rs os → AllMade context (r ∷ rs) (o >>= λ f. os >>= λ fs. Some (more f fs))
+one_more : (context : Context) (r : Role) (rs : List Role) (o : Option Form) (os : Option Forms) → Made context r o → AllMade context rs os → AllMade context (r ∷ rs) (o >>= λ f. os >>= λ fs. Some (more f fs))
 one_more context r rs None os h g = tt
 one_more context r rs (Some f) None h g = tt
 one_more context r rs (Some f) (Some fs) h g =
     (both_true (is_made_well context f) (are_made_well context fs) h.0 g.0, ap (λ x. x ∷ roles_of fs) h.1 ∙ ap (λ xs. r ∷ xs) g.1)
 
-all_parts : (context : Context) (tree : Part → Option Frm) → ((q : Part) → Made context q.role (tree q)) → (ps : List Part) → AllMade context (roles_in ps) (each_part tree ps (Some no_forms))
+all_parts : (context : Context) (tree : Part → Option Form) → ((q : Part) → Made context q.role (tree q)) → (ps : List Part) → AllMade context (roles_in ps) (each_part tree ps (Some no_forms))
 all_parts context tree h [] = (refl, refl)
 all_parts context tree h (p ∷ ps) =
     one_more context p.role (roles_in ps) (tree p) (each_part tree ps (Some no_forms)) (h p) (all_parts context tree h ps)
 
-whole : (context : Context) (r : Role) (s : Shape) (o : Option Frms) → Fits context r (Some s) → AllMade context (roles_in s.parts) o → Made context r (o >>= λ fs. Some (form s.operator fs))
+whole : (context : Context) (r : Role) (s : Shape) (o : Option Forms) → Fits context r (Some s) → AllMade context (roles_in s.parts) o → Made context r (o >>= λ fs. Some (form s.operator fs))
 whole context r s None h g = tt
 whole context r s (Some fs) h g =
     (both_true (takes context s.operator (roles_of fs)) (are_made_well context fs) (ap (takes context s.operator) g.1 ∙ h.0) g.0, h.1)
 
-of_shape : (context : Context) (r : Role) (tree : Part → Option Frm) → ((q : Part) → Made context q.role (tree q)) → (o : Option Shape) → Fits context r o → Made context r (o >>= λ s. each_part tree s.parts (Some no_forms) >>= λ fs. Some (form s.operator fs))
+of_shape : (context : Context) (r : Role) (tree : Part → Option Form) → ((q : Part) → Made context q.role (tree q)) → (o : Option Shape) → Fits context r o → Made context r (o >>= λ s. each_part tree s.parts (Some no_forms) >>= λ fs. Some (form s.operator fs))
 of_shape context r tree h None g = tt
 of_shape context r tree h (Some s) g = whole context r s (each_part tree s.parts (Some no_forms)) g (all_parts context tree h s.parts)
 
@@ -103,14 +103,14 @@ unless_so : (b : Bool) (context : Context) (r : Role) (s : Shape) → Fits conte
 unless_so true context r s h = tt
 unless_so false context r s h = h
 
-bare : {A : Type 0} (context : Context) (r : Role) (o : Option A) (f : A → Opr) → ((x : A) → Fits context r (Some (atom (f x)))) → Fits context r (o >>= λ x. Some (atom (f x)))
+bare : {A : Type 0} (context : Context) (r : Role) (o : Option A) (f : A → Operator) → ((x : A) → Fits context r (Some (atom (f x)))) → Fits context r (o >>= λ x. Some (atom (f x)))
 bare context r None f h = tt
 bare context r (Some x) f h = h x
 
 quoted : (context : Context) (d : Dat) → Fits context Expression (Some (atom (quoting (quotation d))))
 quoted context d = elim (quotation d) as (λ o. Fits context Expression (Some (atom (quoting o)))) [ Some v ↦ (refl, refl) | None ↦ (refl, refl) ]
 
-named : (context : Context) (name : Nam) → Fits context Expression (Some (atom (symbol_operator name)))
+named : (context : Context) (name : Name) → Fits context Expression (Some (atom (symbol_operator name)))
 named context name = elim (is_constant name) as (λ b. Fits context Expression (Some (atom (if b then constant (name_value name) else variable name)))) [ true ↦ (refl, refl) | false ↦ (refl, refl) ]
 
 -- ---- bindings
@@ -145,7 +145,7 @@ abbrev Sets : Option (List Entry) → Type 0
 Sets None = ⊤
 Sets (Some es) = values (names_of es) (roles_in (inits_of es)) ≡ true
 
-set_one : (v : Option Nam) (d : Dat) (r : Option (List Entry)) → Sets r → Sets (v >>= λ n. r >>= λ es. Some (entry n (Some d) ∷ es))
+set_one : (v : Option Name) (d : Dat) (r : Option (List Entry)) → Sets r → Sets (v >>= λ n. r >>= λ es. Some (entry n (Some d) ∷ es))
 set_one None d r h = tt
 set_one (Some n) d None h = tt
 set_one (Some n) d (Some es) h = h
@@ -247,7 +247,7 @@ special_fits context NextMethodP l =
     when_so (in_method context && nat_le (length_of l) 0) context Expression (atom next_method_p)
     (λ h. (both_true (in_method context) true (first_of (in_method context) (nat_le (length_of l) 0) h) refl, refl))
 
-named_fits : (o : Option Special) (context : Context) (name : Nam) (l : Dats) → Fits context Expression (named_shape o context name l)
+named_fits : (o : Option Special) (context : Context) (name : Name) (l : Dats) → Fits context Expression (named_shape o context name l)
 named_fits None context name l = unless_so (is_one_of definitions name) context Expression (operation (call name) l) (expressions l, refl)
 named_fits (Some s) context name l = special_fits context s l
 
@@ -276,11 +276,11 @@ clause_fits context (list l) = when_so (nat_le 1 (length_of l)) context Clause (
 clause_fits context (dotted l d) = tt
 clause_fits context (method n) = tt
 
-called_place : (context : Context) (a c : Bool) (name : Nam) (l : Dats) → Fits context Place (if a then (if length_of l == 2 then Some (operation (place slot_value_place) l) else None) else if c then None else Some (operation (place (call_place name)) l))
+called_place : (context : Context) (a c : Bool) (name : Name) (l : Dats) → Fits context Place (if a then (if length_of l == 2 then Some (operation (place slot_value_place) l) else None) else if c then None else Some (operation (place (call_place name)) l))
 called_place context true c name l = when_so (length_of l == 2) context Place (operation (place slot_value_place) l) (λ h. (counts l (λ n. n == 2) h, refl))
 called_place context false c name l = unless_so c context Place (operation (place (call_place name)) l) (expressions l, refl)
 
-place_called : (context : Context) (o : Option Nam) (l : Dats) → Fits context Place (o >>= λ n. named_place n l)
+place_called : (context : Context) (o : Option Name) (l : Dats) → Fits context Place (o >>= λ n. named_place n l)
 place_called context None l = tt
 place_called context (Some name) l =
     called_place context (is_called (codes "SLOT-VALUE") name) (is_one_of special_operators name || is_one_of definitions name) name l
@@ -306,32 +306,32 @@ made_well zero context p = tt
 made_well (suc room) context p =
     of_shape context p.role (tree_at room context) (made_well room context) (shape_of context p.role p.datum) (shape_fits context p.role p.datum)
 
-stands_alone : (context : Context) (o : Option Frm) (f : Frm) → Made context Expression o → o ≡ Some f → is_well_formed context f ≡ true
+stands_alone : (context : Context) (o : Option Form) (f : Form) → Made context Expression o → o ≡ Some f → is_well_formed context f ≡ true
 stands_alone context o f h e =
     let m : Made context Expression (Some f) = subst (Made context Expression) e h in
     both_true (is_expression (role_of (operator_in f))) (is_made_well context f) (ap is_expression m.1) m.0
 
 -- a form that an expression is
-pub form_is_well_formed : (room : ℕ) (context : Context) (d : Dat) (f : Frm) → tree_at room context (record { role = Expression; datum = d }) ≡ Some f → is_well_formed context f ≡ true
+pub form_is_well_formed : (room : ℕ) (context : Context) (d : Dat) (f : Form) → tree_at room context (record { role = Expression; datum = d }) ≡ Some f → is_well_formed context f ≡ true
 form_is_well_formed room context d f e =
     stands_alone context (tree_at room context (record { role = Expression; datum = d })) f (made_well room context (record { role = Expression; datum = d })) e
 
-all_stand_alone : (context : Context) (rs : List Role) (o : Option Frms) (fs : Frms) → AllMade context rs o → are_expressions rs ≡ true → o ≡ Some fs → are_well_formed context fs ≡ true
+all_stand_alone : (context : Context) (rs : List Role) (o : Option Forms) (fs : Forms) → AllMade context rs o → are_expressions rs ≡ true → o ≡ Some fs → are_well_formed context fs ≡ true
 all_stand_alone context rs o fs h g e =
     let m : AllMade context rs (Some fs) = subst (AllMade context rs) e h in
     both_true (are_expressions (roles_of fs)) (are_made_well context fs) (ap are_expressions m.1 ∙ g) m.0
 
 -- the forms that expressions are
-pub forms_are_well_formed : (room : ℕ) (context : Context) (l : Dats) (fs : Frms) → each_part (tree_at room context) (in_roles Expression l) (Some no_forms) ≡ Some fs → are_well_formed context fs ≡ true
+pub forms_are_well_formed : (room : ℕ) (context : Context) (l : Dats) (fs : Forms) → each_part (tree_at room context) (in_roles Expression l) (Some no_forms) ≡ Some fs → are_well_formed context fs ≡ true
 forms_are_well_formed room context l fs e =
     all_stand_alone context (roles_in (in_roles Expression l)) (each_part (tree_at room context) (in_roles Expression l) (Some no_forms)) fs
     (all_parts context (tree_at room context) (made_well room context) (in_roles Expression l)) (expressions l) e
 
 -- what a parse answers
-pub parsed_form : (room : ℕ) (context : Context) (d : Dat) (r : Result Frm SyntaxFault) → Gives (λ f. f) r (tree_at room context (record { role = Expression; datum = d })) → IfOk r (λ f. is_well_formed context f ≡ true)
+pub parsed_form : (room : ℕ) (context : Context) (d : Dat) (r : Result Form SyntaxFault) → Gives (λ f. f) r (tree_at room context (record { role = Expression; datum = d })) → IfOk r (λ f. is_well_formed context f ≡ true)
 parsed_form room context d (Ok f) h = form_is_well_formed room context d f h
 parsed_form room context d (Err e) h = tt
 
-pub parsed_forms : (room : ℕ) (context : Context) (l : Dats) (r : Result Frms SyntaxFault) → Gives (λ fs. fs) r (each_part (tree_at room context) (in_roles Expression l) (Some no_forms)) → IfOk r (λ fs. are_well_formed context fs ≡ true)
+pub parsed_forms : (room : ℕ) (context : Context) (l : Dats) (r : Result Forms SyntaxFault) → Gives (λ fs. fs) r (each_part (tree_at room context) (in_roles Expression l) (Some no_forms)) → IfOk r (λ fs. are_well_formed context fs ≡ true)
 parsed_forms room context l (Ok fs) h = forms_are_well_formed room context l fs h
 parsed_forms room context l (Err e) h = tt

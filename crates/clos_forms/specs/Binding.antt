@@ -1,6 +1,6 @@
 -- The variables of let, let*, setq and dotimes (HyperSpec 5.3, 6.2).
 use Rattle.std.specs.Prelude.{List, [], ◌∷◌, ◌++◌, Bool, Option, Some, None, is_some, codes, if◌then◌else◌}
-use Rattle.lisp_data.specs.Name.{Nam}
+use Rattle.lisp_data.specs.Name.{Name}
 use Rattle.lisp_data.specs.Datum.{Dat, integer, symbol, string, list, dotted, method, Dats, nil, cons}
 use Rattle.clos_forms.specs.Body.{body_parts}
 use Rattle.clos_forms.specs.Distinct.{are_distinct}
@@ -27,13 +27,13 @@ each_in f (method n) = None
 
 -- a variable, and the datum of its value, where there is one
 pub record Entry : Type 0 where
-  pub name : Nam
+  pub name : Name
   pub init : Option Dat
 
-abbrev pub entry : Nam → Option Dat → Entry
+abbrev pub entry : Name → Option Dat → Entry
 entry n init = record { name = n; init = init }
 
-abbrev pub names_of : List Entry → List Nam
+abbrev pub names_of : List Entry → List Name
 names_of [] = []
 names_of (e ∷ es) = e.name ∷ names_of es
 
@@ -91,11 +91,11 @@ setq_shape l = assignments_in l >>= λ es. Some (shape (setq (names_of es)) (ini
 
 -- the variable, the form of the count, and that of the result
 pub record Counter : Type 0 where
-  pub name : Nam
+  pub name : Name
   pub count : Dat
   pub result : Option Dat
 
-abbrev pub counted : Nam → Dats → Option Counter
+abbrev pub counted : Name → Dats → Option Counter
 counted n nil = None
 counted n (cons count rest) = at_most_one rest >>= λ result. Some (record { name = n; count = count; result = result })
 

@@ -3,12 +3,12 @@ use Rattle.std.specs.Prelude.{◌≡◌, ◌⊎◌, List, [], ◌∷◌, ◌++�
 use Rattle.std.specs.Coded.{Coded, code_by, coded⊎, coded_list}
 use Rattle.std.proofs.Common.{inl, inr, ◌∙◌, ap}
 use base.Stored.{coded_unit}
-use Rattle.clos_forms.specs.Form.{Frm, form, Frms, nil, cons}
-use Rattle.clos_forms.specs.Operator.{Opr, no_value}
+use Rattle.clos_forms.specs.Form.{Form, form, Forms, nil, cons}
+use Rattle.clos_forms.specs.Operator.{Operator, no_value}
 use Rattle.clos_forms.specs.OperatorCode.{operator_code}
 
 abbrev pub Token : Type 0
-Token = Opr ⊎ (Unit {0} ⊎ Unit {0})
+Token = Operator ⊎ (Unit {0} ⊎ Unit {0})
 
 abbrev pub token_code : Coded Token
 token_code = coded⊎ operator_code (coded⊎ coded_unit coded_unit)
@@ -20,22 +20,22 @@ abbrev a_cons : Token
 a_cons = inr (inr tt)
 
 abbrev mutual
-  pub tokens_of_form : Frm → List Token
+  pub tokens_of_form : Form → List Token
   tokens_of_form (form o parts) = tokens_of_forms parts ++ inl o ∷ []
 
-  pub tokens_of_forms : Frms → List Token
+  pub tokens_of_forms : Forms → List Token
   tokens_of_forms nil = a_nil ∷ []
   tokens_of_forms (cons f fs) = tokens_of_form f ++ (tokens_of_forms fs ++ a_cons ∷ [])
 
 -- the forms and the lists read so far, the last one first
 abbrev Stacks : Type 0
-Stacks = List Frm × List Frms
+Stacks = List Form × List Forms
 
-abbrev on_list : Opr → List Frm → List Frms → Stacks
+abbrev on_list : Operator → List Form → List Forms → Stacks
 on_list o fs [] = (fs, [])
 on_list o fs (l ∷ ls) = (form o l ∷ fs, ls)
 
-abbrev on_both : List Frm → List Frms → Stacks
+abbrev on_both : List Form → List Forms → Stacks
 on_both [] ls = ([], ls)
 on_both (f ∷ fs) [] = (f ∷ fs, [])
 on_both (f ∷ fs) (l ∷ ls) = (fs, cons f l ∷ ls)
@@ -54,11 +54,11 @@ read-append [] b s = refl
 read-append (t ∷ a) b s = read-append a b (turn t s)
 
 mutual
-  read_form : (f : Frm) (fs : List Frm) (ls : List Frms) → read (tokens_of_form f) (fs, ls) ≡ (f ∷ fs, ls)
+  read_form : (f : Form) (fs : List Form) (ls : List Forms) → read (tokens_of_form f) (fs, ls) ≡ (f ∷ fs, ls)
   read_form (form o l) fs ls =
       read-append (tokens_of_forms l) (inl o ∷ []) (fs, ls) ∙ ap (read (inl o ∷ [])) (read_forms l fs ls)
 
-  read_forms : (l : Frms) (fs : List Frm) (ls : List Frms) → read (tokens_of_forms l) (fs, ls) ≡ (fs, l ∷ ls)
+  read_forms : (l : Forms) (fs : List Form) (ls : List Forms) → read (tokens_of_forms l) (fs, ls) ≡ (fs, l ∷ ls)
   read_forms nil fs ls = refl
   read_forms (cons f l) fs ls =
       read-append (tokens_of_form f) (tokens_of_forms l ++ a_cons ∷ []) (fs, ls)
@@ -66,28 +66,28 @@ mutual
       ∙ read-append (tokens_of_forms l) (a_cons ∷ []) (f ∷ fs, ls)
       ∙ ap (read (a_cons ∷ [])) (read_forms l (f ∷ fs) ls)
 
-abbrev first_form : List Frm → Frm
+abbrev first_form : List Form → Form
 first_form [] = form no_value nil
 first_form (f ∷ fs) = f
 
-abbrev first_list : List Frms → Frms
+abbrev first_list : List Forms → Forms
 first_list [] = nil
 first_list (l ∷ ls) = l
 
-abbrev form_from : List Token → Frm
+abbrev form_from : List Token → Form
 form_from ts = first_form (read ts ([], [])).0
 
-abbrev forms_from : List Token → Frms
+abbrev forms_from : List Token → Forms
 forms_from ts = first_list (read ts ([], [])).1
 
-pub form_from-tokens : (f : Frm) → form_from (tokens_of_form f) ≡ f
+pub form_from-tokens : (f : Form) → form_from (tokens_of_form f) ≡ f
 form_from-tokens f = ap (λ (s : Stacks). first_form s.0) (read_form f [] [])
 
-pub forms_from-tokens : (l : Frms) → forms_from (tokens_of_forms l) ≡ l
+pub forms_from-tokens : (l : Forms) → forms_from (tokens_of_forms l) ≡ l
 forms_from-tokens l = ap (λ (s : Stacks). first_list s.1) (read_forms l [] [])
 
-abbrev pub form_code : Coded Frm
+abbrev pub form_code : Coded Form
 form_code = code_by (List Token) (coded_list token_code) tokens_of_form form_from form_from-tokens
 
-abbrev pub forms_code : Coded Frms
+abbrev pub forms_code : Coded Forms
 forms_code = code_by (List Token) (coded_list token_code) tokens_of_forms forms_from forms_from-tokens

@@ -2,7 +2,7 @@
 use Rattle.std.specs.Prelude.{ℕ, List, [], ◌∷◌, Bool, not, ◌&&◌, ◌||◌, codes}
 use Rattle.std.specs.Str.{bytes_eq}
 use Rattle.std.specs.List.{list_any}
-use Rattle.lisp_data.specs.Name.{Nam}
+use Rattle.lisp_data.specs.Name.{Name}
 
 -- forms that stand at the top level alone
 abbrev pub definitions : List (List ℕ)
@@ -33,12 +33,12 @@ abbrev pub closed_functions : List (List ℕ)
 closed_functions = codes "PRINT-OBJECT" ∷ codes "ALLOCATE-INSTANCE" ∷ []
 
 -- whether the name is one of these, and no keyword
-abbrev pub is_one_of : List (List ℕ) → Nam → Bool
+abbrev pub is_one_of : List (List ℕ) → Name → Bool
 is_one_of texts name = not name.keyword && list_any (λ t. bytes_eq t name.text) texts
 
-abbrev pub is_called : List ℕ → Nam → Bool
+abbrev pub is_called : List ℕ → Name → Bool
 is_called text name = not name.keyword && bytes_eq name.text text
 
 -- NIL, T and keywords are their own values (3.1.2.1.3)
-abbrev pub is_constant : Nam → Bool
+abbrev pub is_constant : Name → Bool
 is_constant name = name.keyword || is_called (codes "T") name || is_called (codes "NIL") name

@@ -3,20 +3,20 @@ use Rattle.std.specs.Prelude.{◌≡◌, ◌⊎◌, ℕ, zero, suc, Bool, List, 
 use Rattle.std.specs.Coded.{Coded, code_by, coded×, coded⊎, coded_bool, coded_list, coded_ℕ}
 use Rattle.std.proofs.Common.{inl, inr}
 use base.Stored.{coded_unit}
-use Rattle.lisp_data.specs.Name.{Nam}
+use Rattle.lisp_data.specs.Name.{Name}
 use Rattle.lisp_data.specs.NameCode.{name_code}
 use Rattle.lisp_data.specs.Print.{Called, by_symbol, by_setf}
 use Rattle.lisp_data.specs.Value.{Val}
 use Rattle.lisp_data.specs.ValueCode.{value_code}
-use Rattle.clos_forms.specs.Operator.{Bound, BoundSlot, Callable, the_method, made, Plc, variable_place, slot_value_place, call_place, Opr, constant, no_value, variable, function, if_form, cond, clause, when, unless, and_form, or_form, progn, prog1, let_form, let_in_order, setq, setf, incf, decf, place, dotimes, with_slots, call_next_method, next_method_p, call, call_method}
+use Rattle.clos_forms.specs.Operator.{Bound, BoundSlot, Callable, the_method, made, Place, variable_place, slot_value_place, call_place, Operator, constant, no_value, variable, function, if_form, cond, clause, when, unless, and_form, or_form, progn, prog1, let_form, let_in_order, setq, setf, incf, decf, place, dotimes, with_slots, call_next_method, next_method_p, call, call_method}
 
 abbrev pub bounds_code : Coded (List Bound)
 bounds_code =
-    coded_list (code_by (Nam × Bool) (coded× name_code coded_bool) (λ b. (b.name, b.has_init)) (λ p. record { name = p.0; has_init = p.1 }) (λ _. refl))
+    coded_list (code_by (Name × Bool) (coded× name_code coded_bool) (λ b. (b.name, b.has_init)) (λ p. record { name = p.0; has_init = p.1 }) (λ _. refl))
 
 abbrev pub bound_slots_code : Coded (List BoundSlot)
 bound_slots_code =
-    coded_list (code_by (Nam × Nam) (coded× name_code name_code) (λ b. (b.variable, b.slot)) (λ p. record { variable = p.0; slot = p.1 }) (λ _. refl))
+    coded_list (code_by (Name × Name) (coded× name_code name_code) (λ b. (b.variable, b.slot)) (λ p. record { variable = p.0; slot = p.1 }) (λ _. refl))
 
 abbrev callable_to : Callable → ℕ ⊎ Unit {0}
 callable_to (the_method n) = inl n
@@ -36,11 +36,11 @@ callable_code = code_by (ℕ ⊎ Unit {0}) (coded⊎ coded_ℕ coded_unit) calla
 abbrev pub callables_code : Coded (List Callable)
 callables_code = coded_list callable_code
 
-abbrev called_to : Called → Nam ⊎ Nam
+abbrev called_to : Called → Name ⊎ Name
 called_to (by_symbol n) = inl n
 called_to (by_setf n) = inr n
 
-abbrev called_from : Nam ⊎ Nam → Called
+abbrev called_from : Name ⊎ Name → Called
 called_from (inl n) = by_symbol n
 called_from (inr n) = by_setf n
 
@@ -49,36 +49,36 @@ called_back (by_symbol n) = refl
 called_back (by_setf n) = refl
 
 abbrev called_code : Coded Called
-called_code = code_by (Nam ⊎ Nam) (coded⊎ name_code name_code) called_to called_from called_back
+called_code = code_by (Name ⊎ Name) (coded⊎ name_code name_code) called_to called_from called_back
 
-abbrev place_to : Plc → Nam ⊎ (Nam ⊎ Unit {0})
+abbrev place_to : Place → Name ⊎ (Name ⊎ Unit {0})
 place_to (variable_place n) = inl n
 place_to slot_value_place = inr (inr tt)
 place_to (call_place n) = inr (inl n)
 
-abbrev place_from : Nam ⊎ (Nam ⊎ Unit {0}) → Plc
+abbrev place_from : Name ⊎ (Name ⊎ Unit {0}) → Place
 place_from (inl n) = variable_place n
 place_from (inr (inl n)) = call_place n
 place_from (inr (inr u)) = slot_value_place
 
-pub place_back : (p : Plc) → place_from (place_to p) ≡ p
+pub place_back : (p : Place) → place_from (place_to p) ≡ p
 place_back (variable_place n) = refl
 place_back slot_value_place = refl
 place_back (call_place n) = refl
 
-abbrev place_code : Coded Plc
-place_code = code_by (Nam ⊎ (Nam ⊎ Unit {0})) (coded⊎ name_code (coded⊎ name_code coded_unit)) place_to place_from place_back
+abbrev place_code : Coded Place
+place_code = code_by (Name ⊎ (Name ⊎ Unit {0})) (coded⊎ name_code (coded⊎ name_code coded_unit)) place_to place_from place_back
 
 abbrev Kind : Type 0
 Kind =
-    ℕ ⊎ (Val ⊎ (Nam ⊎ (Called ⊎ (List Bound ⊎ (List Bound ⊎ (List Nam ⊎ (Plc ⊎ ((Nam × Bool) ⊎ (List BoundSlot ⊎ (Nam ⊎ (Callable × List Callable)))))))))))
+    ℕ ⊎ (Val ⊎ (Name ⊎ (Called ⊎ (List Bound ⊎ (List Bound ⊎ (List Name ⊎ (Place ⊎ ((Name × Bool) ⊎ (List BoundSlot ⊎ (Name ⊎ (Callable × List Callable)))))))))))
 
 abbrev kind_code : Coded Kind
 kind_code =
     coded⊎ coded_ℕ (coded⊎ value_code (coded⊎ name_code (coded⊎ called_code (coded⊎ bounds_code (coded⊎ bounds_code (coded⊎ (coded_list name_code)
     (coded⊎ place_code (coded⊎ (coded× name_code coded_bool) (coded⊎ bound_slots_code (coded⊎ name_code (coded× callable_code callables_code)))))))))))
 
-abbrev kind_of : Opr → Kind
+abbrev kind_of : Operator → Kind
 kind_of no_value = inl 0
 kind_of if_form = inl 1
 kind_of cond = inl 2
@@ -107,16 +107,16 @@ kind_of (call n) = inr (inr (inr (inr (inr (inr (inr (inr (inr (inr (inl n))))))
 kind_of (call_method m ns) = inr (inr (inr (inr (inr (inr (inr (inr (inr (inr (inr (m, ns)))))))))))
 
 -- the operators that carry nothing, in the order of their numbers
-abbrev bare : List Opr
+abbrev bare : List Operator
 bare =
     no_value ∷ if_form ∷ cond ∷ clause ∷ when ∷ unless ∷ and_form ∷ or_form ∷ progn ∷ prog1 ∷ setf ∷ incf ∷ decf ∷ call_next_method ∷ next_method_p ∷ []
 
-abbrev numbered : List Opr → ℕ → Opr
+abbrev numbered : List Operator → ℕ → Operator
 numbered [] n = no_value
 numbered (o ∷ os) zero = o
 numbered (o ∷ os) (suc n) = numbered os n
 
-abbrev of_kind : Kind → Opr
+abbrev of_kind : Kind → Operator
 of_kind (inl n) = numbered bare n
 of_kind (inr (inl v)) = constant v
 of_kind (inr (inr (inl n))) = variable n
@@ -130,7 +130,7 @@ of_kind (inr (inr (inr (inr (inr (inr (inr (inr (inr (inl bs)))))))))) = with_sl
 of_kind (inr (inr (inr (inr (inr (inr (inr (inr (inr (inr (inl n))))))))))) = call n
 of_kind (inr (inr (inr (inr (inr (inr (inr (inr (inr (inr (inr p))))))))))) = call_method p.0 p.1
 
-pub of_kind_back : (o : Opr) → of_kind (kind_of o) ≡ o
+pub of_kind_back : (o : Operator) → of_kind (kind_of o) ≡ o
 of_kind_back no_value = refl
 of_kind_back if_form = refl
 of_kind_back cond = refl
@@ -158,5 +158,5 @@ of_kind_back (with_slots bs) = refl
 of_kind_back (call n) = refl
 of_kind_back (call_method m ns) = refl
 
-abbrev pub operator_code : Coded Opr
+abbrev pub operator_code : Coded Operator
 operator_code = code_by Kind kind_code kind_of of_kind of_kind_back

@@ -2,25 +2,25 @@
 use Rattle.lisp_data.specs.ValueView.{value_of}
 use Rattle.lisp_data.specs.Print.{Called, by_symbol, by_setf}
 use Rattle.clos_forms.specs.CallMethodView.{callable}
-use Rattle.clos_forms.specs.Operator.{Opr, Plc}
+use Rattle.clos_forms.specs.Operator.{Operator, Place}
 use Rattle.clos_forms.specs.Operator as of
 use Rattle.clos_forms.specs.declared.operator.FunctionName as named
 use Rattle.clos_forms.specs.declared.operator.FunctionName.TheVariants.{Symbol, Setf as Setter}
 use Rattle.clos_forms.specs.declared.operator.Place as in_code
 use Rattle.clos_forms.specs.declared.operator.Place.TheVariants.{Variable as VariablePlace, SlotValue, Call as CallPlace}
-use Rattle.clos_forms.specs.declared.operator.Operator.{Operator}
-use Rattle.clos_forms.specs.declared.operator.Operator.TheVariants.{Constant, NoValue, Variable, Function, If, Cond, Clause, When, Unless, And, Or, Progn, Prog1, Let, LetInOrder, Setq, Setf, Incf, Decf, Place, Dotimes, WithSlots, CallNextMethod, NextMethodP, Call, CallMethod}
+use Rattle.clos_forms.specs.declared.operator.Operator as coded
+use Rattle.clos_forms.specs.declared.operator.Operator.TheVariants.{Constant, NoValue, Variable, Function, If, Cond, Clause, When, Unless, And, Or, Progn, Prog1, Let, LetInOrder, Setq, Setf, Incf, Decf, Place as Subforms, Dotimes, WithSlots, CallNextMethod, NextMethodP, Call, CallMethod}
 
 abbrev pub called_of : named.FunctionName → Called
 called_of (Symbol name) = by_symbol name
 called_of (Setter name) = by_setf name
 
-abbrev pub place_of : in_code.Place → Plc
+abbrev pub place_of : in_code.Place → Place
 place_of (VariablePlace name) = of.variable_place name
 place_of SlotValue = of.slot_value_place
 place_of (CallPlace name) = of.call_place name
 
-abbrev pub operator_of : Operator → Opr
+abbrev pub operator_of : coded.Operator → Operator
 operator_of (Constant value) = of.constant (value_of value)
 operator_of NoValue = of.no_value
 operator_of (Variable name) = of.variable name
@@ -40,7 +40,7 @@ operator_of (Setq names) = of.setq names
 operator_of Setf = of.setf
 operator_of Incf = of.incf
 operator_of Decf = of.decf
-operator_of (Place p) = of.place (place_of p)
+operator_of (Subforms p) = of.place (place_of p)
 operator_of (Dotimes name has_result) = of.dotimes name has_result
 operator_of (WithSlots bindings) = of.with_slots bindings
 operator_of CallNextMethod = of.call_next_method

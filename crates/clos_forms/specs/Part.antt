@@ -1,7 +1,7 @@
 -- What a datum is as a form: an operator, and data that are forms again, each in its role (HyperSpec 3.1.2.1).
 use Rattle.std.specs.Prelude.{List, [], ◌∷◌, Bool, true, false, Option, Some, None}
 use Rattle.lisp_data.specs.Datum.{Dat, Dats, nil, cons}
-use Rattle.clos_forms.specs.Operator.{Opr}
+use Rattle.clos_forms.specs.Operator.{Operator}
 use Rattle.clos_forms.specs.declared.part.Role.{Role}
 use Rattle.clos_forms.specs.declared.part.Role.TheVariants.{Expression}
 use Rattle.clos_forms.specs.declared.part.Context.{Context}
@@ -13,7 +13,7 @@ pub record Part : Type 0 where
   pub datum : Dat
 
 pub record Shape : Type 0 where
-  pub operator : Opr
+  pub operator : Operator
   pub parts : List Part
 
 -- whether a form stands in the body of a method (7.6.6.2)
@@ -21,7 +21,7 @@ abbrev pub in_method : Context → Bool
 in_method Plain = false
 in_method Method = true
 
-abbrev pub shape : Opr → List Part → Shape
+abbrev pub shape : Operator → List Part → Shape
 shape o ps = record { operator = o; parts = ps }
 
 abbrev pub in_role : Role → Dat → Part
@@ -37,7 +37,7 @@ optional None = []
 optional (Some d) = in_role Expression d ∷ []
 
 -- an operator on expressions
-abbrev pub operation : Opr → Dats → Shape
+abbrev pub operation : Operator → Dats → Shape
 operation o l = shape o (in_roles Expression l)
 
 -- the one datum of a list

@@ -1,17 +1,17 @@
 -- Places and what stores into them (HyperSpec 5.1, 5.3 setf, 12.2 incf, 7.7 slot-value).
 use Rattle.std.specs.Prelude.{List, [], ◌∷◌, Option, Some, None, ◌||◌, ◌==◌, nat_le, codes, if◌then◌else◌}
-use Rattle.lisp_data.specs.Name.{Nam}
+use Rattle.lisp_data.specs.Name.{Name}
 use Rattle.lisp_data.specs.Datum.{Dat, integer, symbol, string, list, dotted, method, Dats, nil, cons, length_of}
 use Rattle.clos_forms.specs.Fault.{◌>>=◌}
 use Rattle.clos_forms.specs.FunctionName.{symbol_in, unless_constant}
 use Rattle.clos_forms.specs.Names.{is_called, is_one_of, definitions}
-use Rattle.clos_forms.specs.Operator.{Opr, place, variable_place, slot_value_place, call_place, setf}
+use Rattle.clos_forms.specs.Operator.{Operator, place, variable_place, slot_value_place, call_place, setf}
 use Rattle.clos_forms.specs.Part.{Part, Shape, shape, operation, in_role, in_roles}
 use Rattle.clos_forms.specs.Special.{special_operators}
 use Rattle.clos_forms.specs.declared.part.Role.TheVariants.{Expression, Place}
 
 -- a call of an operator that is no form's own
-abbrev pub named_place : Nam → Dats → Option Shape
+abbrev pub named_place : Name → Dats → Option Shape
 named_place name rest =
     if is_called (codes "SLOT-VALUE") name then (if length_of rest == 2 then Some (operation (place slot_value_place) rest) else None)
     else if is_one_of special_operators name || is_one_of definitions name then None
@@ -39,6 +39,6 @@ abbrev pub setf_shape : Dats → Option Shape
 setf_shape l = setf_parts l >>= λ ps. Some (shape setf ps)
 
 -- a place, and at most one amount
-abbrev pub change_shape : Opr → Dats → Option Shape
+abbrev pub change_shape : Operator → Dats → Option Shape
 change_shape o nil = None
 change_shape o (cons p rest) = if nat_le (length_of rest) 1 then Some (shape o (in_role Place p ∷ in_roles Expression rest)) else None

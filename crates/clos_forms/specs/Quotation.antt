@@ -1,13 +1,13 @@
 -- What a quote form quotes (HyperSpec 3.8 quote).
 use Rattle.std.specs.Prelude.{List, [], ◌∷◌, codes, Option, Some, None, option_map, if◌then◌else◌}
-use Rattle.lisp_data.specs.Name.{Nam}
+use Rattle.lisp_data.specs.Name.{Name}
 use Rattle.lisp_data.specs.Value.{Val, Vals, is_within_limits}
 use Rattle.lisp_data.specs.Value as value
 use Rattle.lisp_data.specs.Datum.{Dat, integer, symbol, string, list, dotted, method, Dats, nil, cons}
 use Rattle.clos_forms.specs.Names.{is_called}
 
 -- the symbol of this name: NIL is the empty list
-abbrev pub name_value : Nam → Val
+abbrev pub name_value : Name → Val
 name_value name = if is_called (codes "NIL") name then value.list value.nil else value.symbol name
 
 -- a list that is neither too long nor too deep

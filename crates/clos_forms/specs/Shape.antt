@@ -1,6 +1,6 @@
 -- What a datum is as a form, by its operator (HyperSpec 3.1.2.1).
 use Rattle.std.specs.Prelude.{[], Option, Some, None, nat_le, ◌&&◌, if◌then◌else◌}
-use Rattle.lisp_data.specs.Name.{Nam}
+use Rattle.lisp_data.specs.Name.{Name}
 use Rattle.lisp_data.specs.Value as value
 use Rattle.lisp_data.specs.Value.{Val}
 use Rattle.lisp_data.specs.Datum.{Dat, integer, symbol, string, list, dotted, method, Dats, nil, cons, length_of}
@@ -8,7 +8,7 @@ use Rattle.clos_forms.specs.Binding.{let_shape, let_in_order_shape, setq_shape, 
 use Rattle.clos_forms.specs.Fault.{◌>>=◌}
 use Rattle.clos_forms.specs.FunctionName.{function_named}
 use Rattle.clos_forms.specs.Names.{is_constant, is_one_of, definitions}
-use Rattle.clos_forms.specs.Operator.{Opr, constant, no_value, variable, function, if_form, cond, clause, when, unless, and_form, or_form, progn, prog1, incf, decf, call_next_method, next_method_p, call}
+use Rattle.clos_forms.specs.Operator.{Operator, constant, no_value, variable, function, if_form, cond, clause, when, unless, and_form, or_form, progn, prog1, incf, decf, call_next_method, next_method_p, call}
 use Rattle.clos_forms.specs.Part.{Shape, shape, operation, in_roles, only_in, in_method}
 use Rattle.clos_forms.specs.Place.{place_shape, setf_shape, change_shape}
 use Rattle.clos_forms.specs.Quotation.{name_value, quotation}
@@ -20,10 +20,10 @@ use Rattle.clos_forms.specs.declared.part.Role.TheVariants.{Expression, Clause, 
 use Rattle.clos_forms.specs.declared.special.Special.{Special}
 use Rattle.clos_forms.specs.declared.special.Special.TheVariants.{Quote, Function, If, Cond, When, Unless, And, Or, Progn, Prog1, Let, LetInOrder, Setq, Setf, Incf, Decf, Dotimes, WithSlots, CallNextMethod, NextMethodP}
 
-abbrev pub atom : Opr → Shape
+abbrev pub atom : Operator → Shape
 atom o = shape o []
 
-abbrev pub quoting : Option Val → Opr
+abbrev pub quoting : Option Val → Operator
 quoting (Some v) = constant v
 quoting None = no_value
 
@@ -36,7 +36,7 @@ abbrev pub function_shape : Dats → Option Shape
 function_shape l = only_in l >>= function_named >>= λ c. Some (atom (function c))
 
 -- at least one form
-abbrev pub headed : Opr → Dats → Option Shape
+abbrev pub headed : Operator → Dats → Option Shape
 headed o l = if nat_le 1 (length_of l) then Some (operation o l) else None
 
 -- a test, and one form or two
@@ -74,10 +74,10 @@ special_shape context CallNextMethod l = call_next_method_shape context l
 special_shape context NextMethodP l = next_method_p_shape context l
 
 -- a function is called whatever its name and the number of its arguments, but a definition stands at the top level alone
-abbrev pub call_shape : Nam → Dats → Option Shape
+abbrev pub call_shape : Name → Dats → Option Shape
 call_shape name l = if is_one_of definitions name then None else Some (operation (call name) l)
 
-abbrev pub named_shape : Option Special → Context → Nam → Dats → Option Shape
+abbrev pub named_shape : Option Special → Context → Name → Dats → Option Shape
 named_shape (Some s) context name l = special_shape context s l
 named_shape None context name l = call_shape name l
 
@@ -89,7 +89,7 @@ headed_shape context (list m) l = None
 headed_shape context (dotted m d) l = None
 headed_shape context (method n) l = None
 
-abbrev pub symbol_operator : Nam → Opr
+abbrev pub symbol_operator : Name → Operator
 symbol_operator name = if is_constant name then constant (name_value name) else variable name
 
 -- the empty list is NIL

@@ -1,6 +1,6 @@
 -- The variables of with-slots (HyperSpec 7.7 with-slots).
 use Rattle.std.specs.Prelude.{List, [], ◌∷◌, Option, Some, None, if◌then◌else◌}
-use Rattle.lisp_data.specs.Name.{Nam}
+use Rattle.lisp_data.specs.Name.{Name}
 use Rattle.lisp_data.specs.Datum.{Dat, integer, symbol, string, list, dotted, method, Dats, nil, cons}
 use Rattle.clos_forms.specs.Binding.{each_in}
 use Rattle.clos_forms.specs.Body.{body_parts}
@@ -11,10 +11,10 @@ use Rattle.clos_forms.specs.Operator.{BoundSlot, with_slots}
 use Rattle.clos_forms.specs.Part.{Shape, shape, in_role}
 use Rattle.clos_forms.specs.declared.part.Role.TheVariants.{Expression}
 
-abbrev pub slot_entry : Nam → Nam → BoundSlot
+abbrev pub slot_entry : Name → Name → BoundSlot
 slot_entry variable slot = record { variable = variable; slot = slot }
 
-abbrev pub variables_of : List BoundSlot → List Nam
+abbrev pub variables_of : List BoundSlot → List Name
 variables_of [] = []
 variables_of (s ∷ ss) = s.variable ∷ variables_of ss
 

@@ -2,7 +2,7 @@
 use Rattle.std.specs.Prelude.{ℕ, if◌then◌else◌, List, [], ◌∷◌, Option, Some, None, map, codes}
 use Rattle.std.specs.Borrow.{Bor}
 use Rattle.std.specs.Str.{bytes_eq}
-use Rattle.lisp_data.specs.Name.{Nam}
+use Rattle.lisp_data.specs.Name.{Name}
 use Rattle.clos_forms.specs.declared.special.Special.{Special}
 use Rattle.clos_forms.specs.declared.special.Special.TheVariants.{Quote, Function, If, Cond, When, Unless, And, Or, Progn, Prog1, Let, LetInOrder, Setq, Setf, Incf, Decf, Dotimes, WithSlots, CallNextMethod, NextMethodP}
 
@@ -49,5 +49,5 @@ abbrev pub told : Bor (List ℕ) × Special → List ℕ × Special
 told e = (e.0.now, e.1)
 
 -- the operator of a name, which is no keyword
-abbrev pub special_of : Nam → Option Special
+abbrev pub special_of : Name → Option Special
 special_of name = if name.keyword then None else entry_of specials name.text

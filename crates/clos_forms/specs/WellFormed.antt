@@ -1,16 +1,16 @@
 -- What forms are made of: how many parts each operator has, and in which roles (HyperSpec 3.1.2.1, and the entries of
 -- the operators).
 use Rattle.std.specs.Prelude.{ℕ, List, [], ◌∷◌, length, Bool, true, false, nat_le, ◌==◌, ◌&&◌, if◌then◌else◌}
-use Rattle.lisp_data.specs.Name.{Nam}
-use Rattle.clos_forms.specs.Form.{Frm, form, Frms, nil, cons, operator_in}
-use Rattle.clos_forms.specs.Operator.{Bound, Plc, variable_place, slot_value_place, call_place, Opr, constant, no_value, variable, function, if_form, cond, clause, when, unless, and_form, or_form, progn, prog1, let_form, let_in_order, setq, setf, incf, decf, place, dotimes, with_slots, call_next_method, next_method_p, call, call_method}
+use Rattle.lisp_data.specs.Name.{Name}
+use Rattle.clos_forms.specs.Form.{Form, form, Forms, nil, cons, operator_in}
+use Rattle.clos_forms.specs.Operator.{Bound, Place, variable_place, slot_value_place, call_place, Operator, constant, no_value, variable, function, if_form, cond, clause, when, unless, and_form, or_form, progn, prog1, let_form, let_in_order, setq, setf, incf, decf, place, dotimes, with_slots, call_next_method, next_method_p, call, call_method}
 use Rattle.clos_forms.specs.Part.{in_method}
 use Rattle.clos_forms.specs.declared.part.Context.{Context}
 use Rattle.clos_forms.specs.declared.part.Role.{Role}
-use Rattle.clos_forms.specs.declared.part.Role.TheVariants.{Expression, Clause, Place}
+use Rattle.clos_forms.specs.declared.part.Role.TheVariants.{Expression, Clause, Place as InPlace}
 
 -- the role in which a form of this operator stands
-abbrev pub role_of : Opr → Role
+abbrev pub role_of : Operator → Role
 role_of (constant v) = Expression
 role_of no_value = Expression
 role_of (variable n) = Expression
@@ -30,7 +30,7 @@ role_of (setq ns) = Expression
 role_of setf = Expression
 role_of incf = Expression
 role_of decf = Expression
-role_of (place p) = Place
+role_of (place p) = InPlace
 role_of (dotimes n b) = Expression
 role_of (with_slots bs) = Expression
 role_of call_next_method = Expression
@@ -41,17 +41,17 @@ role_of (call_method m ns) = Expression
 abbrev pub is_expression : Role → Bool
 is_expression Expression = true
 is_expression Clause = false
-is_expression Place = false
+is_expression InPlace = false
 
 abbrev pub is_clause : Role → Bool
 is_clause Expression = false
 is_clause Clause = true
-is_clause Place = false
+is_clause InPlace = false
 
 abbrev pub is_place : Role → Bool
 is_place Expression = false
 is_place Clause = false
-is_place Place = true
+is_place InPlace = true
 
 abbrev pub are_expressions : List Role → Bool
 are_expressions [] = true
@@ -85,7 +85,7 @@ inits_and_body [] rs = are_expressions rs
 inits_and_body (b ∷ bs) rs = first_if b.has_init (inits_and_body bs) rs
 
 -- a value for each name
-abbrev pub values : List Nam → List Role → Bool
+abbrev pub values : List Name → List Role → Bool
 values [] rs = none rs
 values (n ∷ ns) rs = first_if true (values ns) rs
 
@@ -105,13 +105,13 @@ abbrev pub count_result_body : Bool → List Role → Bool
 count_result_body has_result rs = first_if true (first_if has_result are_expressions) rs
 
 -- the subforms of a place
-abbrev pub subforms : Plc → List Role → Bool
+abbrev pub subforms : Place → List Role → Bool
 subforms (variable_place n) rs = none rs
 subforms slot_value_place rs = are_expressions rs && (length rs == 2)
 subforms (call_place n) rs = are_expressions rs
 
 -- whether a form of this operator may have parts in these roles
-abbrev pub takes : Context → Opr → List Role → Bool
+abbrev pub takes : Context → Operator → List Role → Bool
 takes context (constant v) rs = none rs
 takes context no_value rs = none rs
 takes context (variable n) rs = none rs
@@ -140,23 +140,23 @@ takes context (call n) rs = are_expressions rs
 -- in effective forms alone, which are not read
 takes context (call_method m ns) rs = false
 
-abbrev pub roles_of : Frms → List Role
+abbrev pub roles_of : Forms → List Role
 roles_of nil = []
 roles_of (cons f fs) = role_of (operator_in f) ∷ roles_of fs
 
 -- whether each form in it has the parts that it may have
 abbrev mutual
-  pub is_made_well : Context → Frm → Bool
+  pub is_made_well : Context → Form → Bool
   is_made_well context (form o parts) = takes context o (roles_of parts) && are_made_well context parts
 
-  pub are_made_well : Context → Frms → Bool
+  pub are_made_well : Context → Forms → Bool
   are_made_well context nil = true
   are_made_well context (cons f fs) = is_made_well context f && are_made_well context fs
 
 -- a form that may stand by itself, in the body of a method or elsewhere
-abbrev pub is_well_formed : Context → Frm → Bool
+abbrev pub is_well_formed : Context → Form → Bool
 is_well_formed context f = is_expression (role_of (operator_in f)) && is_made_well context f
 
 -- and forms that may stand in a body
-abbrev pub are_well_formed : Context → Frms → Bool
+abbrev pub are_well_formed : Context → Forms → Bool
 are_well_formed context fs = are_expressions (roles_of fs) && are_made_well context fs

@@ -41,10 +41,10 @@ pub struct SlotBindings {
 impl Model for Names {
     ghost use Rattle.std.specs.Prelude.{List};
     ghost use Rattle.std.specs.Coded.{coded_list};
-    ghost use Rattle.lisp_data.specs.Name.{Nam};
+    ghost use Rattle.lisp_data.specs.Name.{Name};
     ghost use Rattle.lisp_data.specs.NameCode.{name_code};
 
-    ghost Value = { List Nam };
+    ghost Value = { List Name };
 
     ghost coded = { coded_list name_code };
 

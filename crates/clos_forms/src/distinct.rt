@@ -2,7 +2,7 @@
 ghost use Rattle.std.specs.Prelude.{◌≡◌, IfOk};
 ghost use Rattle.std.specs.HashSet.{contains};
 ghost use Rattle.std.specs.List.{list_any};
-ghost use Rattle.lisp_data.specs.Name.{Nam, same_name};
+ghost use Rattle.lisp_data.specs.Name.{Name, same_name};
 ghost use Rattle.clos_forms.specs.Distinct.{are_among, are_distinct};
 
 use lisp_data::Name;
@@ -41,7 +41,7 @@ pub fn are_among(alloc: Global, names: &[Name], others: &[Name]) -> Result<bool,
 }
 
 fn set_of(alloc: Global, names: &[Name]) -> Result<HashSet<Name>, AllocError>
-    ensures { IfOk result (λ s. (n : Nam) → contains same_name s n ≡ list_any (λ m. same_name m n) names.now) }
+    ensures { IfOk result (λ s. (n : Name) → contains same_name s n ≡ list_any (λ m. same_name m n) names.now) }
 {
     let mut set = HashSet::new(alloc);
     let mut at = names.len();

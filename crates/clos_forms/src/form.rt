@@ -1,6 +1,6 @@
 //! Forms as they are evaluated: checked once, and shared by what keeps a place in them.
 ghost use Rattle.std.specs.Prelude.{◌≡◌, IfOk, MatchOption};
-ghost use Rattle.clos_forms.specs.Form.{Frms, form, nil, cons, operator_in, parts_in};
+ghost use Rattle.clos_forms.specs.Form.{Forms, form, nil, cons, operator_in, parts_in};
 ghost use Rattle.clos_forms.specs.FormView.{forms_of};
 ghost use Rattle.clos_forms.specs.OperatorView.{operator_of};
 
@@ -50,10 +50,10 @@ struct Pair {
 }
 
 impl Model for Form {
-    ghost use Rattle.clos_forms.specs.Form.{Frm, size_of_form};
+    ghost use Rattle.clos_forms.specs.Form.{Form, size_of_form};
     ghost use Rattle.clos_forms.specs.FormCode.{form_code};
 
-    ghost Value = { Frm };
+    ghost Value = { Form };
 
     ghost coded = { form_code };
 
@@ -65,10 +65,10 @@ impl Model for Form {
 }
 
 impl Model for Forms {
-    ghost use Rattle.clos_forms.specs.Form.{Frms, size_of_forms};
+    ghost use Rattle.clos_forms.specs.Form.{Forms, size_of_forms};
     ghost use Rattle.clos_forms.specs.FormCode.{forms_code};
 
-    ghost Value = { Frms };
+    ghost Value = { Forms };
 
     ghost coded = { forms_code };
 

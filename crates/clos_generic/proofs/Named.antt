@@ -5,7 +5,7 @@ use Rattle.std.specs.List.{position_or_len}
 use Rattle.std.specs.Option.{option_or}
 use Rattle.std.proofs.lemmas.List.Folds.{position_or_len_push}
 use Rattle.std.proofs.lemmas.List.{length_push, map-append}
-use Rattle.lisp_data.specs.Name.{Nam}
+use Rattle.lisp_data.specs.Name.{Name}
 use Rattle.lisp_data.specs.declared.ids.GenericId.{GenericId}
 use Rattle.lisp_data.specs.KeyLaws.{same_name-Decides}
 use Rattle.clos_forms.specs.declared.operator.FunctionName.{FunctionName}
@@ -66,15 +66,15 @@ same_names change h fs i name =
     ap (λ m. place m (length (with_changed change i fs))) (same_place (λ f. same_function f.name name) change (λ f. ap (λ n. same_function n name) (h f)) fs i)
     ∙ ap (place (position_or_len (λ f. same_function f.name name) fs)) (length_of_changed change fs i)
 
-pub still_indexed : (change : Function → Function) → ((f : Function) → (change f).name ≡ f.name) → (called : Nam → FunctionName) (numbered : Nam → Option GenericId) (fs gs : List Function) (i : ℕ)
+pub still_indexed : (change : Function → Function) → ((f : Function) → (change f).name ≡ f.name) → (called : Name → FunctionName) (numbered : Name → Option GenericId) (fs gs : List Function) (i : ℕ)
     → IsIndexed fs called numbered → gs ≡ with_changed change i fs → IsIndexed gs called numbered
 still_indexed change h called numbered fs gs i k e = λ name. k name ∙ sym (ap (λ l. named_in l (called name)) e ∙ same_names change h fs i (called name))
 
-pub same_indexed : (called : Nam → FunctionName) (numbered : Nam → Option GenericId) (fs gs : List Function) → IsIndexed fs called numbered → gs ≡ fs → IsIndexed gs called numbered
+pub same_indexed : (called : Name → FunctionName) (numbered : Name → Option GenericId) (fs gs : List Function) → IsIndexed fs called numbered → gs ≡ fs → IsIndexed gs called numbered
 same_indexed called numbered fs gs k e = λ name. k name ∙ sym (ap (λ l. named_in l (called name)) e)
 
-pub one_more_indexed : (called : Nam → FunctionName) (before after : Nam → Option GenericId) (fs gs : List Function) (f : Function) (id : GenericId) → IsIndexed fs called before
-    → ((n : Nam) → after n ≡ option_or (before n) (noted f.name id (called n))) → id.0 ≡ length fs → gs ≡ fs ++ f ∷ [] → IsIndexed gs called after
+pub one_more_indexed : (called : Name → FunctionName) (before after : Name → Option GenericId) (fs gs : List Function) (f : Function) (id : GenericId) → IsIndexed fs called before
+    → ((n : Name) → after n ≡ option_or (before n) (noted f.name id (called n))) → id.0 ≡ length fs → gs ≡ fs ++ f ∷ [] → IsIndexed gs called after
 one_more_indexed called before after fs gs f id k h l e = λ n. one_more fs f (called n) id (before n) (after n) (k n) (h n) l ∙ ap (λ x. named_in x (called n)) (sym e)
 
 -- ---- one name

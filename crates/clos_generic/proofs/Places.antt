@@ -6,7 +6,7 @@ use Rattle.std.proofs.lemmas.Bool.{ltb-false, ltb-true}
 use Rattle.std.proofs.lemmas.List.{get_or_default, map-append}
 use Rattle.lisp_data.specs.declared.ids.MethodId.{MethodId}
 use Rattle.clos_generic.specs.Table.{without}
-use Rattle.clos_generic_core.specs.MethodIds.{method_numbers}
+use Rattle.clos_method.specs.MethodIds.{method_numbers}
 
 next : (n : ℕ) → 1 + n ≡ suc n
 next n = omega arith

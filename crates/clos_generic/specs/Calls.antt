@@ -1,11 +1,11 @@
 -- What calls of a generic function ask of the table (HyperSpec 7.6.5, 7.6.6.1).
 use Rattle.std.specs.Prelude.{ℕ, Bool, false, List, [], Option, Some, None, slice_get}
-use Rattle.lisp_data.specs.Name.{Nam}
+use Rattle.lisp_data.specs.Name.{Name}
 use Rattle.lisp_data.specs.Value.{Val}
-use Rattle.clos_generic_core.specs.Applicable as core
-use Rattle.clos_generic_core.specs.Arguments.{Argument}
-use Rattle.clos_generic_core.specs.Keywords as keywords
-use Rattle.clos_generic_core.specs.Order as order
+use Rattle.clos_method.specs.Applicable as core
+use Rattle.clos_method.specs.Arguments.{Argument}
+use Rattle.clos_method.specs.Keywords as keywords
+use Rattle.clos_method.specs.Order as order
 use Rattle.clos_generic.specs.Table.{Function, Table, methods_of}
 
 abbrev pub precedence_in : Option Function → List ℕ
@@ -36,9 +36,9 @@ allows_in t ms (Some f) = keywords.allows_all f.shape t.methods ms
 abbrev pub allows_all : Table → ℕ → List ℕ → Bool
 allows_all t g ms = allows_in t ms (slice_get t.functions g)
 
-abbrev accepts_in : Table → List ℕ → Nam → Option Function → Bool
+abbrev accepts_in : Table → List ℕ → Name → Option Function → Bool
 accepts_in t ms name None = false
 accepts_in t ms name (Some f) = keywords.accepts_keyword f.shape t.methods ms name
 
-abbrev pub accepts : Table → ℕ → List ℕ → Nam → Bool
+abbrev pub accepts : Table → ℕ → List ℕ → Name → Bool
 accepts t g ms name = accepts_in t ms name (slice_get t.functions g)

@@ -1,9 +1,9 @@
 -- The changes of one definition form, and why they can't be made (HyperSpec 7.6.4, 7.7).
 use Rattle.std.specs.Prelude.{ℕ, ◌+◌, ◌-◌, ◌==◌, nat_lt, Bool, true, false, not, ◌&&◌, ◌||◌, List, [], ◌∷◌, Option, Some, None, is_some, length, map, slice_get, count_by, if◌then◌else◌}
 use Rattle.std.specs.List.{list_any, list_all}
-use Rattle.clos_generic_core.specs.declared.shape.Shape.{Shape}
+use Rattle.clos_method.specs.declared.shape.Shape.{Shape}
 use Rattle.clos_generic.specs.Fault.{Refusal, fits_in, is_permitted_one, is_system, or_else, removal_refusal, system_count, incongruent, table_limit, unsupported, when}
-use Rattle.clos_generic_core.specs.Shape.{is_congruent}
+use Rattle.clos_method.specs.Shape.{is_congruent}
 use Rattle.clos_generic.specs.Table.{Function, Table, find_method, methods_of, named}
 use Rattle.clos_generic.specs.declared.changes.Addition.{Addition}
 use Rattle.clos_generic.specs.declared.changes.Definition.{Definition}

@@ -1,22 +1,22 @@
 -- A few definitions and methods.
 use Rattle.std.specs.Prelude.{◌≡◌, ℕ, false, List, [], ◌∷◌, Some, None, codes, refl}
-use Rattle.lisp_data.specs.Name.{Nam}
+use Rattle.lisp_data.specs.Name.{Name}
 use Rattle.lisp_data.specs.Print.{Specializer, on_class, on_eql}
 use Rattle.lisp_data.specs.Value.{string}
 use Rattle.clos_forms.specs.declared.operator.FunctionName.{FunctionName}
 use Rattle.clos_forms.specs.declared.operator.FunctionName.TheVariants.{Symbol, Setf}
-use Rattle.clos_generic_core.specs.System.{system_shape}
-use Rattle.clos_generic_core.specs.declared.method.Method.{Method}
-use Rattle.clos_generic_core.specs.declared.method.MethodBody.TheVariants.{Reader}
-use Rattle.clos_generic_core.specs.declared.shape.Shape.{Shape}
-use Rattle.clos_generic_core.specs.declared.system.SystemFunction.TheVariants.{SlotMissing}
+use Rattle.clos_method.specs.System.{system_shape}
+use Rattle.clos_method.specs.declared.method.Method.{Method}
+use Rattle.clos_method.specs.declared.method.MethodBody.TheVariants.{Reader}
+use Rattle.clos_method.specs.declared.shape.Shape.{Shape}
+use Rattle.clos_method.specs.declared.system.SystemFunction.TheVariants.{SlotMissing}
 use Rattle.clos_generic.specs.Changes.{Changes, changes_refusal}
 use Rattle.clos_generic.specs.Fault.{addition_refusal, definition_refusal, incongruent, removal_refusal, no_such_method, table_limit, unsupported}
 use Rattle.clos_generic.specs.Initial.{initial, standard}
 use Rattle.clos_generic.specs.Table.{Table, methods_of, named, number, with_definition, with_method, without_method}
 use Rattle.clos_generic.specs.declared.options.Options.{Options}
 
-abbrev name : List ℕ → Nam
+abbrev name : List ℕ → Name
 name text = record { text = text; keyword = false }
 
 abbrev speak : FunctionName

@@ -3,10 +3,10 @@ use Rattle.std.specs.Prelude.{ℕ, ◌-◌, ◌==◌, nat_lt, nat_le, Bool, true
 use Rattle.std.specs.List.{list_any, list_all}
 use Rattle.lisp_data.specs.Print.{Specializer, on_class, on_eql}
 use Rattle.clos_forms.specs.declared.operator.FunctionName.{FunctionName}
-use Rattle.clos_generic_core.specs.Shape.{is_congruent}
-use Rattle.clos_generic_core.specs.Specializer.{is_permitted}
-use Rattle.clos_generic_core.specs.declared.method.Method.{Method}
-use Rattle.clos_generic_core.specs.declared.shape.Shape.{Shape}
+use Rattle.clos_method.specs.Shape.{is_congruent}
+use Rattle.clos_method.specs.Specializer.{is_permitted}
+use Rattle.clos_method.specs.declared.method.Method.{Method}
+use Rattle.clos_method.specs.declared.shape.Shape.{Shape}
 use Rattle.clos_generic.specs.Table.{Function, Table, find_method, methods_named, methods_of, named}
 use Rattle.clos_generic.specs.declared.options.Options.{Options}
 

@@ -2,11 +2,11 @@
 use Rattle.std.specs.Prelude.{ℕ, zero, suc, codes, false, List, [], ◌∷◌, ◌++◌, length, map}
 use Rattle.lisp_data.specs.Datum.{nil}
 use Rattle.clos_forms.specs.declared.operator.FunctionName.TheVariants.{Symbol}
-use Rattle.clos_generic_core.specs.Method.{system_method}
-use Rattle.clos_generic_core.specs.System.{system_functions, system_number, system_required, system_shape, system_text}
-use Rattle.clos_generic_core.specs.declared.method.Method.{Method}
-use Rattle.clos_generic_core.specs.declared.shape.Shape.{Shape}
-use Rattle.clos_generic_core.specs.declared.system.SystemFunction.{SystemFunction}
+use Rattle.clos_method.specs.Method.{system_method}
+use Rattle.clos_method.specs.System.{system_functions, system_number, system_required, system_shape, system_text}
+use Rattle.clos_method.specs.declared.method.Method.{Method}
+use Rattle.clos_method.specs.declared.shape.Shape.{Shape}
+use Rattle.clos_method.specs.declared.system.SystemFunction.{SystemFunction}
 use Rattle.clos_syntax.specs.declared.generic.CombinationUse.{CombinationUse}
 use Rattle.clos_generic.specs.Table.{Function, Table, with_method}
 use Rattle.clos_generic.specs.TableView.{with_made}

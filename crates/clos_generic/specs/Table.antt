@@ -7,9 +7,9 @@ use Rattle.lisp_data.specs.Value.{Val}
 use Rattle.clos_forms.specs.declared.operator.FunctionName.{FunctionName}
 use Rattle.clos_forms.specs.declared.operator.FunctionName.TheVariants.{Symbol, Setf}
 use Rattle.clos_syntax.specs.declared.generic.CombinationUse.{CombinationUse}
-use Rattle.clos_generic_core.specs.Method.{is_alike}
-use Rattle.clos_generic_core.specs.declared.method.Method.{Method}
-use Rattle.clos_generic_core.specs.declared.shape.Shape.{Shape}
+use Rattle.clos_method.specs.Method.{is_alike}
+use Rattle.clos_method.specs.declared.method.Method.{Method}
+use Rattle.clos_method.specs.declared.shape.Shape.{Shape}
 use Rattle.clos_generic.specs.declared.options.Options.{Options}
 
 -- a generic function (7.6.1)

@@ -3,10 +3,10 @@ use Rattle.std.specs.Prelude.{ℕ, List, refl}
 use Rattle.std.specs.Coded.{Coded, code_by, coded×, coded_list, coded_ℕ}
 use Rattle.clos_forms.specs.contracts.operator.FunctionName as function_name
 use Rattle.clos_forms.specs.declared.operator.FunctionName.{FunctionName}
-use Rattle.clos_generic_core.specs.contracts.method.Method as method
-use Rattle.clos_generic_core.specs.contracts.shape.Shape as shape
-use Rattle.clos_generic_core.specs.declared.method.Method.{Method}
-use Rattle.clos_generic_core.specs.declared.shape.Shape.{Shape}
+use Rattle.clos_method.specs.contracts.method.Method as method
+use Rattle.clos_method.specs.contracts.shape.Shape as shape
+use Rattle.clos_method.specs.declared.method.Method.{Method}
+use Rattle.clos_method.specs.declared.shape.Shape.{Shape}
 use Rattle.clos_syntax.specs.contracts.generic.CombinationUse as combination
 use Rattle.clos_syntax.specs.declared.generic.CombinationUse.{CombinationUse}
 use Rattle.clos_generic.specs.Table.{Function, Table}

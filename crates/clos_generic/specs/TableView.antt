@@ -1,9 +1,9 @@
 -- The table of generic functions as its contracts see it.
 use Rattle.std.specs.Prelude.{◌≡◌, ℕ, List, [], ◌∷◌, ◌++◌, Option, Some, None, option_map, map, if◌then◌else◌}
-use Rattle.lisp_data.specs.Name.{Nam}
+use Rattle.lisp_data.specs.Name.{Name}
 use Rattle.lisp_data.specs.declared.ids.GenericId.{GenericId}
 use Rattle.clos_forms.specs.declared.operator.FunctionName.{FunctionName}
-use Rattle.clos_generic_core.specs.MethodIds.{method_numbers}
+use Rattle.clos_method.specs.MethodIds.{method_numbers}
 use Rattle.clos_generic.specs.Table.{Function, Table, after_first, made, named_in, redefined, same_function, with_changed}
 use Rattle.clos_generic.specs.declared.options.Options.{Options}
 use Rattle.clos_generic.specs.declared.function.Function as code
@@ -30,8 +30,8 @@ abbrev pub with_redefined : ℕ → FunctionName → Options → Table → Table
 with_redefined g name o t = record t { functions = with_changed (redefined o) g t.functions; definitions = after_first (λ n. same_function n name) t.definitions }
 
 -- of each of these names this is the number of its function
-abbrev pub IsIndexed : List Function → (Nam → FunctionName) → (Nam → Option GenericId) → Type 0
-IsIndexed fs called numbered = (name : Nam) → option_map (λ g. g.0) (numbered name) ≡ named_in fs (called name)
+abbrev pub IsIndexed : List Function → (Name → FunctionName) → (Name → Option GenericId) → Type 0
+IsIndexed fs called numbered = (name : Name) → option_map (λ g. g.0) (numbered name) ≡ named_in fs (called name)
 
 -- the number of the one name
 abbrev pub noted : FunctionName → GenericId → FunctionName → Option GenericId

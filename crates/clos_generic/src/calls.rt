@@ -1,11 +1,11 @@
 //! What calls of a generic function ask of the table.
 ghost use Rattle.std.specs.Prelude.{◌≡◌, IfOk};
 ghost use Rattle.lisp_data.specs.ValueView.{value_of};
-ghost use Rattle.clos_generic_core.specs.MethodIds.{method_numbers};
+ghost use Rattle.clos_method.specs.MethodIds.{method_numbers};
 ghost use Rattle.clos_generic.specs.Calls.{accepts, allows_all, checks_keywords, has_eql, ordered};
 
 use crate::table::Generics;
-use clos_generic_core::{Arguments, MethodIds, ordered_methods};
+use clos_method::{Arguments, MethodIds, ordered_methods};
 use lisp_data::{GenericId, MethodId, Name, Value};
 use std::alloc::{AllocError, Global};
 
@@ -39,7 +39,7 @@ impl Generics {
         match self.function(id) {
             None => false,
             Some(function) => {
-                clos_generic_core::has_eql(self.methods(), function.methods(), place, object)
+                clos_method::has_eql(self.methods(), function.methods(), place, object)
             }
         }
     }
@@ -51,7 +51,7 @@ impl Generics {
     {
         match self.function(id) {
             None => false,
-            Some(function) => clos_generic_core::checks_keywords(
+            Some(function) => clos_method::checks_keywords(
                 function.shape(),
                 self.methods(),
                 applicable,
@@ -66,7 +66,7 @@ impl Generics {
         match self.function(id) {
             None => false,
             Some(function) => {
-                clos_generic_core::allows_all(function.shape(), self.methods(), applicable)
+                clos_method::allows_all(function.shape(), self.methods(), applicable)
             }
         }
     }
@@ -77,7 +77,7 @@ impl Generics {
     {
         match self.function(id) {
             None => false,
-            Some(function) => clos_generic_core::accepts_keyword(
+            Some(function) => clos_method::accepts_keyword(
                 function.shape(),
                 self.methods(),
                 applicable,

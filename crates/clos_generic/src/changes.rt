@@ -3,7 +3,7 @@ ghost use Rattle.std.specs.Prelude.{◌≡◌, ◌++◌, ◌∷◌, [], MatchOpt
 
 use crate::options::Options;
 use clos_forms::FunctionName;
-use clos_generic_core::{Qualifiers, Shape, Specializers};
+use clos_method::{Qualifiers, Shape, Specializers};
 use lisp_data::{GenericId, MethodId};
 use std::alloc::{AllocError, Global};
 use std::marker::Model;

@@ -2,13 +2,13 @@
 ghost use Rattle.std.specs.Prelude.{◌≡◌, ◌==◌, ◌<◌, ◌≤◌, ◌+◌, [], IfOk, IsOk, OnOk, OnErr, option_map, vec_len, vec_capacity};
 ghost use Rattle.std.specs.List.{find};
 ghost use Rattle.clos_generic.specs.Table.{added, is_alike_at, made, redefined, with_methods, without};
-ghost use Rattle.clos_generic_core.specs.MethodIds.{method_numbers};
+ghost use Rattle.clos_method.specs.MethodIds.{method_numbers};
 ghost use Rattle.clos_generic.specs.TableView.{function_of};
 
 use crate::methods::{take_alike, take_number};
 use crate::options::Options;
 use clos_forms::FunctionName;
-use clos_generic_core::{Method, Shape};
+use clos_method::{Method, Shape};
 use clos_syntax::CombinationUse;
 use lisp_data::MethodId;
 use std::alloc::AllocError;

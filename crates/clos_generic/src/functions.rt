@@ -7,7 +7,7 @@ ghost use Rattle.clos_generic.specs.TableView.{functions_in};
 
 use crate::function::Function;
 use crate::options::Options;
-use clos_generic_core::Method;
+use clos_method::Method;
 use lisp_data::{GenericId, MethodId};
 use std::alloc::AllocError;
 use std::collections::VecDeque;

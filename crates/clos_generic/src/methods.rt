@@ -1,12 +1,12 @@
 //! Methods by their numbers.
 ghost use Rattle.std.specs.Prelude.{◌≡◌, ◌≤◌, ◌==◌, option_map, position, slice_get, vec_len, vec_capacity};
 ghost use Rattle.std.specs.List.{find, list_all, list_any};
-ghost use Rattle.clos_generic_core.specs.Specializer.{specializer_of};
+ghost use Rattle.clos_method.specs.Specializer.{specializer_of};
 ghost use Rattle.clos_generic.specs.Fault.{all_fit, fits_in, is_permitted_one};
 ghost use Rattle.clos_generic.specs.Table.{is_alike_at, without};
-ghost use Rattle.clos_generic_core.specs.MethodIds.{method_numbers};
+ghost use Rattle.clos_method.specs.MethodIds.{method_numbers};
 
-use clos_generic_core::{
+use clos_method::{
     Method, Qualifiers, Shape, Specializer, Specializers, is_congruent, is_permitted,
     method_numbered,
 };

@@ -2,7 +2,7 @@
 ghost use Rattle.std.specs.Prelude.{◌≡◌, ◌<◌, ◌≤◌, ◌+◌, IsOk, ◌↔◌, Some, None, IsTrue, OnOk, OnErr, IfOk, if◌then◌else◌, option_map};
 ghost use Rattle.std.specs.Option.{option_or};
 ghost use Rattle.std.specs.HashMap.{get, spare};
-ghost use Rattle.lisp_data.specs.Name.{Nam, same_name};
+ghost use Rattle.lisp_data.specs.Name.{Name, same_name};
 ghost use Rattle.clos_forms.specs.declared.operator.FunctionName.TheVariants.{Symbol, Setf};
 ghost use Rattle.clos_generic.specs.Table.{same_function};
 ghost use Rattle.clos_generic.specs.TableView.{noted};
@@ -40,10 +40,10 @@ pub fn note_function(
     name: FunctionName,
     id: GenericId,
 ) -> Result<(), AllocError>
-    ensures symbols { OnOk result ((n : Nam) → get same_name symbols.new n ≡ option_or (get same_name symbols.old n) (noted name id (Symbol n))) }
-    ensures setters { OnOk result ((n : Nam) → get same_name setters.new n ≡ option_or (get same_name setters.old n) (noted name id (Setf n))) }
-    ensures err_symbols { OnErr result ((n : Nam) → get same_name symbols.new n ≡ get same_name symbols.old n) }
-    ensures err_setters { OnErr result ((n : Nam) → get same_name setters.new n ≡ get same_name setters.old n) }
+    ensures symbols { OnOk result ((n : Name) → get same_name symbols.new n ≡ option_or (get same_name symbols.old n) (noted name id (Symbol n))) }
+    ensures setters { OnOk result ((n : Name) → get same_name setters.new n ≡ option_or (get same_name setters.old n) (noted name id (Setf n))) }
+    ensures err_symbols { OnErr result ((n : Name) → get same_name symbols.new n ≡ get same_name symbols.old n) }
+    ensures err_setters { OnErr result ((n : Name) → get same_name setters.new n ≡ get same_name setters.old n) }
     ensures succeeds { 0 < spare symbols.old → 0 < spare setters.old → IsOk result }
     ensures spare_symbols { spare symbols.old ≤ spare symbols.new + 1 }
     ensures spare_setters { spare setters.old ≤ spare setters.new + 1 }
@@ -56,8 +56,8 @@ pub fn note_function(
 
 /// Notes a number under a name, unless the name has one.
 fn note(index: &mut HashMap<Name, GenericId>, name: Name, id: GenericId) -> Result<(), AllocError>
-    ensures ok { OnOk result ((n : Nam) → get same_name index.new n ≡ option_or (get same_name index.old n) (if same_name name n then Some id else None)) }
-    ensures err { OnErr result ((n : Nam) → get same_name index.new n ≡ get same_name index.old n) }
+    ensures ok { OnOk result ((n : Name) → get same_name index.new n ≡ option_or (get same_name index.old n) (if same_name name n then Some id else None)) }
+    ensures err { OnErr result ((n : Name) → get same_name index.new n ≡ get same_name index.old n) }
     ensures succeeds { 0 < spare index.old → IsOk result }
     ensures spare { spare index.old ≤ spare index.new + 1 }
 {

@@ -2,7 +2,7 @@
 ghost use Rattle.std.specs.Prelude.{◌≡◌, ◌++◌, ◌∷◌, [], IfOk, OnOk, if◌then◌else◌, is_ok};
 ghost use Rattle.clos_generic.specs.Initial.{left_to_right, standard, standard_options};
 
-use clos_generic_core::Shape;
+use clos_method::Shape;
 use clos_syntax::CombinationUse;
 use lisp_data::{Data, Name};
 use std::alloc::{AllocError, Global};

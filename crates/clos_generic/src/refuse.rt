@@ -1,7 +1,7 @@
 //! Why the changes of a definition form can't be made.
 ghost use Rattle.std.specs.Prelude.{◌≡◌, ◌<◌, ◌≤◌, ◌+◌, None, MatchResult, length, not, is_some, option_map, slice_get};
 ghost use Rattle.std.specs.List.{list_all, list_any};
-ghost use Rattle.clos_generic_core.specs.MethodIds.{method_numbers};
+ghost use Rattle.clos_method.specs.MethodIds.{method_numbers};
 ghost use Rattle.clos_generic.specs.Changes.{addition_fits, all_congruent, all_supported, changes_refusal, closed_refusal, definition_fits, fits_or_goes, has_open, is_removal_of, is_supported, new_functions, one_more_if_new, has_number, removals_refusal, shape_after, shape_if, shape_in, staying_fit, too_many};
 ghost use Rattle.clos_generic.specs.Fault.{is_system};
 ghost use Rattle.clos_generic.specs.FaultView.{Tells};
@@ -12,7 +12,7 @@ use crate::fault::GenericFault;
 use crate::methods::{all_permitted, fits_at};
 use crate::table::Generics;
 use clos_forms::FunctionName;
-use clos_generic_core::{Shape, SystemFunction, is_congruent};
+use clos_method::{Shape, SystemFunction, is_congruent};
 use lisp_data::{GenericId, MethodId};
 
 /// Whether a method is to go from this function.

@@ -3,7 +3,7 @@ ghost use Rattle.std.specs.Prelude.{◌≡◌, IfOk};
 ghost use Rattle.clos_generic.specs.Initial.{system_options};
 
 use crate::options::Options;
-use clos_generic_core::SystemFunction;
+use clos_method::SystemFunction;
 use std::alloc::{AllocError, Global};
 
 /// What a function of the system is defined with.

@@ -3,7 +3,7 @@ ghost use Rattle.std.specs.Prelude.{◌≡◌, ◌==◌, ◌<◌, ◌+◌, ◌-�
 ghost use Rattle.std.specs.List.{list_any};
 ghost use Rattle.clos_forms.specs.declared.operator.FunctionName.TheVariants.{Symbol, Setf};
 ghost use Rattle.clos_generic.specs.Changes.{changes_refusal, released, reserved};
-ghost use Rattle.clos_generic_core.specs.System.{system_functions};
+ghost use Rattle.clos_method.specs.System.{system_functions};
 ghost use Rattle.clos_generic.specs.Fault.{addition_refusal, all_fit, definition_refusal, is_system, refusal_at, removal_refusal, system_count, takes_in};
 ghost use Rattle.clos_generic.specs.FaultView.{Refuses, Tells};
 ghost use Rattle.clos_generic.specs.Initial.{empty, initial, with_system, with_systems};
@@ -20,7 +20,7 @@ use crate::options::Options;
 use crate::spare::{Spare, functions_of, pass_addition, spares_for, take_spare};
 use crate::system::system_options;
 use clos_forms::FunctionName;
-use clos_generic_core::{Method, Qualifiers, Shape, Specializers, SystemFunction, is_congruent};
+use clos_method::{Method, Qualifiers, Shape, Specializers, SystemFunction, is_congruent};
 use lisp_data::{GenericId, MethodId, Name};
 use std::alloc::{AllocError, Global};
 use std::collections::{HashMap, VecDeque};

@@ -1,7 +1,7 @@
 -- Lambda lists (HyperSpec 3.4.1, 3.4.2, 3.4.3).
 use Rattle.std.specs.Prelude.{List, [], ◌∷◌, ◌++◌, Bool, true, false, ◌||◌, codes, Option, Some, None, is_some, if◌then◌else◌}
 use Rattle.std.specs.List.{list_any}
-use Rattle.lisp_data.specs.Name.{Nam}
+use Rattle.lisp_data.specs.Name.{Name}
 use Rattle.lisp_data.specs.Datum.{Dat, integer, symbol, string, list, dotted, method, Dats, nil, cons}
 use Rattle.clos_forms.specs.Binding.{each}
 use Rattle.clos_forms.specs.Distinct.{are_distinct}
@@ -17,24 +17,24 @@ use Rattle.clos_lambda.specs.declared.lambda_list.Key.{Key}
 use Rattle.clos_lambda.specs.declared.lambda_list.Keys.{Keys}
 use Rattle.clos_lambda.specs.declared.lambda_list.LambdaList.{LambdaList}
 
-abbrev pub unless_keyword : Nam → Option Nam
+abbrev pub unless_keyword : Name → Option Name
 unless_keyword name = if is_lambda_list_keyword name then None else Some name
 
 -- a variable of a lambda list: a symbol that may be bound, and no lambda list keyword
-abbrev pub parameter_in : Dat → Option Nam
+abbrev pub parameter_in : Dat → Option Name
 parameter_in d = variable_in d >>= unless_keyword
 
 -- ---- &optional
 
-abbrev pub bare : Nam → Optional
+abbrev pub bare : Name → Optional
 bare name = record { name = name; init = None; given = None }
 
-abbrev pub given_in : Option Dat → Option (Option Nam)
+abbrev pub given_in : Option Dat → Option (Option Name)
 given_in None = Some None
 given_in (Some d) = parameter_in d >>= λ n. Some (Some n)
 
 -- what may follow the variable: an init form, and then a variable that tells whether there is an argument
-abbrev pub optional_with : Nam → Dats → Option Optional
+abbrev pub optional_with : Name → Dats → Option Optional
 optional_with name nil = Some (bare name)
 optional_with name (cons init rest) =
     form_of Plain init >>= λ f. at_most_one rest >>= given_in >>= λ g. Some (record { name = name; init = Some f; given = g })
@@ -58,16 +58,16 @@ optionals_in (Some section) = each optional_in (front section)
 
 -- ---- &rest
 
-abbrev pub rest_in : Option Dats → Option (Option Nam)
+abbrev pub rest_in : Option Dats → Option (Option Name)
 rest_in None = Some None
 rest_in (Some section) = each parameter_in (front section) >>= the_one >>= λ n. Some (Some n)
 
 -- ---- &key
 
-abbrev pub keyword_of : Nam → Nam
+abbrev pub keyword_of : Name → Name
 keyword_of name = record { text = name.text; keyword = true }
 
-abbrev pub keyed : Nam → Optional → Key
+abbrev pub keyed : Name → Optional → Key
 keyed keyword variable = record { keyword = keyword; variable = variable }
 
 -- (name v), and what follows it
@@ -77,7 +77,7 @@ named_key (cons name variable) rest =
     symbol_in name >>= λ k. only_in variable >>= parameter_in >>= λ n. optional_with n rest >>= λ o. Some (keyed k o)
 
 -- v, and what follows it
-abbrev pub plain_key : Nam → Dats → Option Key
+abbrev pub plain_key : Name → Dats → Option Key
 plain_key name rest = optional_with name rest >>= λ o. Some (keyed (keyword_of name) o)
 
 abbrev pub key_with : Dat → Dats → Option Key
@@ -116,18 +116,18 @@ keys_from (Some section) l =
 
 -- ---- all sections
 
-abbrev pub names_in : Option Nam → List Nam
+abbrev pub names_in : Option Name → List Name
 names_in None = []
 names_in (Some n) = n ∷ []
 
-abbrev pub variables_of : Optional → List Nam
+abbrev pub variables_of : Optional → List Name
 variables_of o = o.name ∷ names_in o.given
 
-abbrev pub optional_variables : List Optional → List Nam
+abbrev pub optional_variables : List Optional → List Name
 optional_variables [] = []
 optional_variables (o ∷ os) = variables_of o ++ optional_variables os
 
-abbrev pub key_variables : List Key → List Nam
+abbrev pub key_variables : List Key → List Name
 key_variables [] = []
 key_variables (k ∷ ks) = variables_of k.variable ++ key_variables ks
 
@@ -135,24 +135,24 @@ abbrev pub entries_of : Option Keys → List Key
 entries_of None = []
 entries_of (Some ks) = ks.entries
 
-abbrev pub all_variables : LambdaList → List Nam
+abbrev pub all_variables : LambdaList → List Name
 all_variables l = l.required ++ (optional_variables l.optional ++ (names_in l.rest ++ key_variables (entries_of l.keys)))
 
 -- no variable twice (3.4.1)
 abbrev pub if_distinct : LambdaList → Option LambdaList
 if_distinct l = if are_distinct (all_variables l) then Some l else None
 
-abbrev pub with_keys : List Nam → List Optional → Option Nam → Dats → Option LambdaList
+abbrev pub with_keys : List Name → List Optional → Option Name → Dats → Option LambdaList
 with_keys required optional rest l =
     keys_from (after (codes "&KEY") l) l
     >>= λ keys. if_distinct (record { required = required; optional = optional; rest = rest; keys = keys })
 
-abbrev pub with_rest : List Nam → List Optional → Dats → Option LambdaList
+abbrev pub with_rest : List Name → List Optional → Dats → Option LambdaList
 with_rest required optional l =
     rest_in (after (codes "&REST") l) >>= λ rest. with_keys required optional rest (past l (after (codes "&REST") l))
 
 -- the lambda list of these required parameters, from the first lambda list keyword on
-abbrev pub with_optionals : List Nam → Dats → Option LambdaList
+abbrev pub with_optionals : List Name → Dats → Option LambdaList
 with_optionals required l =
     optionals_in (after (codes "&OPTIONAL") l) >>= λ optional. with_rest required optional (past l (after (codes "&OPTIONAL") l))
 

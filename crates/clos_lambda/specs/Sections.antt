@@ -1,6 +1,6 @@
 -- The sections of a lambda list, which lambda list keywords part (HyperSpec 3.4).
 use Rattle.std.specs.Prelude.{ℕ, List, [], ◌∷◌, Bool, false, codes, Option, Some, None, if◌then◌else◌}
-use Rattle.lisp_data.specs.Name.{Nam}
+use Rattle.lisp_data.specs.Name.{Name}
 use Rattle.lisp_data.specs.Datum.{Dat, integer, symbol, string, list, dotted, method, Dats, nil, cons}
 use Rattle.clos_forms.specs.Names.{is_called, is_one_of}
 
@@ -9,7 +9,7 @@ abbrev pub lambda_list_keywords : List (List ℕ)
 lambda_list_keywords =
     codes "&OPTIONAL" ∷ codes "&REST" ∷ codes "&KEY" ∷ codes "&ALLOW-OTHER-KEYS" ∷ codes "&AUX" ∷ codes "&BODY" ∷ codes "&WHOLE" ∷ codes "&ENVIRONMENT" ∷ []
 
-abbrev pub is_lambda_list_keyword : Nam → Bool
+abbrev pub is_lambda_list_keyword : Name → Bool
 is_lambda_list_keyword name = is_one_of lambda_list_keywords name
 
 abbrev pub ends_section : Dat → Bool

@@ -3,7 +3,7 @@ use Rattle.std.proofs.Common.{◌≡◌, ◌<◌, ℕ, zero, suc, arith, drop, s
 use Rattle.std.specs.Prelude.{is_some, if◌then◌else◌}
 use Rattle.std.proofs.Math.Seq.{drop-cons}
 use Rattle.std.proofs.lemmas.List.{take-map, reverse-reverse, length-reverse, length-map, map-append, reverse-append, append_assoc}
-use Rattle.lisp_data.specs.Name.{Nam, same_name}
+use Rattle.lisp_data.specs.Name.{Name, same_name}
 use Rattle.lisp_data.specs.Value.{Val}
 use Rattle.lisp_data.specs.ValueView.{value_of}
 use Rattle.lisp_data.specs.declared.value.Value.{Value}
@@ -26,14 +26,14 @@ last_mapped f (z ∷ xs) x ys = ap (λ l. f z ∷ l) (last_mapped f xs x ys)
 -- ---- the lexical names, the innermost first
 
 -- past other names
-named_past : (name : Nam) (xs ys : List (Nam × Denoted)) → local_named xs name ≡ None → local_named (xs ++ ys) name ≡ local_named ys name
+named_past : (name : Name) (xs ys : List (Name × Denoted)) → local_named xs name ≡ None → local_named (xs ++ ys) name ≡ local_named ys name
 named_past name [] ys h = refl
 named_past name (x ∷ xs) ys h =
     elim (same_name x.0 name)
     as (λ b. (if b then Some x.1 else local_named xs name) ≡ None → (if b then Some x.1 else local_named (xs ++ ys) name) ≡ local_named ys name)
     [ true ↦ λ e. absurd (cc e) | false ↦ λ e. named_past name xs ys e ] h
 
-set_past : (name : Nam) (v : Val) (xs ys : List (Nam × Denoted)) → local_named xs name ≡ None → with_local name v (xs ++ ys) ≡ xs ++ with_local name v ys
+set_past : (name : Name) (v : Val) (xs ys : List (Name × Denoted)) → local_named xs name ≡ None → with_local name v (xs ++ ys) ≡ xs ++ with_local name v ys
 set_past name v [] ys h = refl
 set_past name v (x ∷ xs) ys h =
     elim (same_name x.0 name)
@@ -47,19 +47,19 @@ turned_round before x after =
     ∙ ap (λ l. l ++ reverse (map local_of before)) (reverse-append (local_of x ∷ []) (map local_of after))
     ∙ append_assoc (reverse (map local_of after)) (local_of x ∷ []) (reverse (map local_of before))
 
-other_name : (name : Nam) (x : Local) (after : List Local) → same_name x.name name ≡ false → local_named (reverse (map local_of after)) name ≡ None
+other_name : (name : Name) (x : Local) (after : List Local) → same_name x.name name ≡ false → local_named (reverse (map local_of after)) name ≡ None
     → local_named (reverse (map local_of (x ∷ after))) name ≡ None
 other_name name x after e h =
     ap (λ l. local_named l name) (turned_round [] x after) ∙ named_past name (reverse (map local_of after)) (local_of x ∷ []) h
     ∙ ap (λ b. if b then Some (denoted_of x.denotation) else None) e
 
-this_name : (name : Nam) (before : List Local) (x : Local) (after : List Local) → same_name x.name name ≡ true → local_named (reverse (map local_of after)) name ≡ None
+this_name : (name : Name) (before : List Local) (x : Local) (after : List Local) → same_name x.name name ≡ true → local_named (reverse (map local_of after)) name ≡ None
     → is_some (local_named (reverse (map local_of (before ++ x ∷ after))) name) ≡ true
 this_name name before x after e h =
     ap is_some (ap (λ l. local_named l name) (turned_round before x after) ∙ named_past name (reverse (map local_of after)) (local_of x ∷ reverse (map local_of before)) h
     ∙ ap (λ b. if b then Some (denoted_of x.denotation) else local_named (reverse (map local_of before)) name) e)
 
-this_set : (name : Nam) (before : List Local) (x : Local) (after : List Local) (value : Value) → same_name x.name name ≡ true → local_named (reverse (map local_of after)) name ≡ None
+this_set : (name : Name) (before : List Local) (x : Local) (after : List Local) (value : Value) → same_name x.name name ≡ true → local_named (reverse (map local_of after)) name ≡ None
     → reverse (map local_of (before ++ (record x { denotation = Held value }) ∷ after)) ≡ with_local name (value_of value) (reverse (map local_of (before ++ x ∷ after)))
 this_set name before x after value e h =
     turned_round before (record x { denotation = Held value }) after
@@ -79,12 +79,12 @@ split_at (y ∷ xs) zero x h e = ap (λ z. z ∷ xs) e
 split_at (y ∷ xs) (suc i) x h e = ap (λ l. y ∷ l) (split_at xs i x (omega (arith, h)) e)
 
 -- the one at a place, where none after it has the name
-pub other_at : (name : Nam) (xs : List Local) (i : ℕ) (x : Local) → i < length xs → get_or xs i x ≡ x → same_name x.name name ≡ false
+pub other_at : (name : Name) (xs : List Local) (i : ℕ) (x : Local) → i < length xs → get_or xs i x ≡ x → same_name x.name name ≡ false
     → local_named (reverse (map local_of (drop (suc i) xs))) name ≡ None → local_named (reverse (map local_of (drop i xs))) name ≡ None
 other_at name xs i x h e n r =
     ap (λ l. local_named (reverse (map local_of l)) name) (drop-cons xs i x h ∙ ap (λ y. y ∷ drop (suc i) xs) e) ∙ other_name name x (drop (suc i) xs) n r
 
-pub this_at : (name : Nam) (xs : List Local) (i : ℕ) (x : Local) (value : Value) → i < length xs → get_or xs i x ≡ x → same_name x.name name ≡ true
+pub this_at : (name : Name) (xs : List Local) (i : ℕ) (x : Local) (value : Value) → i < length xs → get_or xs i x ≡ x → same_name x.name name ≡ true
     → local_named (reverse (map local_of (drop (suc i) xs))) name ≡ None
     → (is_some (local_named (reverse (map local_of xs)) name) ≡ true)
     × (reverse (map local_of (set xs i (record x { denotation = Held value }))) ≡ with_local name (value_of value) (reverse (map local_of xs)))

@@ -2,7 +2,7 @@
 use Rattle.std.proofs.Common.{ℕ, drop, List, [], ◌∷◌, ◌++◌, refl}
 use Rattle.lisp_data.specs.Value.{Val}
 use Rattle.lisp_data.specs.ValueView.{value_of}
-use Rattle.clos_forms.specs.Form.{Frms, nil, operator_in}
+use Rattle.clos_forms.specs.Form.{Forms, nil, operator_in}
 use Rattle.clos_forms.specs.Quotation.{name_value}
 use Rattle.clos_meaning.specs.clos_world.Values.{last_first}
 use Rattle.clos_meaning.specs.clos_world.World.{State, class_of_instance, unbound, held}
@@ -64,12 +64,12 @@ acted_quiet n env (FillWith f v) vs w = fill_with_quiet n env (subject_of f) (sl
 acted_quiet n env (Read t) vs w = read_quiet n env (access_of t) vs w
 acted_quiet n env CallNext vs w = next_given_quiet n env env.running vs w
 
-collect_acted_quiet : (n : ℕ) (env : Context) (fs : Frms) (vs : List Val) (a : Action) (w : State) → Quiet (collect (meaning n) env fs vs (acted (meaning n) env a) w 0) w
+collect_acted_quiet : (n : ℕ) (env : Context) (fs : Forms) (vs : List Val) (a : Action) (w : State) → Quiet (collect (meaning n) env fs vs (acted (meaning n) env a) w 0) w
 collect_acted_quiet n env fs vs a w = collect_quiet n env fs vs (acted (meaning n) env a) (λ us u. acted_quiet n env a us u) w
 
 -- ---- how forms follow one another
 
-followed_quiet : (n : ℕ) (env : Context) (c : Control) (fs : Frms) (v : Val) (w : State) → Quiet (followed (meaning n) env c fs v w 0) w
+followed_quiet : (n : ℕ) (env : Context) (c : Control) (fs : Forms) (v : Val) (w : State) → Quiet (followed (meaning n) env c fs v w 0) w
 followed_quiet n env Progn fs v w = sequence_quiet n env fs v w
 followed_quiet n env Prog1 fs v w = keeping_quiet n env fs v w
 followed_quiet n env If fs v w = branch_quiet n env (is_true v) fs w

@@ -4,7 +4,7 @@ use Rattle.std.specs.Prelude.{ℤ, pos, if◌then◌else◌}
 use Rattle.lisp_data.specs.Value.{Val, nil, list}
 use Rattle.lisp_data.specs.ValueView.{value_of}
 use Rattle.lisp_data.specs.declared.value.Value.{Value}
-use Rattle.lisp_data.specs.Name.{Nam}
+use Rattle.lisp_data.specs.Name.{Name}
 use Rattle.lisp_prims.specs.Fault as prims
 use Rattle.lisp_prims.specs.Primitive.{answer}
 use Rattle.lisp_prims.specs.declared.primitive.Primitive as of_values
@@ -15,7 +15,7 @@ use Rattle.lisp_prims.specs.declared.fault.PrimFault.TheVariants.{Memory}
 use Rattle.clos_forms.specs.Quotation.{name_value}
 use Rattle.clos_meaning.specs.clos_world.Globals.{is_global}
 use Rattle.clos_meaning.specs.Assignment.{stored, stored_globally, stored_only, made_of, changed, changed_only, global_set}
-use Rattle.clos_forms.specs.Form.{Frm}
+use Rattle.clos_forms.specs.Form.{Form}
 use Rattle.clos_meaning.specs.clos_world.World.{State, unbound}
 use Rattle.clos_meaning.specs.clos_world.declared.condition.Condition.{Condition}
 use Rattle.clos_meaning.specs.clos_world.declared.condition.ConditionKind.TheVariants.{ProgramError, UnboundVariable, StepLimit, DepthLimit}
@@ -117,32 +117,32 @@ not_computed m m' x f (Refused d) w a h k = λ t.
 
 -- ---- a f begins
 
-pub start_no_step : (m : Machine) (f : Frm) (w : State) (s : ℕ) → s ≡ 0 → denote m (Start f) w s ≡ stopped StepLimit [] (unbound w) s
+pub start_no_step : (m : Machine) (f : Form) (w : State) (s : ℕ) → s ≡ 0 → denote m (Start f) w s ≡ stopped StepLimit [] (unbound w) s
 start_no_step m f w s e =
     ap (denote m (Start f) w) e ∙ ap (λ o. closed (resume m.levels m.context o)) (no_step m.room m.context f (at m w))
     ∙ stopped_through m.levels m.context (record { kind = StepLimit; items = [] }) (at m w) 0 ∙ ap (stopped StepLimit [] (unbound w)) (sym e)
 
-too_deep : (n : ℕ) (env : Context) (f : Frm) (w : State) (s : ℕ) → n ≡ 0 → 0 < s → meaning n env f w s ≡ stopped DepthLimit [] w (s - 1)
+too_deep : (n : ℕ) (env : Context) (f : Form) (w : State) (s : ℕ) → n ≡ 0 → 0 < s → meaning n env f w s ≡ stopped DepthLimit [] w (s - 1)
 too_deep n env f w zero e h = absurd (omega arith)
 too_deep zero env f w (suc s) e h = ap (stopped DepthLimit [] w) (omega arith)
 too_deep (suc n) env f w (suc s) e h = absurd (omega arith)
 
-pub start_too_deep : (m : Machine) (f : Frm) (w : State) (s : ℕ) → m.room ≡ 0 → 0 < s → denote m (Start f) w s ≡ stopped DepthLimit [] (unbound w) (s - 1)
+pub start_too_deep : (m : Machine) (f : Form) (w : State) (s : ℕ) → m.room ≡ 0 → 0 < s → denote m (Start f) w s ≡ stopped DepthLimit [] (unbound w) (s - 1)
 start_too_deep m f w s e h =
     ap (λ o. closed (resume m.levels m.context o)) (too_deep m.room m.context f (at m w) s e h)
     ∙ stopped_through m.levels m.context (record { kind = DepthLimit; items = [] }) (at m w) (s - 1)
 
-begins : (n : ℕ) (env : Context) (f : Frm) (w : State) (s : ℕ) → 0 < n → 0 < s → meaning n env f w s ≡ body (meaning (n - 1)) env f w (s - 1)
+begins : (n : ℕ) (env : Context) (f : Form) (w : State) (s : ℕ) → 0 < n → 0 < s → meaning n env f w s ≡ body (meaning (n - 1)) env f w (s - 1)
 begins n env f w zero h k = absurd (omega arith)
 begins zero env f w (suc s) h k = absurd (omega arith)
 begins (suc n) env f w (suc s) h k =
     ap (λ j. body (meaning j) env f w s) (omega arith) ∙ ap (body (meaning (suc n - 1)) env f w) (omega arith)
 
-pub start_begins : (ls : List Level) (n : ℕ) (env : Context) (f : Frm) (w : State) (s : ℕ) → 0 < n → 0 < s
+pub start_begins : (ls : List Level) (n : ℕ) (env : Context) (f : Form) (w : State) (s : ℕ) → 0 < n → 0 < s
     → closed (resume ls env (meaning n env f w s)) ≡ closed (resume ls env (body (meaning (n - 1)) env f w (s - 1)))
 start_begins ls n env f w s h k = ap (λ o. closed (resume ls env o)) (begins n env f w s h k)
 
-pub start_begins_at : (ls : List Level) (n : ℕ) (env : Context) (f : Frm) (w : State) (t : ℕ) → 0 < n
+pub start_begins_at : (ls : List Level) (n : ℕ) (env : Context) (f : Form) (w : State) (t : ℕ) → 0 < n
     → closed (resume ls env (meaning n env f w (1 + t))) ≡ closed (resume ls env (body (meaning (n - 1)) env f w t))
 start_begins_at ls n env f w t h =
     start_begins ls n env f w (1 + t) h (omega arith) ∙ ap (λ k. closed (resume ls env (body (meaning (n - 1)) env f w k))) (omega arith)
@@ -177,25 +177,25 @@ popped m l ls value w t e = ap (λ x. closed (resume x m.context (Gave (value_of
 
 -- ---- a global variable is set
 
-pub global_unbound : (m : Machine) (name : Nam) (v : Val) (c : Condition) (w : State) (s : ℕ) → is_global w.globals name ≡ false
+pub global_unbound : (m : Machine) (name : Name) (v : Val) (c : Condition) (w : State) (s : ℕ) → is_global w.globals name ≡ false
     → c ≡ record { kind = UnboundVariable; items = name_value name ∷ [] } → inside m (stored_globally name v) w s ≡ Stopped c (unbound w) s
 global_unbound m name v c w s e k =
     ap (λ b. closed (resume m.levels m.context (if b then step_then (global_set name v) (at m w) s else stopped UnboundVariable (name_value name ∷ []) (at m w) s))) e
     ∙ stopped_through m.levels m.context (record { kind = UnboundVariable; items = name_value name ∷ [] }) (at m w) s ∙ ap (λ d. Stopped d (unbound w) s) (sym k)
 
-global_found : (m : Machine) (name : Nam) (v : Val) (w : State) (s : ℕ) → is_global w.globals name ≡ true
+global_found : (m : Machine) (name : Name) (v : Val) (w : State) (s : ℕ) → is_global w.globals name ≡ true
     → inside m (stored_globally name v) w s ≡ inside m (step_then (global_set name v)) w s
 global_found m name v w s e =
     ap (λ b. closed (resume m.levels m.context (if b then step_then (global_set name v) (at m w) s else stopped UnboundVariable (name_value name ∷ []) (at m w) s))) e
 
-pub global_no_step : (m : Machine) (name : Nam) (v : Val) (c : Condition) (w : State) (s : ℕ) → is_global w.globals name ≡ true → s ≡ 0
+pub global_no_step : (m : Machine) (name : Name) (v : Val) (c : Condition) (w : State) (s : ℕ) → is_global w.globals name ≡ true → s ≡ 0
     → c ≡ record { kind = StepLimit; items = [] } → inside m (stored_globally name v) w s ≡ Stopped c (unbound w) s
 global_no_step m name v c w s e z k =
     global_found m name v w s e ∙ ap (inside m (step_then (global_set name v)) w) z
     ∙ stopped_through m.levels m.context (record { kind = StepLimit; items = [] }) (at m w) 0
     ∙ ap (λ d. Stopped d (unbound w) 0) (sym k) ∙ ap (Stopped c (unbound w)) (sym z)
 
-pub global_next : (m : Machine) (name : Nam) (v : Val) (w : State) (t : ℕ) → is_global w.globals name ≡ true
+pub global_next : (m : Machine) (name : Name) (v : Val) (w : State) (t : ℕ) → is_global w.globals name ≡ true
     → inside m (stored_globally name v) w (1 + t) ≡ inside m (global_set name v) w t
 global_next m name v w t e = global_found m name v w (1 + t) e ∙ ap (inside m (step_then (global_set name v)) w) (one_more t)
 
@@ -230,24 +230,24 @@ becomes_same run run' w (Ok v) e h = λ t. e t ∙ h t
 becomes_same run run' w (Err (Refused c)) e h = λ t. e t ∙ h t
 becomes_same run run' w (Err Storage) e h = tt
 
-pub made_from : (p : of_values.Primitive) (name : Nam) (amount : Val) (w : State) (v : Val) (r : Result Value Stop) → Some v ≡ found_value w name
+pub made_from : (p : of_values.Primitive) (name : Name) (amount : Val) (w : State) (v : Val) (r : Result Value Stop) → Some v ≡ found_value w name
     → Becomes (answered (answer p (v ∷ amount ∷ []))) w r → Becomes (made_of p name amount) w r
 made_from p name amount w v r e h =
     becomes_same (answered (answer p (v ∷ amount ∷ []))) (made_of p name amount) w r
     (λ t. ap (λ o. then_do (variable_value name o w t) (λ old. answered (answer p (old ∷ amount ∷ [])))) (sym e)) h
 
-pub not_changed : (m : Machine) (p : of_values.Primitive) (name : Nam) (amount : Val) (w : State) (s : ℕ) (stop : Stop) (n : Machine)
+pub not_changed : (m : Machine) (p : of_values.Primitive) (name : Name) (amount : Val) (w : State) (s : ℕ) (stop : Stop) (n : Machine)
     → Becomes (made_of p name amount) (at m w) (Err stop) → Turns (inside m (changed p name amount)) w s (Err stop) n w s
 not_changed m p name amount w s (Refused c) n h =
     ap (λ o. closed (resume m.levels m.context (then_do o (λ v. stored name v)))) (h s) ∙ stopped_through m.levels m.context c (at m w) s
 not_changed m p name amount w s Storage n h = (refl, refl)
 
-pub nothing_stored : (m : Machine) (name : Nam) (o : Option Val) (c : Condition) (w : State) (s : ℕ) → None ≡ o → c ≡ record { kind = ProgramError; items = [] }
+pub nothing_stored : (m : Machine) (name : Name) (o : Option Val) (c : Condition) (w : State) (s : ℕ) → None ≡ o → c ≡ record { kind = ProgramError; items = [] }
     → inside m (stored_only name o) w s ≡ Stopped c (unbound w) s
 nothing_stored m name None c w s e k = stopped_through m.levels m.context (record { kind = ProgramError; items = [] }) (at m w) s ∙ ap (λ d. Stopped d (unbound w) s) (sym k)
 nothing_stored m name (Some v) c w s e k = cc
 
-pub nothing_changed : (m : Machine) (p : of_values.Primitive) (name : Nam) (o : Option Val) (c : Condition) (w : State) (s : ℕ) → None ≡ o
+pub nothing_changed : (m : Machine) (p : of_values.Primitive) (name : Name) (o : Option Val) (c : Condition) (w : State) (s : ℕ) → None ≡ o
     → c ≡ record { kind = ProgramError; items = [] } → inside m (changed_only p name o) w s ≡ Stopped c (unbound w) s
 nothing_changed m p name None c w s e k = stopped_through m.levels m.context (record { kind = ProgramError; items = [] }) (at m w) s ∙ ap (λ d. Stopped d (unbound w) s) (sym k)
 nothing_changed m p name (Some v) c w s e k = cc

@@ -1,13 +1,13 @@
 -- Outcomes through the levels of the machine.
 use Rattle.std.proofs.Common.{◌≡◌, ℕ, ◌<◌, ◌≤◌, arith, Result, Ok, Err, List, [], ◌∷◌, Option, Some, None, refl, ap, sym, subst, ◌∙◌}
 use Rattle.lisp_data.specs.Value.{Val}
-use Rattle.clos_forms.specs.Form.{Frms, nil, cons}
+use Rattle.clos_forms.specs.Form.{Forms, nil, cons}
 use Rattle.clos_meaning.specs.clos_world.World.{State, Local, bound_as, unbound}
 use Rattle.clos_meaning.specs.clos_world.declared.condition.Condition.{Condition}
 use Rattle.clos_meaning.specs.clos_world.declared.condition.ConditionKind.TheVariants.{ProgramError}
 use Rattle.clos_meaning.specs.clos_world.declared.condition.Stop.{Stop}
 use Rattle.clos_meaning.specs.clos_world.declared.condition.Stop.TheVariants.{Refused, Storage}
-use Rattle.clos_meaning.specs.clos_world.clos_generic_core.declared.method.Method.{Method}
+use Rattle.clos_meaning.specs.clos_world.clos_method.declared.method.Method.{Method}
 use Rattle.clos_meaning.specs.Calls.{method_run}
 use Rattle.clos_meaning.specs.Control.{sequence, while_true, until_true}
 use Rattle.clos_machine.specs.Machine.{after, at, below, resume, inside, Grows, Leads, Shrinks, going}
@@ -75,15 +75,15 @@ shrinks_by n k s s' old (Ok d) m l h g = omega (arith, l, h, g)
 shrinks_by n k s s' old (Err e) m l h g = tt
 
 -- how forms go on, in the words of the machine
-pub going_progn : (ev : Eval) (env : Context) (fs : Frms) (v : Val) (w : State) (t : ℕ) → going ev env Progn fs v w t ≡ sequence ev env fs v w t
+pub going_progn : (ev : Eval) (env : Context) (fs : Forms) (v : Val) (w : State) (t : ℕ) → going ev env Progn fs v w t ≡ sequence ev env fs v w t
 going_progn ev env nil v w t = refl
 going_progn ev env (cons f fs) v w t = refl
 
-pub going_and : (ev : Eval) (env : Context) (fs : Frms) (v : Val) (w : State) (t : ℕ) → going ev env And fs v w t ≡ while_true ev env fs v w t
+pub going_and : (ev : Eval) (env : Context) (fs : Forms) (v : Val) (w : State) (t : ℕ) → going ev env And fs v w t ≡ while_true ev env fs v w t
 going_and ev env nil v w t = refl
 going_and ev env (cons f fs) v w t = refl
 
-pub going_or : (ev : Eval) (env : Context) (fs : Frms) (v : Val) (w : State) (t : ℕ) → going ev env Or fs v w t ≡ until_true ev env fs v w t
+pub going_or : (ev : Eval) (env : Context) (fs : Forms) (v : Val) (w : State) (t : ℕ) → going ev env Or fs v w t ≡ until_true ev env fs v w t
 going_or ev env nil v w t = refl
 going_or ev env (cons f fs) v w t = refl
 

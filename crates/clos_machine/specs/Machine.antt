@@ -1,6 +1,6 @@
 -- What a state of the machine stands for: the rest of the definition.
 use Rattle.std.specs.Prelude.{◌≡◌, ℕ, suc, ◌+◌, ◌*◌, ◌≤◌, ◌<◌, List, [], ◌∷◌, ◌++◌, Result, Ok, Err, Option, Some, None, drop, slice_get, true, if◌then◌else◌}
-use Rattle.lisp_data.specs.Name.{Nam}
+use Rattle.lisp_data.specs.Name.{Name}
 use Rattle.lisp_data.specs.Value.{Val, instance, list, nil}
 use Rattle.lisp_data.specs.ValueView.{value_of}
 use Rattle.std.specs.Option.{option_map_or}
@@ -8,10 +8,10 @@ use Rattle.lisp_data.specs.declared.ids.ClassId.{ClassId}
 use Rattle.lisp_data.specs.declared.ids.InstanceId.{InstanceId}
 use Rattle.lisp_data.specs.declared.value.Value.{Value}
 use Rattle.lisp_prims.specs.Primitive.{truth}
-use Rattle.clos_forms.specs.Form.{Frm, Frms, operator_in}
+use Rattle.clos_forms.specs.Form.{Form, Forms, operator_in}
 use Rattle.clos_forms.specs.Form as form
 use Rattle.clos_forms.specs.Operator as of
-use Rattle.clos_forms.specs.Operator.{Opr, Bound, BoundSlot}
+use Rattle.clos_forms.specs.Operator.{Operator, Bound, BoundSlot}
 use Rattle.clos_forms.specs.Quotation.{name_value}
 use Rattle.clos_meaning.specs.clos_world.Globals.{Variables, is_global}
 use Rattle.clos_meaning.specs.clos_world.Values.{last_first}
@@ -110,13 +110,13 @@ performed ev env (Writer slot) = written_by ev env slot
 performed ev env (System f) = system_method_run ev f
 
 -- these forms, and then what is done with their values
-abbrev pub collected : Eval → Context → Frms → Action → Run
+abbrev pub collected : Eval → Context → Forms → Action → Run
 collected ev env fs action w s = collect ev env fs [] (acted ev env action) w s
 
 -- ---- how forms follow one another
 
 -- what follows a value, with these forms left
-abbrev pub followed : Eval → Context → Control → Frms → Val → Run
+abbrev pub followed : Eval → Context → Control → Forms → Val → Run
 followed ev env Progn = sequence ev env
 followed ev env Prog1 = keeping ev env
 followed ev env If = branch_by ev env
@@ -126,23 +126,23 @@ followed ev env And = and_then ev env
 followed ev env Or = or_then ev env
 
 -- the first of these forms, and what follows its value; or this value where there is none
-abbrev pub going : Eval → Context → Control → Frms → Val → Run
+abbrev pub going : Eval → Context → Control → Forms → Val → Run
 going ev env c fs v w s = first_then ev env fs (followed ev env c) v w s
 
 -- ---- frames
 
 -- these variables, after one of this name that has an init form
-abbrev pub with_next : Option Nam → List Bound → List Bound
+abbrev pub with_next : Option Name → List Bound → List Bound
 with_next None bs = []
 with_next (Some name) bs = (record { name = name; has_init = true }) ∷ bs
 
 -- the names of a setq form
-abbrev pub targets : Opr → List Nam
+abbrev pub targets : Operator → List Name
 targets (of.setq names) = names
 targets o = []
 
 -- the names of a with-slots form
-abbrev pub slot_names : Opr → List BoundSlot
+abbrev pub slot_names : Operator → List BoundSlot
 slot_names (of.with_slots bs) = bs
 slot_names o = []
 
@@ -424,7 +424,7 @@ unset_aside [] ls = (ls, [])
 unset_aside (b ∷ bs) ls = if b.has_init then (ls, b ∷ bs) else unset_aside bs ((b.name, held (list nil)) ∷ ls)
 
 -- these are bound, and the next has this name, or one of them may not be
-abbrev pub Skips : Option (List Local × List Bound) → Result (Option Nam) Stop → List Local → List Bound → Type 0
+abbrev pub Skips : Option (List Local × List Bound) → Result (Option Name) Stop → List Local → List Bound → Type 0
 Skips x (Ok next) ls bs = x ≡ Some (ls, with_next next bs)
 Skips x (Err (Refused c)) ls bs = (x ≡ None) × (c ≡ record { kind = Unsupported; items = [] })
 Skips x (Err Storage) ls bs = Unit {0}
@@ -436,13 +436,13 @@ pub record Reached (run : Run) (w0 : State) (s0 : ℕ) (rest : Run) (w : State) 
   pub same : (t : ℕ) → rest w t ≡ run w0 (taken + t)
 
 -- the value of a form of this operator that is a constant, or a variable that has one
-abbrev pub at_once : State → Opr → Option Val
+abbrev pub at_once : State → Operator → Option Val
 at_once w (of.constant v) = Some v
 at_once w (of.variable name) = found_value w name
 at_once w o = None
 
 -- The first of the forms are gone: of each, a step was taken, and its value is there.
-pub record Took (n : ℕ) (env : Context) (w : State) (fs : Frms) (vs : List Val) (s : ℕ) (fs' : Frms) (vs' : List Val) (s' : ℕ) : Type 0 where
+pub record Took (n : ℕ) (env : Context) (w : State) (fs : Forms) (vs : List Val) (s : ℕ) (fs' : Forms) (vs' : List Val) (s' : ℕ) : Type 0 where
   pub taken : ℕ
   pub steps : s ≡ taken + s'
   pub same : (go : List Val → Run) (t : ℕ) → collect (meaning n) env fs' vs' go w t ≡ collect (meaning n) env fs vs go w (taken + t)
@@ -455,11 +455,11 @@ settled gs ((n, refused c) ∷ ps) ls = Err c
 settled gs ((n, init f) ∷ ps) ls = Ok (ls, (n, init f) ∷ ps)
 
 -- these parameters, after one of this name with an init form; none where there is no such
-abbrev pub with_init : Option (Nam × Frm) → Sources → Sources
+abbrev pub with_init : Option (Name × Form) → Sources → Sources
 with_init None ps = []
 with_init (Some p) ps = (p.0, init p.1) ∷ ps
 
-abbrev pub Settles : Result (List Local × Sources) Condition → Result (Option (Nam × Frm)) Stop → List Local → Sources → Type 0
+abbrev pub Settles : Result (List Local × Sources) Condition → Result (Option (Name × Form)) Stop → List Local → Sources → Type 0
 Settles x (Ok next) ls ps = x ≡ Ok (ls, with_init next ps)
 Settles x (Err (Refused c)) ls ps = x ≡ Err c
 Settles x (Err Storage) ls ps = Unit {0}

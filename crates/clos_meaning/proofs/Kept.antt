@@ -1,7 +1,7 @@
 -- Evaluation defines nothing.
 use Rattle.std.proofs.Common.{ℕ, zero, suc, List, [], ◌∷◌, ◌++◌, map, Option, Some, None, Result, Ok, Err, Bool, true, false, length, ◌+◌, slice_get, refl, ◌∙◌}
 use Rattle.std.specs.Prelude.{codes, pos, is_some, if◌then◌else◌}
-use Rattle.lisp_data.specs.Name.{Nam}
+use Rattle.lisp_data.specs.Name.{Name}
 use Rattle.lisp_data.specs.Print.{Called, by_symbol, by_setf}
 use Rattle.lisp_data.specs.Value.{Val}
 use Rattle.lisp_data.specs.Value as value
@@ -10,9 +10,9 @@ use Rattle.lisp_prims.specs.Primitive.{answer, truth}
 use Rattle.lisp_prims.specs.declared.arithmetic.Arithmetic.TheVariants.{Sum, Difference}
 use Rattle.lisp_prims.specs.declared.primitive.Primitive as of_values
 use Rattle.lisp_prims.specs.declared.primitive.Primitive.TheVariants.{Number}
-use Rattle.clos_forms.specs.Form.{Frm, Frms, nil, cons, parts_in, operator_in}
+use Rattle.clos_forms.specs.Form.{Form, Forms, nil, cons, parts_in, operator_in}
 use Rattle.clos_forms.specs.Operator as of
-use Rattle.clos_forms.specs.Operator.{Callable, Opr, Bound, BoundSlot, Plc, variable_place, slot_value_place, call_place}
+use Rattle.clos_forms.specs.Operator.{Callable, Operator, Bound, BoundSlot, Place, variable_place, slot_value_place, call_place}
 use Rattle.clos_forms.specs.Quotation.{name_value}
 use Rattle.clos_world.specs.Definitions.{Same}
 use Rattle.clos_world.specs.FunctionName.{setter_value}
@@ -20,19 +20,19 @@ use Rattle.clos_world.specs.Functions.{function_in}
 use Rattle.clos_forms.specs.declared.operator.FunctionName.TheVariants.{Symbol, Setf}
 use Rattle.clos_world.specs.clos_generic.Table.{named}
 use Rattle.clos_world.specs.clos_generic.Table as generics
-use Rattle.clos_world.specs.clos_generic_core.Shape.{takes_count}
-use Rattle.clos_world.specs.clos_generic_core.declared.method.Method.{Method}
-use Rattle.clos_world.specs.clos_generic_core.declared.method.MethodBody.{MethodBody}
-use Rattle.clos_world.specs.clos_generic_core.declared.method.MethodBody.TheVariants.{Forms, Reader, Writer, System}
+use Rattle.clos_world.specs.clos_method.Shape.{takes_count}
+use Rattle.clos_world.specs.clos_method.declared.method.Method.{Method}
+use Rattle.clos_world.specs.clos_method.declared.method.MethodBody.{MethodBody}
+use Rattle.clos_world.specs.clos_method.declared.method.MethodBody.TheVariants.{Forms as Body, Reader, Writer, System}
 use Rattle.clos_world.specs.clos_comb.Effective as comb
 use Rattle.clos_world.specs.clos_comb.Outcome.{Combined}
 use Rattle.clos_world.specs.clos_comb.Outcome as outcome
 use Rattle.std.specs.Str.{bytes_eq}
 use Rattle.clos_world.specs.Dispatch.{ordered}
 use Rattle.clos_world.specs.Globals.{is_global, any_global}
-use Rattle.clos_world.specs.clos_generic_core.System.{system_number}
-use Rattle.clos_world.specs.clos_generic_core.declared.system.SystemFunction.{SystemFunction}
-use Rattle.clos_world.specs.clos_generic_core.declared.system.SystemFunction.TheVariants.{InitializeInstance, ReinitializeInstance, SharedInitialize, UpdateInstanceForRedefinedClass, UpdateInstanceForDifferentClass, SlotUnbound, SlotMissing, NoApplicableMethod, NoNextMethod}
+use Rattle.clos_world.specs.clos_method.System.{system_number}
+use Rattle.clos_world.specs.clos_method.declared.system.SystemFunction.{SystemFunction}
+use Rattle.clos_world.specs.clos_method.declared.system.SystemFunction.TheVariants.{InitializeInstance, ReinitializeInstance, SharedInitialize, UpdateInstanceForRedefinedClass, UpdateInstanceForDifferentClass, SlotUnbound, SlotMissing, NoApplicableMethod, NoNextMethod}
 use Rattle.clos_world.specs.Values.{only_value, last_first}
 use Rattle.clos_world.specs.World.{State, Local, bound_as, unbound, local_named, names_of, class_of, class_of_instance, held}
 use Rattle.clos_world.specs.declared.condition.Condition.{Condition}
@@ -90,7 +90,7 @@ Kept w (Stopped c u k) = Same w u
 Kept w (Noted n o) = Kept w o
 
 abbrev Keeps : Eval → Type 0
-Keeps ev = (env : Context) (f : Frm) (w : State) (k : ℕ) → Kept w (ev env f w k)
+Keeps ev = (env : Context) (f : Form) (w : State) (k : ℕ) → Kept w (ev env f w k)
 
 shifted : (w u : State) (o : Out) → Same w u → Kept u o → Kept w o
 shifted w u (Gave v t k) h g = same_then w u t h g
@@ -112,23 +112,23 @@ step_kept run w (suc k) h = h k
 
 -- ---- forms one after another
 
-keeping_kept : (ev : Eval) → Keeps ev → (env : Context) (fs : Frms) (v : Val) (w : State) (k : ℕ) → Kept w (keeping ev env fs v w k)
+keeping_kept : (ev : Eval) → Keeps ev → (env : Context) (fs : Forms) (v : Val) (w : State) (k : ℕ) → Kept w (keeping ev env fs v w k)
 keeping_kept ev h env nil v w k = same w
 keeping_kept ev h env (cons f fs) v w k =
     then_kept w (ev env f w k) (λ u. keeping ev env fs v) (h env f w k) (λ x u j. keeping_kept ev h env fs v u j)
 
-sequence_kept : (ev : Eval) → Keeps ev → (env : Context) (fs : Frms) (v : Val) (w : State) (k : ℕ) → Kept w (sequence ev env fs v w k)
+sequence_kept : (ev : Eval) → Keeps ev → (env : Context) (fs : Forms) (v : Val) (w : State) (k : ℕ) → Kept w (sequence ev env fs v w k)
 sequence_kept ev h env nil v w k = same w
 sequence_kept ev h env (cons f fs) v w k =
     then_kept w (ev env f w k) (λ u. sequence ev env fs u) (h env f w k) (λ x u j. sequence_kept ev h env fs x u j)
 
-while_kept : (ev : Eval) → Keeps ev → (env : Context) (fs : Frms) (v : Val) (w : State) (k : ℕ) → Kept w (while_true ev env fs v w k)
+while_kept : (ev : Eval) → Keeps ev → (env : Context) (fs : Forms) (v : Val) (w : State) (k : ℕ) → Kept w (while_true ev env fs v w k)
 while_kept ev h env nil v w k = same w
 while_kept ev h env (cons f fs) v w k =
     then_kept w (ev env f w k) (λ u t j. if is_true u then while_true ev env fs u t j else Gave u t j) (h env f w k)
     (λ x u j. choice_kept (is_true x) u (while_true ev env fs x u j) (Gave x u j) (while_kept ev h env fs x u j) (same u))
 
-until_kept : (ev : Eval) → Keeps ev → (env : Context) (fs : Frms) (v : Val) (w : State) (k : ℕ) → Kept w (until_true ev env fs v w k)
+until_kept : (ev : Eval) → Keeps ev → (env : Context) (fs : Forms) (v : Val) (w : State) (k : ℕ) → Kept w (until_true ev env fs v w k)
 until_kept ev h env nil v w k = same w
 until_kept ev h env (cons f fs) v w k =
     then_kept w (ev env f w k) (λ u t j. if is_true u then Gave u t j else until_true ev env fs u t j) (h env f w k)
@@ -137,44 +137,44 @@ until_kept ev h env (cons f fs) v w k =
 abbrev none : Val
 none = value.list value.nil
 
-branch_kept : (ev : Eval) → Keeps ev → (env : Context) (b : Bool) (fs : Frms) (w : State) (k : ℕ) → Kept w (branch ev env b fs w k)
+branch_kept : (ev : Eval) → Keeps ev → (env : Context) (b : Bool) (fs : Forms) (w : State) (k : ℕ) → Kept w (branch ev env b fs w k)
 branch_kept ev h env b nil w k = same w
 branch_kept ev h env b (cons f fs) w k =
     choice_kept b w (ev env f w k) (sequence ev env fs none w k) (h env f w k) (sequence_kept ev h env fs none w k)
 
-where_true_kept : (ev : Eval) → Keeps ev → (env : Context) (fs : Frms) (v : Val) (w : State) (k : ℕ) → Kept w (where_true ev env fs v w k)
+where_true_kept : (ev : Eval) → Keeps ev → (env : Context) (fs : Forms) (v : Val) (w : State) (k : ℕ) → Kept w (where_true ev env fs v w k)
 where_true_kept ev h env fs v w k = choice_kept (is_true v) w (sequence ev env fs none w k) (Gave none w k) (sequence_kept ev h env fs none w k) (same w)
 
-where_false_kept : (ev : Eval) → Keeps ev → (env : Context) (fs : Frms) (v : Val) (w : State) (k : ℕ) → Kept w (where_false ev env fs v w k)
+where_false_kept : (ev : Eval) → Keeps ev → (env : Context) (fs : Forms) (v : Val) (w : State) (k : ℕ) → Kept w (where_false ev env fs v w k)
 where_false_kept ev h env fs v w k = choice_kept (is_true v) w (Gave none w k) (sequence ev env fs none w k) (same w) (sequence_kept ev h env fs none w k)
 
-and_kept : (ev : Eval) → Keeps ev → (env : Context) (fs : Frms) (v : Val) (w : State) (k : ℕ) → Kept w (and_then ev env fs v w k)
+and_kept : (ev : Eval) → Keeps ev → (env : Context) (fs : Forms) (v : Val) (w : State) (k : ℕ) → Kept w (and_then ev env fs v w k)
 and_kept ev h env fs v w k = choice_kept (is_true v) w (while_true ev env fs v w k) (Gave v w k) (while_kept ev h env fs v w k) (same w)
 
-or_kept : (ev : Eval) → Keeps ev → (env : Context) (fs : Frms) (v : Val) (w : State) (k : ℕ) → Kept w (or_then ev env fs v w k)
+or_kept : (ev : Eval) → Keeps ev → (env : Context) (fs : Forms) (v : Val) (w : State) (k : ℕ) → Kept w (or_then ev env fs v w k)
 or_kept ev h env fs v w k = choice_kept (is_true v) w (Gave v w k) (until_true ev env fs v w k) (same w) (until_kept ev h env fs v w k)
 
-first_kept : (ev : Eval) → Keeps ev → (env : Context) (fs : Frms) (go : Frms → Val → Run) → ((gs : Frms) (v : Val) (u : State) (j : ℕ) → Kept u (go gs v u j))
+first_kept : (ev : Eval) → Keeps ev → (env : Context) (fs : Forms) (go : Forms → Val → Run) → ((gs : Forms) (v : Val) (u : State) (j : ℕ) → Kept u (go gs v u j))
     → (v : Val) (w : State) (k : ℕ) → Kept w (first_then ev env fs go v w k)
 first_kept ev h env nil go g v w k = same w
 first_kept ev h env (cons f fs) go g v w k = then_kept w (ev env f w k) (λ u. go fs u) (h env f w k) (λ x u j. g fs x u j)
 
 -- ---- the clauses of a cond form
 
-clause_kept : (ev : Eval) → Keeps ev → (env : Context) (fs : Frms) (rest : Run) → ((u : State) (j : ℕ) → Kept u (rest u j)) → (w : State) (k : ℕ) → Kept w (clause ev env fs rest w k)
+clause_kept : (ev : Eval) → Keeps ev → (env : Context) (fs : Forms) (rest : Run) → ((u : State) (j : ℕ) → Kept u (rest u j)) → (w : State) (k : ℕ) → Kept w (clause ev env fs rest w k)
 clause_kept ev h env nil rest g w k = same w
 clause_kept ev h env (cons f fs) rest g w k =
     then_kept w (ev env f w k) (λ v. tested ev env fs rest v) (h env f w k)
     (λ v u j. choice_kept (is_true v) u (sequence ev env fs v u j) (rest u j) (sequence_kept ev h env fs v u j) (g u j))
 
-clauses_kept : (ev : Eval) → Keeps ev → (env : Context) (cs : Frms) (w : State) (k : ℕ) → Kept w (clauses ev env cs w k)
+clauses_kept : (ev : Eval) → Keeps ev → (env : Context) (cs : Forms) (w : State) (k : ℕ) → Kept w (clauses ev env cs w k)
 clauses_kept ev h env nil w k = same w
 clauses_kept ev h env (cons c cs) w k =
     clause_kept ev h env (parts_in c) (λ t j. clauses ev env cs t j) (λ u j. clauses_kept ev h env cs u j) w k
 
 -- ---- calls
 
-collect_kept : (ev : Eval) → Keeps ev → (env : Context) (fs : Frms) (vs : List Val) (go : List Val → Run) → ((us : List Val) (u : State) (j : ℕ) → Kept u (go us u j)) → (w : State) (k : ℕ) → Kept w (collect ev env fs vs go w k)
+collect_kept : (ev : Eval) → Keeps ev → (env : Context) (fs : Forms) (vs : List Val) (go : List Val → Run) → ((us : List Val) (u : State) (j : ℕ) → Kept u (go us u j)) → (w : State) (k : ℕ) → Kept w (collect ev env fs vs go w k)
 collect_kept ev h env nil vs go g w k = g vs w k
 collect_kept ev h env (cons f fs) vs go g w k =
     then_kept w (ev env f w k) (λ v. collect ev env fs (vs ++ v ∷ []) go) (h env f w k)
@@ -212,10 +212,10 @@ generic_kept ev h vs g (Some f) w k =
 invoked_kept : (ev : Eval) → Keeps ev → (f : SystemFunction) (vs : List Val) (w : State) (k : ℕ) → Kept w (invoked ev f vs w k)
 invoked_kept ev h f vs w k = generic_kept ev h vs (system_number f) (slice_get w.generics.functions (system_number f)) w k
 
-binding_kept : (name : Nam) (v : Val) (go : Run) → ((u : State) (j : ℕ) → Kept u (go u j)) → (w : State) (k : ℕ) → Kept w (binding name v go w k)
+binding_kept : (name : Name) (v : Val) (go : Run) → ((u : State) (j : ℕ) → Kept u (go u j)) → (w : State) (k : ℕ) → Kept w (binding name v go w k)
 binding_kept name v go h w k = choice_kept (is_global w.globals name) w _ (go (inner name v w) k) (same w) (h (inner name v w) k)
 
-parameters_kept : (ev : Eval) → Keeps ev → (env : Context) (ps : Sources) (fs : Frms) (w : State) (k : ℕ) → Kept w (parameters_run ev env ps fs w k)
+parameters_kept : (ev : Eval) → Keeps ev → (env : Context) (ps : Sources) (fs : Forms) (w : State) (k : ℕ) → Kept w (parameters_run ev env ps fs w k)
 parameters_kept ev h env [] fs w k = sequence_kept ev h env fs none w k
 parameters_kept ev h env ((x, argument v) ∷ ps) fs w k =
     binding_kept x v (parameters_run ev env ps fs) (λ u j. parameters_kept ev h env ps fs u j) w k
@@ -224,7 +224,7 @@ parameters_kept ev h env ((x, init f) ∷ ps) fs w k =
     then_kept w (ev env f w k) (λ v. binding x v (parameters_run ev env ps fs)) (h env f w k)
     (λ v u j. binding_kept x v (parameters_run ev env ps fs) (λ t i. parameters_kept ev h env ps fs t i) u j)
 
-body_kept : (ev : Eval) → Keeps ev → (env : Context) (ps : Sources) (fs : Frms) (w : State) (k : ℕ) → Kept w (body_run ev env ps fs w k)
+body_kept : (ev : Eval) → Keeps ev → (env : Context) (ps : Sources) (fs : Forms) (w : State) (k : ℕ) → Kept w (body_run ev env ps fs w k)
 body_kept ev h env ps fs w k = restored w.locals w (parameters_run ev env ps fs (bound_as [] w) k) (parameters_kept ev h env ps fs (bound_as [] w) k)
 
 defined_kept : (ev : Eval) → Keeps ev → (vs : List Val) (name : Val) (o : Option Function) (w : State) (k : ℕ) → Kept w (called_defined ev vs name o w k)
@@ -232,44 +232,44 @@ defined_kept ev h vs name None w k = same w
 defined_kept ev h vs name (Some f) w k =
     choice_kept (fits f.lambda_list vs) w (body_run ev (known vs) (sources f.lambda_list vs) f.body w k) _ (body_kept ev h (known vs) (sources f.lambda_list vs) f.body w k) (same w)
 
-function_kept : (ev : Eval) → Keeps ev → (name : Nam) (vs : List Val) (o : Option ℕ) (w : State) (k : ℕ) → Kept w (called_function ev name vs o w k)
+function_kept : (ev : Eval) → Keeps ev → (name : Name) (vs : List Val) (o : Option ℕ) (w : State) (k : ℕ) → Kept w (called_function ev name vs o w k)
 function_kept ev h name vs None w k = defined_kept ev h vs (name_value name) (function_in w.functions name) w k
 function_kept ev h name vs (Some g) w k = generic_kept ev h vs g (slice_get w.generics.functions g) w k
 
 -- ---- slots
 
-missing_kept : (ev : Eval) → Keeps ev → (i : ℕ) (name : Nam) (operation : List ℕ) (new : List Val) (w : State) (k : ℕ) → Kept w (missing_called ev i name operation new w k)
+missing_kept : (ev : Eval) → Keeps ev → (i : ℕ) (name : Name) (operation : List ℕ) (new : List Val) (w : State) (k : ℕ) → Kept w (missing_called ev i name operation new w k)
 missing_kept ev h i name operation new w k =
     invoked_kept ev h SlotMissing (class_value w i ∷ value.instance i ∷ name_value name ∷ operation_name operation ∷ new) w k
 
-slot_read_kept : (ev : Eval) → Keeps ev → (env : Context) (i : ℕ) (name : Nam) (o : Option (Option Val)) (w : State) (k : ℕ) → Kept w (slot_read ev env i name o w k)
+slot_read_kept : (ev : Eval) → Keeps ev → (env : Context) (i : ℕ) (name : Name) (o : Option (Option Val)) (w : State) (k : ℕ) → Kept w (slot_read ev env i name o w k)
 slot_read_kept ev h env i name None w k = missing_kept ev h i name (codes "SLOT-VALUE") [] w k
 slot_read_kept ev h env i name (Some None) w k = invoked_kept ev h SlotUnbound (class_value w i ∷ value.instance i ∷ name_value name ∷ []) w k
 slot_read_kept ev h env i name (Some (Some v)) w k = same w
 
-slot_tested_kept : (ev : Eval) → Keeps ev → (env : Context) (i : ℕ) (name : Nam) (o : Option (Option Val)) (w : State) (k : ℕ) → Kept w (slot_tested ev env i name o w k)
+slot_tested_kept : (ev : Eval) → Keeps ev → (env : Context) (i : ℕ) (name : Name) (o : Option (Option Val)) (w : State) (k : ℕ) → Kept w (slot_tested ev env i name o w k)
 slot_tested_kept ev h env i name None w k =
     then_kept w (missing_called ev i name (codes "SLOT-BOUNDP") [] w k) (λ v. gave (truth (is_true v)))
     (missing_kept ev h i name (codes "SLOT-BOUNDP") [] w k) (λ v u j. same u)
 slot_tested_kept ev h env i name (Some x) w k = same w
 
-missing_changed_kept : (ev : Eval) → Keeps ev → (i : ℕ) (name : Nam) (x : Option Val) (w : State) (k : ℕ) → Kept w (missing_changed ev i name x w k)
+missing_changed_kept : (ev : Eval) → Keeps ev → (i : ℕ) (name : Name) (x : Option Val) (w : State) (k : ℕ) → Kept w (missing_changed ev i name x w k)
 missing_changed_kept ev h i name None w k = missing_kept ev h i name (codes "SLOT-MAKUNBOUND") [] w k
 missing_changed_kept ev h i name (Some v) w k = missing_kept ev h i name (codes "SETF") (v ∷ []) w k
 
-slot_changed_kept : (ev : Eval) → Keeps ev → (env : Context) (i : ℕ) (name : Nam) (x : Option Val) (v : Val) (o : Option (Option Val)) (w : State) (k : ℕ)
+slot_changed_kept : (ev : Eval) → Keeps ev → (env : Context) (i : ℕ) (name : Name) (x : Option Val) (v : Val) (o : Option (Option Val)) (w : State) (k : ℕ)
     → Kept w (slot_changed ev env i name x v o w k)
 slot_changed_kept ev h env i name x v None w k =
     then_kept w (missing_changed ev i name x w k) (λ y. gave v) (missing_changed_kept ev h i name x w k) (λ y u j. same u)
 slot_changed_kept ev h env i name x v (Some old) w k = step_kept (slot_stored i name x v) w k (λ j. same w)
 
-slot_answer_kept : (ev : Eval) → Keeps ev → (env : Context) (f : of_slots.SlotFunction) (i : ℕ) (name : Nam) (w : State) (k : ℕ) → Kept w (slot_answer ev env f i name w k)
+slot_answer_kept : (ev : Eval) → Keeps ev → (env : Context) (f : of_slots.SlotFunction) (i : ℕ) (name : Name) (w : State) (k : ℕ) → Kept w (slot_answer ev env f i name w k)
 slot_answer_kept ev h env SlotValue i name w k = slot_read_kept ev h env i name (slot_found w.store i name) w k
 slot_answer_kept ev h env SlotBoundp i name w k = slot_tested_kept ev h env i name (slot_found w.store i name) w k
 slot_answer_kept ev h env SlotMakunbound i name w k = slot_changed_kept ev h env i name None (value.instance i) (slot_found w.store i name) w k
 slot_answer_kept ev h env SlotExistsP i name w k = same w
 
-slot_applied_kept : (ev : Eval) → Keeps ev → (env : Context) (f : of_slots.SlotFunction) (d : Result (ℕ × Nam) Condition) (w : State) (k : ℕ) → Kept w (slot_applied ev env f d w k)
+slot_applied_kept : (ev : Eval) → Keeps ev → (env : Context) (f : of_slots.SlotFunction) (d : Result (ℕ × Name) Condition) (w : State) (k : ℕ) → Kept w (slot_applied ev env f d w k)
 slot_applied_kept ev h env f (Err c) w k = same w
 slot_applied_kept ev h env f (Ok p) w k = slot_answer_kept ev h env f p.0 p.1 w k
 
@@ -279,7 +279,7 @@ slot_called_kept ev h env f (v ∷ []) w k = same w
 slot_called_kept ev h env f (v ∷ (x ∷ [])) w k = slot_applied_kept ev h env f (slot_designated v x) w k
 slot_called_kept ev h env f (v ∷ (x ∷ (y ∷ vs))) w k = same w
 
-slot_given_kept : (ev : Eval) → Keeps ev → (env : Context) (x : Val) (d : Result (ℕ × Nam) Condition) (w : State) (k : ℕ) → Kept w (slot_given ev env x d w k)
+slot_given_kept : (ev : Eval) → Keeps ev → (env : Context) (x : Val) (d : Result (ℕ × Name) Condition) (w : State) (k : ℕ) → Kept w (slot_given ev env x d w k)
 slot_given_kept ev h env x (Err c) w k = same w
 slot_given_kept ev h env x (Ok p) w k = slot_changed_kept ev h env p.0 p.1 (Some x) x (slot_found w.store p.0 p.1) w k
 
@@ -292,20 +292,20 @@ slot_set_kept ev h env (v ∷ (x ∷ (y ∷ (z ∷ vs)))) w k = same w
 
 -- ---- methods
 
-read_kept_of : (ev : Eval) → Keeps ev → (env : Context) (slot : Nam) (d : Result ℕ Condition) (w : State) (k : ℕ) → Kept w (read_of ev env slot d w k)
+read_kept_of : (ev : Eval) → Keeps ev → (env : Context) (slot : Name) (d : Result ℕ Condition) (w : State) (k : ℕ) → Kept w (read_of ev env slot d w k)
 read_kept_of ev h env slot (Err c) w k = same w
 read_kept_of ev h env slot (Ok i) w k = slot_read_kept ev h env i slot (slot_found w.store i slot) w k
 
-reader_kept : (ev : Eval) → Keeps ev → (env : Context) (slot : Nam) (vs : List Val) (w : State) (k : ℕ) → Kept w (read_by ev env slot vs w k)
+reader_kept : (ev : Eval) → Keeps ev → (env : Context) (slot : Name) (vs : List Val) (w : State) (k : ℕ) → Kept w (read_by ev env slot vs w k)
 reader_kept ev h env slot [] w k = same w
 reader_kept ev h env slot (v ∷ []) w k = read_kept_of ev h env slot (instance_in v) w k
 reader_kept ev h env slot (v ∷ (x ∷ vs)) w k = same w
 
-written_kept_of : (ev : Eval) → Keeps ev → (env : Context) (slot : Nam) (x : Val) (d : Result ℕ Condition) (w : State) (k : ℕ) → Kept w (written_of ev env slot x d w k)
+written_kept_of : (ev : Eval) → Keeps ev → (env : Context) (slot : Name) (x : Val) (d : Result ℕ Condition) (w : State) (k : ℕ) → Kept w (written_of ev env slot x d w k)
 written_kept_of ev h env slot x (Err c) w k = same w
 written_kept_of ev h env slot x (Ok i) w k = slot_changed_kept ev h env i slot (Some x) x (slot_found w.store i slot) w k
 
-writer_kept : (ev : Eval) → Keeps ev → (env : Context) (slot : Nam) (vs : List Val) (w : State) (k : ℕ) → Kept w (written_by ev env slot vs w k)
+writer_kept : (ev : Eval) → Keeps ev → (env : Context) (slot : Name) (vs : List Val) (w : State) (k : ℕ) → Kept w (written_by ev env slot vs w k)
 writer_kept ev h env slot [] w k = same w
 writer_kept ev h env slot (x ∷ []) w k = same w
 writer_kept ev h env slot (x ∷ (v ∷ [])) w k = written_kept_of ev h env slot x (instance_in v) w k
@@ -386,7 +386,7 @@ comes_kept : (x : Answer) (w : State) (k : ℕ) → Kept w (comes_to x w k)
 comes_kept (Ok v) w k = same w
 comes_kept (Err c) w k = same w
 
-applied_kept : (ev : Eval) → Keeps ev → (env : Context) (c : Callee) (name : Nam) (vs : List Val) (w : State) (k : ℕ) → Kept w (applied ev env c name vs w k)
+applied_kept : (ev : Eval) → Keeps ev → (env : Context) (c : Callee) (name : Name) (vs : List Val) (w : State) (k : ℕ) → Kept w (applied ev env c name vs w k)
 applied_kept ev h env (Output o) name vs w k = output_kept o (only_value vs) w k
 applied_kept ev h env Terpri name vs w k = line_kept vs w k
 applied_kept ev h env (Primitive p) name vs w k = answered_kept (answer p vs) w k
@@ -403,14 +403,14 @@ left_kept m w (Gave v u k) h = h
 left_kept m w (Stopped c u k) h = h
 left_kept m w (Noted n o) h = left_kept m w o h
 
-init_kept : (ev : Eval) → Keeps ev → (env : Context) (fs : Frms) (go : Frms → Val → Run) → ((gs : Frms) (v : Val) (u : State) (j : ℕ) → Kept u (go gs v u j)) → (w : State) (k : ℕ) → Kept w (init_form ev env fs go w k)
+init_kept : (ev : Eval) → Keeps ev → (env : Context) (fs : Forms) (go : Forms → Val → Run) → ((gs : Forms) (v : Val) (u : State) (j : ℕ) → Kept u (go gs v u j)) → (w : State) (k : ℕ) → Kept w (init_form ev env fs go w k)
 init_kept ev h env nil go g w k = same w
 init_kept ev h env (cons f fs) go g w k = then_kept w (ev env f w k) (λ v. go fs v) (h env f w k) (λ v u j. g fs v u j)
 
-within_kept : (ev : Eval) → Keeps ev → (env : Context) (m : ℕ) (fs : Frms) (v : Val) (w : State) (k : ℕ) → Kept w (within ev env m fs v w k)
+within_kept : (ev : Eval) → Keeps ev → (env : Context) (m : ℕ) (fs : Forms) (v : Val) (w : State) (k : ℕ) → Kept w (within ev env m fs v w k)
 within_kept ev h env m fs v w k = left_kept m w (sequence ev env fs v w k) (sequence_kept ev h env fs v w k)
 
-order_kept : (ev : Eval) → Keeps ev → (env : Context) (m : ℕ) (bs : List Bound) (fs : Frms) (w : State) (k : ℕ) → Kept w (in_order ev env m bs fs w k)
+order_kept : (ev : Eval) → Keeps ev → (env : Context) (m : ℕ) (bs : List Bound) (fs : Forms) (w : State) (k : ℕ) → Kept w (in_order ev env m bs fs w k)
 order_kept ev h env m [] fs w k = within_kept ev h env m fs none w k
 order_kept ev h env m (b ∷ bs) fs w k =
     choice_kept b.has_init w (init_form ev env fs (λ rest v. binding b.name v (in_order ev env m bs rest)) w k) (binding b.name none (in_order ev env m bs fs) w k)
@@ -418,19 +418,19 @@ order_kept ev h env m (b ∷ bs) fs w k =
     (λ gs v u j. binding_kept b.name v (in_order ev env m bs gs) (λ t i. order_kept ev h env m bs gs t i) u j) w k)
     (binding_kept b.name none (in_order ev env m bs fs) (λ t i. order_kept ev h env m bs fs t i) w k)
 
-together_kept : (ev : Eval) → Keeps ev → (env : Context) (m : ℕ) (ls : List Local) (fs : Frms) (w : State) (k : ℕ) → Kept w (together ev env m ls fs w k)
+together_kept : (ev : Eval) → Keeps ev → (env : Context) (m : ℕ) (ls : List Local) (fs : Forms) (w : State) (k : ℕ) → Kept w (together ev env m ls fs w k)
 together_kept ev h env m ls fs w k =
     choice_kept (any_global w.globals (map name_in ls)) w _ (within ev env m fs none (bound_as (ls ++ w.locals) w) k) (same w)
     (within_kept ev h env m fs none (bound_as (ls ++ w.locals) w) k)
 
-aside_kept : (ev : Eval) → Keeps ev → (env : Context) (m : ℕ) (bs : List Bound) (fs : Frms) (ls : List Local) (w : State) (k : ℕ) → Kept w (aside ev env m bs fs ls w k)
+aside_kept : (ev : Eval) → Keeps ev → (env : Context) (m : ℕ) (bs : List Bound) (fs : Forms) (ls : List Local) (w : State) (k : ℕ) → Kept w (aside ev env m bs fs ls w k)
 aside_kept ev h env m [] fs ls w k = together_kept ev h env m ls fs w k
 aside_kept ev h env m (b ∷ bs) fs ls w k =
     choice_kept b.has_init w (init_form ev env fs (λ rest v. aside ev env m bs rest ((b.name, held v) ∷ ls)) w k) (aside ev env m bs fs ((b.name, held none) ∷ ls) w k)
     (init_kept ev h env fs (λ rest v. aside ev env m bs rest ((b.name, held v) ∷ ls)) (λ gs v u j. aside_kept ev h env m bs gs ((b.name, held v) ∷ ls) u j) w k)
     (aside_kept ev h env m bs fs ((b.name, held none) ∷ ls) w k)
 
-result_kept : (ev : Eval) → Keeps ev → (env : Context) (b : Bool) (fs : Frms) (w : State) (k : ℕ) → Kept w (result_value ev env b fs w k)
+result_kept : (ev : Eval) → Keeps ev → (env : Context) (b : Bool) (fs : Forms) (w : State) (k : ℕ) → Kept w (result_value ev env b fs w k)
 result_kept ev h env false fs w k = same w
 result_kept ev h env true nil w k = same w
 result_kept ev h env true (cons f fs) w k = h env f w k
@@ -454,38 +454,38 @@ repeated_kept ev h env l (value.generic x) w k = same w
 repeated_kept ev h env l (value.method x) w k = same w
 repeated_kept ev h env l (value.instance x) w k = same w
 
-variable_kept : (name : Nam) (o : Option Val) (w : State) (k : ℕ) → Kept w (variable_value name o w k)
+variable_kept : (name : Name) (o : Option Val) (w : State) (k : ℕ) → Kept w (variable_value name o w k)
 variable_kept name None w k = same w
 variable_kept name (Some v) w k = same w
 
 -- ---- assignment
 
-globally_kept : (name : Nam) (v : Val) (w : State) (k : ℕ) → Kept w (stored_globally name v w k)
+globally_kept : (name : Name) (v : Val) (w : State) (k : ℕ) → Kept w (stored_globally name v w k)
 globally_kept name v w k =
     choice_kept (is_global w.globals name) w (step_then (global_set name v) w k) _ (step_kept (global_set name v) w k (λ j. same w)) (same w)
 
-stored_kept : (name : Nam) (v : Val) (w : State) (k : ℕ) → Kept w (stored name v w k)
+stored_kept : (name : Name) (v : Val) (w : State) (k : ℕ) → Kept w (stored name v w k)
 stored_kept name v w k = choice_kept (is_some (local_named w.locals name)) w _ (stored_globally name v w k) (same w) (globally_kept name v w k)
 
-stored_only_kept : (name : Nam) (o : Option Val) (w : State) (k : ℕ) → Kept w (stored_only name o w k)
+stored_only_kept : (name : Name) (o : Option Val) (w : State) (k : ℕ) → Kept w (stored_only name o w k)
 stored_only_kept name None w k = same w
 stored_only_kept name (Some v) w k = stored_kept name v w k
 
-made_of_kept : (p : of_values.Primitive) (name : Nam) (amount : Val) (w : State) (k : ℕ) → Kept w (made_of p name amount w k)
+made_of_kept : (p : of_values.Primitive) (name : Name) (amount : Val) (w : State) (k : ℕ) → Kept w (made_of p name amount w k)
 made_of_kept p name amount w k =
     then_kept w (variable_value name (found_value w name) w k) (λ old. answered (answer p (old ∷ amount ∷ []))) (variable_kept name (found_value w name) w k)
     (λ old u j. answered_kept (answer p (old ∷ amount ∷ [])) u j)
 
-changed_kept : (p : of_values.Primitive) (name : Nam) (o : Option Val) (w : State) (k : ℕ) → Kept w (changed_only p name o w k)
+changed_kept : (p : of_values.Primitive) (name : Name) (o : Option Val) (w : State) (k : ℕ) → Kept w (changed_only p name o w k)
 changed_kept p name None w k = same w
 changed_kept p name (Some amount) w k =
     then_kept w (made_of p name amount w k) (λ v. stored name v) (made_of_kept p name amount w k) (λ v u j. stored_kept name v u j)
 
-setter_kept_by : (ev : Eval) → Keeps ev → (name : Nam) (vs : List Val) (o : Option ℕ) (w : State) (k : ℕ) → Kept w (called_setter_by ev name vs o w k)
+setter_kept_by : (ev : Eval) → Keeps ev → (name : Name) (vs : List Val) (o : Option ℕ) (w : State) (k : ℕ) → Kept w (called_setter_by ev name vs o w k)
 setter_kept_by ev h name vs None w k = defined_kept ev h vs (setter_value name) (function_in w.setters name) w k
 setter_kept_by ev h name vs (Some g) w k = generic_kept ev h vs g (slice_get w.generics.functions g) w k
 
-setter_kept : (ev : Eval) → Keeps ev → (name : Nam) (vs : List Val) (w : State) (k : ℕ) → Kept w (called_setter ev name vs w k)
+setter_kept : (ev : Eval) → Keeps ev → (name : Name) (vs : List Val) (w : State) (k : ℕ) → Kept w (called_setter ev name vs w k)
 setter_kept ev h name vs w k = setter_kept_by ev h name (last_first vs) (named w.generics (Setf name)) w k
 
 read_kept : (ev : Eval) → Keeps ev → (env : Context) (t : Access) (vs : List Val) (w : State) (k : ℕ) → Kept w (place_read ev env t vs w k)
@@ -509,27 +509,27 @@ changed_place_kept ev h env p t (amount ∷ vs) w k =
     then_kept w (place_read ev env t vs w k) (λ old. changed_from ev env p t vs amount old) (read_kept ev h env t vs w k)
     (λ old u j. changed_from_kept ev h env p t vs amount old u j)
 
-amount_kept : (ev : Eval) → Keeps ev → (env : Context) (fs : Frms) (vs : List Val) (go : List Val → Run)
+amount_kept : (ev : Eval) → Keeps ev → (env : Context) (fs : Forms) (vs : List Val) (go : List Val → Run)
     → ((us : List Val) (u : State) (j : ℕ) → Kept u (go us u j)) → (w : State) (k : ℕ) → Kept w (with_amount ev env fs vs go w k)
 amount_kept ev h env nil vs go g w k = g _ w k
 amount_kept ev h env (cons f fs) vs go g w k = collect_kept ev h env (cons f fs) vs go g w k
 
 -- ---- names
 
-name_read_kept : (ev : Eval) → Keeps ev → (env : Context) (name : Nam) (o : Option (List Val)) (w : State) (k : ℕ) → Kept w (name_read ev env name o w k)
+name_read_kept : (ev : Eval) → Keeps ev → (env : Context) (name : Name) (o : Option (List Val)) (w : State) (k : ℕ) → Kept w (name_read ev env name o w k)
 name_read_kept ev h env name None w k = variable_kept name (found_value w name) w k
 name_read_kept ev h env name (Some place) w k = read_kept ev h env slot_access place w k
 
-name_set_kept : (ev : Eval) → Keeps ev → (env : Context) (name : Nam) (o : Option (List Val)) (vs : List Val) (w : State) (k : ℕ) → Kept w (name_set ev env name o vs w k)
+name_set_kept : (ev : Eval) → Keeps ev → (env : Context) (name : Name) (o : Option (List Val)) (vs : List Val) (w : State) (k : ℕ) → Kept w (name_set ev env name o vs w k)
 name_set_kept ev h env name None vs w k = stored_only_kept name (only_value vs) w k
 name_set_kept ev h env name (Some place) vs w k = set_kept ev h env slot_access (place ++ vs) w k
 
-name_changed_kept : (ev : Eval) → Keeps ev → (env : Context) (p : of_values.Primitive) (name : Nam) (o : Option (List Val)) (vs : List Val) (w : State) (k : ℕ)
+name_changed_kept : (ev : Eval) → Keeps ev → (env : Context) (p : of_values.Primitive) (name : Name) (o : Option (List Val)) (vs : List Val) (w : State) (k : ℕ)
     → Kept w (name_changed ev env p name o vs w k)
 name_changed_kept ev h env p name None vs w k = changed_kept p name (only_value vs) w k
 name_changed_kept ev h env p name (Some place) vs w k = changed_place_kept ev h env p slot_access (last_first (place ++ vs)) w k
 
-within_slots_kept : (ev : Eval) → Keeps ev → (env : Context) (bs : List BoundSlot) (fs : Frms) (object : Val) (w : State) (k : ℕ)
+within_slots_kept : (ev : Eval) → Keeps ev → (env : Context) (bs : List BoundSlot) (fs : Forms) (object : Val) (w : State) (k : ℕ)
     → Kept w (within_slots ev env bs fs object w k)
 within_slots_kept ev h env bs fs object w k = within_kept ev h env (length w.locals) fs none (bound_as (slot_locals bs object ++ w.locals) w) k
 
@@ -592,7 +592,7 @@ system_kept ev h NoNextMethod (v ∷ (m ∷ vs)) w k = same w
 -- ---- methods
 
 method_body_kept : (ev : Eval) → Keeps ev → (env : Context) (b : MethodBody) (w : State) (k : ℕ) → Kept w (method_body_run ev env b w k)
-method_body_kept ev h env (Forms l fs) w k =
+method_body_kept ev h env (Body l fs) w k =
     choice_kept (keys_are_even l env.arguments) w (body_run ev env (sources l env.arguments) fs w k) _
     (body_kept ev h env (sources l env.arguments) fs w k) (same w)
 method_body_kept ev h env (Reader slot) w k = reader_kept ev h env slot env.arguments w k
@@ -603,11 +603,11 @@ method_kept : (ev : Eval) → Keeps ev → (env : Context) (o : Option Method) (
 method_kept ev h env None w k = same w
 method_kept ev h env (Some m) w k = method_body_kept ev h env m.body w k
 
-made_kept : (ev : Eval) → Keeps ev → (env : Context) (fs : Frms) (w : State) (k : ℕ) → Kept w (made_run ev env fs w k)
+made_kept : (ev : Eval) → Keeps ev → (env : Context) (fs : Forms) (w : State) (k : ℕ) → Kept w (made_run ev env fs w k)
 made_kept ev h env nil w k = same w
 made_kept ev h env (cons f fs) w k = restored w.locals w (ev env f (bound_as [] w) k) (h env f (bound_as [] w) k)
 
-called_kept_method : (ev : Eval) → Keeps ev → (env : Context) (m : Callable) (next : List Callable) (fs : Frms) (w : State) (k : ℕ) → Kept w (method_called ev env m next fs w k)
+called_kept_method : (ev : Eval) → Keeps ev → (env : Context) (m : Callable) (next : List Callable) (fs : Forms) (w : State) (k : ℕ) → Kept w (method_called ev env m next fs w k)
 called_kept_method ev h env (of.the_method m) next fs w k = method_kept ev h (running m next fs env) (slice_get w.generics.methods m) w k
 called_kept_method ev h env of.made next fs w k = made_kept ev h env fs w k
 
@@ -641,23 +641,23 @@ next_given_kept ev h env (Some r) vs w k = next_in_kept ev h env r env.call vs w
 
 -- ---- assignments
 
-name_stored_kept : (ev : Eval) → Keeps ev → (env : Context) (name : Nam) (vs : List Val) (w : State) (k : ℕ) → Kept w (name_stored ev env name vs w k)
+name_stored_kept : (ev : Eval) → Keeps ev → (env : Context) (name : Name) (vs : List Val) (w : State) (k : ℕ) → Kept w (name_stored ev env name vs w k)
 name_stored_kept ev h env name vs w k = name_set_kept ev h env name (place_denoted w name) vs w k
 
-name_changed_by_kept : (ev : Eval) → Keeps ev → (env : Context) (p : of_values.Primitive) (name : Nam) (vs : List Val) (w : State) (k : ℕ)
+name_changed_by_kept : (ev : Eval) → Keeps ev → (env : Context) (p : of_values.Primitive) (name : Name) (vs : List Val) (w : State) (k : ℕ)
     → Kept w (name_changed_by ev env p name vs w k)
 name_changed_by_kept ev h env p name vs w k = name_changed_kept ev h env p name (place_denoted w name) vs w k
 
-place_set_to_kept : (ev : Eval) → Keeps ev → (env : Context) (a : Access) (f : Frm) (vs : List Val) (w : State) (k : ℕ) → Kept w (place_set_to ev env a f vs w k)
+place_set_to_kept : (ev : Eval) → Keeps ev → (env : Context) (a : Access) (f : Form) (vs : List Val) (w : State) (k : ℕ) → Kept w (place_set_to ev env a f vs w k)
 place_set_to_kept ev h env a f vs w k =
     collect_kept ev h env (alone f) vs (λ us u j. place_set ev env a us u j) (λ us u j. set_kept ev h env a us u j) w k
 
-place_changed_by_kept : (ev : Eval) → Keeps ev → (env : Context) (p : of_values.Primitive) (a : Access) (fs : Frms) (vs : List Val) (w : State) (k : ℕ)
+place_changed_by_kept : (ev : Eval) → Keeps ev → (env : Context) (p : of_values.Primitive) (a : Access) (fs : Forms) (vs : List Val) (w : State) (k : ℕ)
     → Kept w (place_changed_by ev env p a fs vs w k)
 place_changed_by_kept ev h env p a fs vs w k =
     amount_kept ev h env fs vs (λ us u j. changed_place ev env p a (last_first us) u j) (λ us u j. changed_place_kept ev h env p a (last_first us) u j) w k
 
-setq_kept : (ev : Eval) → Keeps ev → (env : Context) (ns : List Nam) (fs : Frms) (v : Val) (w : State) (k : ℕ) → Kept w (setq ev env ns fs v w k)
+setq_kept : (ev : Eval) → Keeps ev → (env : Context) (ns : List Name) (fs : Forms) (v : Val) (w : State) (k : ℕ) → Kept w (setq ev env ns fs v w k)
 setq_kept ev h env [] fs v w k = same w
 setq_kept ev h env (n ∷ ns) nil v w k = same w
 setq_kept ev h env (n ∷ ns) (cons f fs) v w k =
@@ -665,7 +665,7 @@ setq_kept ev h env (n ∷ ns) (cons f fs) v w k =
     (collect_kept ev h env (alone f) [] (name_stored ev env n) (λ us u j. name_stored_kept ev h env n us u j) w k)
     (λ x u j. setq_kept ev h env ns fs x u j)
 
-assigned_kept : (ev : Eval) → Keeps ev → (env : Context) (o : Option Plc) (ps : Frms) (f : Frm) (w : State) (k : ℕ) → Kept w (assigned ev env o ps f w k)
+assigned_kept : (ev : Eval) → Keeps ev → (env : Context) (o : Option Place) (ps : Forms) (f : Form) (w : State) (k : ℕ) → Kept w (assigned ev env o ps f w k)
 assigned_kept ev h env None ps f w k = same w
 assigned_kept ev h env (Some (variable_place n)) ps f w k =
     collect_kept ev h env (alone f) [] (name_stored ev env n) (λ us u j. name_stored_kept ev h env n us u j) w k
@@ -674,14 +674,14 @@ assigned_kept ev h env (Some slot_value_place) ps f w k =
 assigned_kept ev h env (Some (call_place n)) ps f w k =
     collect_kept ev h env ps [] (place_set_to ev env (call_access n) f) (λ us u j. place_set_to_kept ev h env (call_access n) f us u j) w k
 
-setf_kept : (ev : Eval) → Keeps ev → (env : Context) (fs : Frms) (v : Val) (w : State) (k : ℕ) → Kept w (setf ev env fs v w k)
+setf_kept : (ev : Eval) → Keeps ev → (env : Context) (fs : Forms) (v : Val) (w : State) (k : ℕ) → Kept w (setf ev env fs v w k)
 setf_kept ev h env nil v w k = same w
 setf_kept ev h env (cons p nil) v w k = same w
 setf_kept ev h env (cons p (cons f fs)) v w k =
     then_kept w (assigned ev env (place_in (operator_in p)) (parts_in p) f w k) (λ u. setf ev env fs u)
     (assigned_kept ev h env (place_in (operator_in p)) (parts_in p) f w k) (λ x u j. setf_kept ev h env fs x u j)
 
-place_kept : (ev : Eval) → Keeps ev → (env : Context) (p : of_values.Primitive) (o : Option Plc) (ps fs : Frms) (w : State) (k : ℕ)
+place_kept : (ev : Eval) → Keeps ev → (env : Context) (p : of_values.Primitive) (o : Option Place) (ps fs : Forms) (w : State) (k : ℕ)
     → Kept w (changed_by ev env p o ps fs w k)
 place_kept ev h env p None ps fs w k = same w
 place_kept ev h env p (Some (variable_place n)) ps fs w k =
@@ -691,7 +691,7 @@ place_kept ev h env p (Some slot_value_place) ps fs w k =
 place_kept ev h env p (Some (call_place n)) ps fs w k =
     collect_kept ev h env ps [] (place_changed_by ev env p (call_access n) fs) (λ us u j. place_changed_by_kept ev h env p (call_access n) fs us u j) w k
 
-changing_kept : (ev : Eval) → Keeps ev → (env : Context) (p : of_values.Primitive) (fs : Frms) (w : State) (k : ℕ) → Kept w (changing ev env p fs w k)
+changing_kept : (ev : Eval) → Keeps ev → (env : Context) (p : of_values.Primitive) (fs : Forms) (w : State) (k : ℕ) → Kept w (changing ev env p fs w k)
 changing_kept ev h env p nil w k = same w
 changing_kept ev h env p (cons f fs) w k = place_kept ev h env p (place_in (operator_in f)) (parts_in f) fs w k
 
@@ -701,11 +701,11 @@ other_kept : (b : Bool) (name : Val) (w : State) (k : ℕ) → Kept w (other_fun
 other_kept true name w k = same w
 other_kept false name w k = same w
 
-symbol_kept : (name : Nam) (o : Option ℕ) (w : State) (k : ℕ) → Kept w (symbol_function name o w k)
+symbol_kept : (name : Name) (o : Option ℕ) (w : State) (k : ℕ) → Kept w (symbol_function name o w k)
 symbol_kept name None w k = other_kept (is_plain_function w name) (name_value name) w k
 symbol_kept name (Some g) w k = same w
 
-setter_value_kept : (name : Nam) (o : Option ℕ) (w : State) (k : ℕ) → Kept w (setter_function name o w k)
+setter_value_kept : (name : Name) (o : Option ℕ) (w : State) (k : ℕ) → Kept w (setter_function name o w k)
 setter_value_kept name None w k = other_kept (is_some (function_in w.setters name)) (setter_value name) w k
 setter_value_kept name (Some g) w k = same w
 
@@ -715,12 +715,12 @@ value_kept (by_setf name) w k = setter_value_kept name (named w.generics (Setf n
 
 -- ---- forms
 
-next_method_kept : (ev : Eval) → Keeps ev → (env : Context) (fs : Frms) (w : State) (k : ℕ) → Kept w (next_method ev env fs w k)
+next_method_kept : (ev : Eval) → Keeps ev → (env : Context) (fs : Forms) (w : State) (k : ℕ) → Kept w (next_method ev env fs w k)
 next_method_kept ev h env nil w k = next_called_kept ev h env env.running env.arguments w k
 next_method_kept ev h env (cons f fs) w k =
     collect_kept ev h env (cons f fs) [] (next_with ev env) (λ us u j. next_given_kept ev h env env.running us u j) w k
 
-operated_kept : (ev : Eval) → Keeps ev → (env : Context) (o : Opr) (ps : Frms) (w : State) (k : ℕ) → Kept w (operated ev env o ps w k)
+operated_kept : (ev : Eval) → Keeps ev → (env : Context) (o : Operator) (ps : Forms) (w : State) (k : ℕ) → Kept w (operated ev env o ps w k)
 operated_kept ev h env (of.constant v) ps w k = same w
 operated_kept ev h env of.no_value ps w k = same w
 operated_kept ev h env (of.variable name) ps w k = name_read_kept ev h env name (place_denoted w name) w k
@@ -761,6 +761,6 @@ closed_kept w (Gave v u k) h = h
 closed_kept w (Stopped c u k) h = h
 closed_kept w (Noted n o) h = closed_kept w o h
 
-pub evaluation_kept : (room : ℕ) (f : Frm) (w : State) (k : ℕ) → Kept w (evaluation room f w k)
+pub evaluation_kept : (room : ℕ) (f : Form) (w : State) (k : ℕ) → Kept w (evaluation room f w k)
 evaluation_kept room f w k =
     closed_kept w (meaning room (known []) f (unbound w) k) (meaning_kept room (known []) f (unbound w) k)

@@ -1,33 +1,33 @@
 -- With no step left nothing changes.
 use Rattle.std.proofs.Common.{length, ◌≡◌, ℕ, zero, suc, List, [], ◌∷◌, ◌++◌, map, Option, Some, None, Result, Ok, Err, Bool, true, false, slice_get, refl, sym, subst}
 use Rattle.std.specs.Prelude.{codes, pos, is_some, if◌then◌else◌}
-use Rattle.lisp_data.specs.Name.{Nam}
+use Rattle.lisp_data.specs.Name.{Name}
 use Rattle.lisp_data.specs.Value.{Val}
 use Rattle.lisp_data.specs.Value as value
 use Rattle.lisp_prims.specs.Fault as prims
 use Rattle.lisp_prims.specs.Primitive.{answer, truth}
 use Rattle.lisp_prims.specs.declared.primitive.Primitive as of_values
-use Rattle.clos_forms.specs.Form.{Frm, Frms, nil, cons, operator_in, parts_in}
+use Rattle.clos_forms.specs.Form.{Form, Forms, nil, cons, operator_in, parts_in}
 use Rattle.clos_forms.specs.Quotation.{name_value}
-use Rattle.clos_forms.specs.Operator.{Bound, BoundSlot, Plc, variable_place, slot_value_place, call_place}
+use Rattle.clos_forms.specs.Operator.{Bound, BoundSlot, Place, variable_place, slot_value_place, call_place}
 use Rattle.clos_world.specs.FunctionName.{setter_value}
 use Rattle.clos_world.specs.Functions.{function_in}
 use Rattle.clos_forms.specs.Operator.{Callable, the_method, made}
 use Rattle.clos_forms.specs.declared.operator.FunctionName.TheVariants.{Symbol, Setf}
 use Rattle.clos_world.specs.clos_generic.Table.{named}
 use Rattle.clos_world.specs.clos_generic.Table as generics
-use Rattle.clos_world.specs.clos_generic_core.Shape.{takes_count}
-use Rattle.clos_world.specs.clos_generic_core.declared.method.Method.{Method}
-use Rattle.clos_world.specs.clos_generic_core.declared.method.MethodBody.{MethodBody}
-use Rattle.clos_world.specs.clos_generic_core.declared.method.MethodBody.TheVariants.{Forms, Reader, Writer, System}
+use Rattle.clos_world.specs.clos_method.Shape.{takes_count}
+use Rattle.clos_world.specs.clos_method.declared.method.Method.{Method}
+use Rattle.clos_world.specs.clos_method.declared.method.MethodBody.{MethodBody}
+use Rattle.clos_world.specs.clos_method.declared.method.MethodBody.TheVariants.{Forms as Body, Reader, Writer, System}
 use Rattle.clos_world.specs.clos_comb.Effective as comb
 use Rattle.clos_world.specs.clos_comb.Outcome.{Combined}
 use Rattle.clos_world.specs.clos_comb.Outcome as outcome
 use Rattle.clos_world.specs.Dispatch.{ordered}
 use Rattle.clos_world.specs.Globals.{is_global, any_global}
-use Rattle.clos_world.specs.clos_generic_core.System.{system_number}
-use Rattle.clos_world.specs.clos_generic_core.declared.system.SystemFunction.{SystemFunction}
-use Rattle.clos_world.specs.clos_generic_core.declared.system.SystemFunction.TheVariants.{InitializeInstance, ReinitializeInstance, SharedInitialize, UpdateInstanceForRedefinedClass, UpdateInstanceForDifferentClass, SlotUnbound, SlotMissing, NoApplicableMethod, NoNextMethod}
+use Rattle.clos_world.specs.clos_method.System.{system_number}
+use Rattle.clos_world.specs.clos_method.declared.system.SystemFunction.{SystemFunction}
+use Rattle.clos_world.specs.clos_method.declared.system.SystemFunction.TheVariants.{InitializeInstance, ReinitializeInstance, SharedInitialize, UpdateInstanceForRedefinedClass, UpdateInstanceForDifferentClass, SlotUnbound, SlotMissing, NoApplicableMethod, NoNextMethod}
 use Rattle.clos_world.specs.Values.{only_value, last_first}
 use Rattle.clos_world.specs.World.{State, Local, unbound, bound_as, local_named, class_of, held}
 use Rattle.clos_world.specs.declared.condition.Condition.{Condition}
@@ -78,14 +78,14 @@ abbrev pub Quiet : Out → State → Type 0
 Quiet o w = leaves (closed o) (unbound w) 0
 
 -- no step is left for a f
-pub no_step : (n : ℕ) (env : Context) (f : Frm) (w : State) → meaning n env f w 0 ≡ stopped StepLimit [] w 0
+pub no_step : (n : ℕ) (env : Context) (f : Form) (w : State) → meaning n env f w 0 ≡ stopped StepLimit [] w 0
 no_step zero env f w = refl
 no_step (suc n) env f w = refl
 
-pub task_quiet : (n : ℕ) (env : Context) (f : Frm) (w : State) → leaves (closed (meaning n env f w 0)) (unbound w) 0
+pub task_quiet : (n : ℕ) (env : Context) (f : Form) (w : State) → leaves (closed (meaning n env f w 0)) (unbound w) 0
 task_quiet n env f w = subst (λ o. leaves (closed o) (unbound w) 0) (sym (no_step n env f w)) (refl, refl)
 
-pub then_quiet : (n : ℕ) (env : Context) (f : Frm) (go : Val → Run) (w : State) → leaves (closed (then_do (meaning n env f w 0) go)) (unbound w) 0
+pub then_quiet : (n : ℕ) (env : Context) (f : Form) (go : Val → Run) (w : State) → leaves (closed (then_do (meaning n env f w 0) go)) (unbound w) 0
 then_quiet n env f go w = subst (λ o. leaves (closed (then_do o go)) (unbound w) 0) (sym (no_step n env f w)) (refl, refl)
 
 pub choice_quiet : (b : Bool) (x y : Out) (w : State) → leaves (closed x) (unbound w) 0 → leaves (closed y) (unbound w) 0 → leaves (closed (if b then x else y)) (unbound w) 0
@@ -96,7 +96,7 @@ choice_quiet false x y w p q = q
 abbrev Halts : State → Out → Type 0
 Halts w o = (c : Condition) × (o ≡ Stopped c w 0)
 
-halts : (n : ℕ) (env : Context) (f : Frm) (go : Val → Run) (w : State) → Halts w (then_do (meaning n env f w 0) go)
+halts : (n : ℕ) (env : Context) (f : Form) (go : Val → Run) (w : State) → Halts w (then_do (meaning n env f w 0) go)
 halts n env f go w =
     subst (λ o. Halts w (then_do o go)) (sym (no_step n env f w)) (record { kind = StepLimit; items = [] }, refl)
 
@@ -147,20 +147,20 @@ generic_quiet n vs g (Some f) w =
 pub invoked_quiet : (n : ℕ) (f : SystemFunction) (vs : List Val) (w : State) → Quiet (invoked (meaning n) f vs w 0) w
 invoked_quiet n f vs w = generic_quiet n vs (system_number f) (slice_get w.generics.functions (system_number f)) w
 
-pub sequence_quiet : (n : ℕ) (env : Context) (fs : Frms) (v : Val) (w : State) → Quiet (sequence (meaning n) env fs v w 0) w
+pub sequence_quiet : (n : ℕ) (env : Context) (fs : Forms) (v : Val) (w : State) → Quiet (sequence (meaning n) env fs v w 0) w
 sequence_quiet n env nil v w = (refl, refl)
 sequence_quiet n env (cons f fs) v w = then_quiet n env f (λ u. sequence (meaning n) env fs u) w
 
-pub binding_quiet : (name : Nam) (v : Val) (go : Run) (w : State) → ((u : State) → Quiet (go u 0) u) → Quiet (binding name v go w 0) w
+pub binding_quiet : (name : Name) (v : Val) (go : Run) (w : State) → ((u : State) → Quiet (go u 0) u) → Quiet (binding name v go w 0) w
 binding_quiet name v go w h = choice_quiet (is_global w.globals name) _ (go (inner name v w) 0) w (refl, refl) (h (inner name v w))
 
-pub parameters_quiet : (n : ℕ) (env : Context) (ps : Sources) (fs : Frms) (w : State) → Quiet (parameters_run (meaning n) env ps fs w 0) w
+pub parameters_quiet : (n : ℕ) (env : Context) (ps : Sources) (fs : Forms) (w : State) → Quiet (parameters_run (meaning n) env ps fs w 0) w
 parameters_quiet n env [] fs w = sequence_quiet n env fs (value.list value.nil) w
 parameters_quiet n env ((x, argument v) ∷ ps) fs w = binding_quiet x v (parameters_run (meaning n) env ps fs) w (λ u. parameters_quiet n env ps fs u)
 parameters_quiet n env ((x, refused c) ∷ ps) fs w = (refl, refl)
 parameters_quiet n env ((x, init f) ∷ ps) fs w = then_quiet n env f (λ v. binding x v (parameters_run (meaning n) env ps fs)) w
 
-pub body_quiet : (n : ℕ) (env : Context) (ps : Sources) (fs : Frms) (w : State) → Quiet (body_run (meaning n) env ps fs w 0) w
+pub body_quiet : (n : ℕ) (env : Context) (ps : Sources) (fs : Forms) (w : State) → Quiet (body_run (meaning n) env ps fs w 0) w
 body_quiet n env ps fs w = restored_quiet w.locals (parameters_run (meaning n) env ps fs (bound_as [] w) 0) w (parameters_quiet n env ps fs (bound_as [] w))
 
 pub defined_quiet : (n : ℕ) (vs : List Val) (name : Val) (o : Option Function) (w : State) → Quiet (called_defined (meaning n) vs name o w 0) w
@@ -169,7 +169,7 @@ defined_quiet n vs name (Some f) w =
     choice_quiet (fits f.lambda_list vs) (body_run (meaning n) (known vs) (sources f.lambda_list vs) f.body w 0) _ w
     (body_quiet n (known vs) (sources f.lambda_list vs) f.body w) (refl, refl)
 
-pub function_quiet : (n : ℕ) (name : Nam) (vs : List Val) (o : Option ℕ) (w : State) → Quiet (called_function (meaning n) name vs o w 0) w
+pub function_quiet : (n : ℕ) (name : Name) (vs : List Val) (o : Option ℕ) (w : State) → Quiet (called_function (meaning n) name vs o w 0) w
 function_quiet n name vs None w = defined_quiet n vs (name_value name) (function_in w.functions name) w
 function_quiet n name vs (Some g) w = generic_quiet n vs g (slice_get w.generics.functions g) w
 
@@ -191,38 +191,38 @@ comes_quiet (Err c) w = (refl, refl)
 
 -- ---- slots
 
-pub missing_quiet : (n : ℕ) (i : ℕ) (name : Nam) (operation : List ℕ) (new : List Val) (w : State) → Quiet (missing_called (meaning n) i name operation new w 0) w
+pub missing_quiet : (n : ℕ) (i : ℕ) (name : Name) (operation : List ℕ) (new : List Val) (w : State) → Quiet (missing_called (meaning n) i name operation new w 0) w
 missing_quiet n i name operation new w =
     invoked_quiet n SlotMissing (class_value w i ∷ value.instance i ∷ name_value name ∷ operation_name operation ∷ new) w
 
-pub slot_read_quiet : (n : ℕ) (env : Context) (i : ℕ) (name : Nam) (o : Option (Option Val)) (w : State) → Quiet (slot_read (meaning n) env i name o w 0) w
+pub slot_read_quiet : (n : ℕ) (env : Context) (i : ℕ) (name : Name) (o : Option (Option Val)) (w : State) → Quiet (slot_read (meaning n) env i name o w 0) w
 slot_read_quiet n env i name None w = missing_quiet n i name (codes "SLOT-VALUE") [] w
 slot_read_quiet n env i name (Some None) w = invoked_quiet n SlotUnbound (class_value w i ∷ value.instance i ∷ name_value name ∷ []) w
 slot_read_quiet n env i name (Some (Some v)) w = (refl, refl)
 
-pub slot_tested_quiet : (n : ℕ) (env : Context) (i : ℕ) (name : Nam) (o : Option (Option Val)) (w : State) → Quiet (slot_tested (meaning n) env i name o w 0) w
+pub slot_tested_quiet : (n : ℕ) (env : Context) (i : ℕ) (name : Name) (o : Option (Option Val)) (w : State) → Quiet (slot_tested (meaning n) env i name o w 0) w
 slot_tested_quiet n env i name None w =
     follows_quiet (missing_called (meaning n) i name (codes "SLOT-BOUNDP") [] w 0) (λ v. gave (truth (is_true v))) w
     (missing_quiet n i name (codes "SLOT-BOUNDP") [] w) (λ v u. (refl, refl))
 slot_tested_quiet n env i name (Some x) w = (refl, refl)
 
-pub missing_changed_quiet : (n : ℕ) (i : ℕ) (name : Nam) (x : Option Val) (w : State) → Quiet (missing_changed (meaning n) i name x w 0) w
+pub missing_changed_quiet : (n : ℕ) (i : ℕ) (name : Name) (x : Option Val) (w : State) → Quiet (missing_changed (meaning n) i name x w 0) w
 missing_changed_quiet n i name None w = missing_quiet n i name (codes "SLOT-MAKUNBOUND") [] w
 missing_changed_quiet n i name (Some v) w = missing_quiet n i name (codes "SETF") (v ∷ []) w
 
-pub slot_changed_quiet : (n : ℕ) (env : Context) (i : ℕ) (name : Nam) (x : Option Val) (v : Val) (o : Option (Option Val)) (w : State)
+pub slot_changed_quiet : (n : ℕ) (env : Context) (i : ℕ) (name : Name) (x : Option Val) (v : Val) (o : Option (Option Val)) (w : State)
     → Quiet (slot_changed (meaning n) env i name x v o w 0) w
 slot_changed_quiet n env i name x v None w =
     follows_quiet (missing_changed (meaning n) i name x w 0) (λ y. gave v) w (missing_changed_quiet n i name x w) (λ y u. (refl, refl))
 slot_changed_quiet n env i name x v (Some old) w = (refl, refl)
 
-pub slot_answer_quiet : (n : ℕ) (env : Context) (f : of_slots.SlotFunction) (i : ℕ) (name : Nam) (w : State) → Quiet (slot_answer (meaning n) env f i name w 0) w
+pub slot_answer_quiet : (n : ℕ) (env : Context) (f : of_slots.SlotFunction) (i : ℕ) (name : Name) (w : State) → Quiet (slot_answer (meaning n) env f i name w 0) w
 slot_answer_quiet n env SlotValue i name w = slot_read_quiet n env i name (slot_found w.store i name) w
 slot_answer_quiet n env SlotBoundp i name w = slot_tested_quiet n env i name (slot_found w.store i name) w
 slot_answer_quiet n env SlotMakunbound i name w = slot_changed_quiet n env i name None (value.instance i) (slot_found w.store i name) w
 slot_answer_quiet n env SlotExistsP i name w = (refl, refl)
 
-pub slot_applied_quiet : (n : ℕ) (env : Context) (f : of_slots.SlotFunction) (d : Result (ℕ × Nam) Condition) (w : State) → Quiet (slot_applied (meaning n) env f d w 0) w
+pub slot_applied_quiet : (n : ℕ) (env : Context) (f : of_slots.SlotFunction) (d : Result (ℕ × Name) Condition) (w : State) → Quiet (slot_applied (meaning n) env f d w 0) w
 slot_applied_quiet n env f (Err c) w = (refl, refl)
 slot_applied_quiet n env f (Ok p) w = slot_answer_quiet n env f p.0 p.1 w
 
@@ -232,7 +232,7 @@ slot_called_quiet n env f (v ∷ []) w = (refl, refl)
 slot_called_quiet n env f (v ∷ (x ∷ [])) w = slot_applied_quiet n env f (slot_designated v x) w
 slot_called_quiet n env f (v ∷ (x ∷ (y ∷ vs))) w = (refl, refl)
 
-pub slot_given_quiet : (n : ℕ) (env : Context) (x : Val) (d : Result (ℕ × Nam) Condition) (w : State) → Quiet (slot_given (meaning n) env x d w 0) w
+pub slot_given_quiet : (n : ℕ) (env : Context) (x : Val) (d : Result (ℕ × Name) Condition) (w : State) → Quiet (slot_given (meaning n) env x d w 0) w
 slot_given_quiet n env x (Err c) w = (refl, refl)
 slot_given_quiet n env x (Ok p) w = slot_changed_quiet n env p.0 p.1 (Some x) x (slot_found w.store p.0 p.1) w
 
@@ -243,11 +243,11 @@ slot_set_quiet n env (v ∷ (x ∷ [])) w = (refl, refl)
 slot_set_quiet n env (v ∷ (x ∷ (y ∷ []))) w = slot_given_quiet n env y (slot_designated v x) w
 slot_set_quiet n env (v ∷ (x ∷ (y ∷ (z ∷ vs)))) w = (refl, refl)
 
-pub written_quiet_of : (n : ℕ) (env : Context) (slot : Nam) (x : Val) (d : Result ℕ Condition) (w : State) → Quiet (written_of (meaning n) env slot x d w 0) w
+pub written_quiet_of : (n : ℕ) (env : Context) (slot : Name) (x : Val) (d : Result ℕ Condition) (w : State) → Quiet (written_of (meaning n) env slot x d w 0) w
 written_quiet_of n env slot x (Err c) w = (refl, refl)
 written_quiet_of n env slot x (Ok i) w = slot_changed_quiet n env i slot (Some x) x (slot_found w.store i slot) w
 
-pub written_quiet : (n : ℕ) (env : Context) (slot : Nam) (vs : List Val) (w : State) → Quiet (written_by (meaning n) env slot vs w 0) w
+pub written_quiet : (n : ℕ) (env : Context) (slot : Name) (vs : List Val) (w : State) → Quiet (written_by (meaning n) env slot vs w 0) w
 written_quiet n env slot [] w = (refl, refl)
 written_quiet n env slot (x ∷ []) w = (refl, refl)
 written_quiet n env slot (x ∷ (v ∷ [])) w = written_quiet_of n env slot x (instance_in v) w
@@ -298,7 +298,7 @@ pub instance_quiet : (n : ℕ) (vs : List Val) (w : State) → Quiet (instance_m
 instance_quiet n [] w = (refl, refl)
 instance_quiet n (v ∷ vs) w = choice_quiet (are_pairs vs) (making (meaning n) vs (designated w.classes v) w 0) _ w (making_quiet n vs (designated w.classes v) w) (refl, refl)
 
-pub applied_quiet : (n : ℕ) (env : Context) (c : Callee) (name : Nam) (vs : List Val) (w : State) → leaves (closed (applied (meaning n) env c name vs w 0)) (unbound w) 0
+pub applied_quiet : (n : ℕ) (env : Context) (c : Callee) (name : Name) (vs : List Val) (w : State) → leaves (closed (applied (meaning n) env c name vs w 0)) (unbound w) 0
 applied_quiet n env (Output o) name vs w = output_quiet o (only_value vs) w
 applied_quiet n env Terpri name vs w = line_quiet vs w
 applied_quiet n env (Primitive p) name vs w = answered_quiet (answer p vs) w
@@ -310,13 +310,13 @@ applied_quiet n env Defined name vs w = function_quiet n name vs (named w.generi
 
 -- ---- assignment
 
-pub globally_quiet : (name : Nam) (v : Val) (w : State) → Quiet (stored_globally name v w 0) w
+pub globally_quiet : (name : Name) (v : Val) (w : State) → Quiet (stored_globally name v w 0) w
 globally_quiet name v w = choice_quiet (is_global w.globals name) _ _ w (refl, refl) (refl, refl)
 
-pub stored_quiet : (name : Nam) (v : Val) (w : State) → Quiet (stored name v w 0) w
+pub stored_quiet : (name : Name) (v : Val) (w : State) → Quiet (stored name v w 0) w
 stored_quiet name v w = choice_quiet (is_some (local_named w.locals name)) _ (stored_globally name v w 0) w (refl, refl) (globally_quiet name v w)
 
-pub stored_only_quiet : (name : Nam) (o : Option Val) (w : State) → Quiet (stored_only name o w 0) w
+pub stored_only_quiet : (name : Name) (o : Option Val) (w : State) → Quiet (stored_only name o w 0) w
 stored_only_quiet name None w = (refl, refl)
 stored_only_quiet name (Some v) w = stored_quiet name v w
 
@@ -324,23 +324,23 @@ pub answered_same : (x : Result Val prims.Condition) (w : State) → leaves (ans
 answered_same (Ok v) w = (refl, refl)
 answered_same (Err c) w = (refl, refl)
 
-pub made_same : (p : of_values.Primitive) (name : Nam) (amount : Val) (o : Option Val) (w : State)
+pub made_same : (p : of_values.Primitive) (name : Name) (amount : Val) (o : Option Val) (w : State)
     → leaves (then_do (variable_value name o w 0) (λ old. answered (answer p (old ∷ amount ∷ [])))) w 0
 made_same p name amount None w = (refl, refl)
 made_same p name amount (Some v) w = answered_same (answer p (v ∷ amount ∷ [])) w
 
-pub changed_quiet : (p : of_values.Primitive) (name : Nam) (o : Option Val) (w : State) → Quiet (changed_only p name o w 0) w
+pub changed_quiet : (p : of_values.Primitive) (name : Name) (o : Option Val) (w : State) → Quiet (changed_only p name o w 0) w
 changed_quiet p name None w = (refl, refl)
 changed_quiet p name (Some amount) w =
     then_same (made_of p name amount w 0) (λ v. stored name v) w (made_same p name amount (found_value w name) w) (λ v. stored_quiet name v w)
 
 -- ---- a call that is changed
 
-pub setter_quiet_by : (n : ℕ) (name : Nam) (vs : List Val) (o : Option ℕ) (w : State) → Quiet (called_setter_by (meaning n) name vs o w 0) w
+pub setter_quiet_by : (n : ℕ) (name : Name) (vs : List Val) (o : Option ℕ) (w : State) → Quiet (called_setter_by (meaning n) name vs o w 0) w
 setter_quiet_by n name vs None w = defined_quiet n vs (setter_value name) (function_in w.setters name) w
 setter_quiet_by n name vs (Some g) w = generic_quiet n vs g (slice_get w.generics.functions g) w
 
-pub setter_quiet : (n : ℕ) (name : Nam) (vs : List Val) (w : State) → Quiet (called_setter (meaning n) name vs w 0) w
+pub setter_quiet : (n : ℕ) (name : Name) (vs : List Val) (w : State) → Quiet (called_setter (meaning n) name vs w 0) w
 setter_quiet n name vs w = setter_quiet_by n name (last_first vs) (named w.generics (Setf name)) w
 
 pub read_quiet : (n : ℕ) (env : Context) (t : Access) (vs : List Val) (w : State) → Quiet (place_read (meaning n) env t vs w 0) w
@@ -364,7 +364,7 @@ change_place_quiet n env p t (amount ∷ vs) w =
     follows_quiet (place_read (meaning n) env t vs w 0) (λ old. changed_from (meaning n) env p t vs amount old) w
     (read_quiet n env t vs w) (λ old u. changed_from_quiet n env p t vs amount old u)
 
-pub amount_quiet : (n : ℕ) (env : Context) (p : of_values.Primitive) (t : Access) (fs : Frms) (vs : List Val) (w : State)
+pub amount_quiet : (n : ℕ) (env : Context) (p : of_values.Primitive) (t : Access) (fs : Forms) (vs : List Val) (w : State)
     → Quiet (with_amount (meaning n) env fs vs (λ us u k. changed_place (meaning n) env p t (last_first us) u k) w 0) w
 amount_quiet n env p t nil vs w = change_place_quiet n env p t (last_first (vs ++ value.integer (pos 1) ∷ [])) w
 amount_quiet n env p t (cons f fs) vs w =
@@ -372,11 +372,11 @@ amount_quiet n env p t (cons f fs) vs w =
 
 -- ---- names
 
-pub name_set_quiet : (n : ℕ) (env : Context) (name : Nam) (o : Option (List Val)) (vs : List Val) (w : State) → Quiet (name_set (meaning n) env name o vs w 0) w
+pub name_set_quiet : (n : ℕ) (env : Context) (name : Name) (o : Option (List Val)) (vs : List Val) (w : State) → Quiet (name_set (meaning n) env name o vs w 0) w
 name_set_quiet n env name None vs w = stored_only_quiet name (only_value vs) w
 name_set_quiet n env name (Some place) vs w = set_quiet n env slot_access (place ++ vs) w
 
-pub name_changed_quiet : (n : ℕ) (env : Context) (p : of_values.Primitive) (name : Nam) (o : Option (List Val)) (vs : List Val) (w : State)
+pub name_changed_quiet : (n : ℕ) (env : Context) (p : of_values.Primitive) (name : Name) (o : Option (List Val)) (vs : List Val) (w : State)
     → Quiet (name_changed (meaning n) env p name o vs w 0) w
 name_changed_quiet n env p name None vs w = changed_quiet p name (only_value vs) w
 name_changed_quiet n env p name (Some place) vs w = change_place_quiet n env p slot_access (last_first (place ++ vs)) w
@@ -443,17 +443,17 @@ system_quiet n NoNextMethod (v ∷ (m ∷ vs)) w = (refl, refl)
 
 -- ---- methods
 
-pub read_of_quiet : (n : ℕ) (env : Context) (slot : Nam) (d : Result ℕ Condition) (w : State) → Quiet (read_of (meaning n) env slot d w 0) w
+pub read_of_quiet : (n : ℕ) (env : Context) (slot : Name) (d : Result ℕ Condition) (w : State) → Quiet (read_of (meaning n) env slot d w 0) w
 read_of_quiet n env slot (Err c) w = (refl, refl)
 read_of_quiet n env slot (Ok i) w = slot_read_quiet n env i slot (slot_found w.store i slot) w
 
-pub reader_quiet : (n : ℕ) (env : Context) (slot : Nam) (vs : List Val) (w : State) → Quiet (read_by (meaning n) env slot vs w 0) w
+pub reader_quiet : (n : ℕ) (env : Context) (slot : Name) (vs : List Val) (w : State) → Quiet (read_by (meaning n) env slot vs w 0) w
 reader_quiet n env slot [] w = (refl, refl)
 reader_quiet n env slot (v ∷ []) w = read_of_quiet n env slot (instance_in v) w
 reader_quiet n env slot (v ∷ (x ∷ vs)) w = (refl, refl)
 
 pub method_body_quiet : (n : ℕ) (env : Context) (b : MethodBody) (w : State) → Quiet (method_body_run (meaning n) env b w 0) w
-method_body_quiet n env (Forms l fs) w =
+method_body_quiet n env (Body l fs) w =
     choice_quiet (keys_are_even l env.arguments) (body_run (meaning n) env (sources l env.arguments) fs w 0) _ w
     (body_quiet n env (sources l env.arguments) fs w) (refl, refl)
 method_body_quiet n env (Reader slot) w = reader_quiet n env slot env.arguments w
@@ -464,11 +464,11 @@ pub method_quiet : (n : ℕ) (env : Context) (o : Option Method) (w : State) →
 method_quiet n env None w = (refl, refl)
 method_quiet n env (Some m) w = method_body_quiet n env m.body w
 
-pub made_quiet : (n : ℕ) (env : Context) (fs : Frms) (w : State) → Quiet (made_run (meaning n) env fs w 0) w
+pub made_quiet : (n : ℕ) (env : Context) (fs : Forms) (w : State) → Quiet (made_run (meaning n) env fs w 0) w
 made_quiet n env nil w = (refl, refl)
 made_quiet n env (cons f fs) w = restored_quiet w.locals (meaning n env f (bound_as [] w) 0) w (task_quiet n env f (bound_as [] w))
 
-pub called_method_quiet : (n : ℕ) (env : Context) (m : Callable) (next : List Callable) (fs : Frms) (w : State) → Quiet (method_called (meaning n) env m next fs w 0) w
+pub called_method_quiet : (n : ℕ) (env : Context) (m : Callable) (next : List Callable) (fs : Forms) (w : State) → Quiet (method_called (meaning n) env m next fs w 0) w
 called_method_quiet n env (the_method m) next fs w = method_quiet n (running m next fs env) (slice_get w.generics.methods m) w
 called_method_quiet n env made next fs w = made_quiet n env fs w
 
@@ -498,31 +498,31 @@ next_given_quiet n env (Some r) vs w = next_in_quiet n env r env.call vs w
 
 -- ---- values one after another, and what is done with them
 
-pub collect_quiet : (n : ℕ) (env : Context) (fs : Frms) (vs : List Val) (go : List Val → Run) → ((us : List Val) (u : State) → Quiet (go us u 0) u) → (w : State)
+pub collect_quiet : (n : ℕ) (env : Context) (fs : Forms) (vs : List Val) (go : List Val → Run) → ((us : List Val) (u : State) → Quiet (go us u 0) u) → (w : State)
     → Quiet (collect (meaning n) env fs vs go w 0) w
 collect_quiet n env nil vs go h w = h vs w
 collect_quiet n env (cons f fs) vs go h w = then_quiet n env f (λ v. collect (meaning n) env fs (vs ++ v ∷ []) go) w
 
 -- ---- assignments
 
-pub setq_quiet : (n : ℕ) (env : Context) (ns : List Nam) (fs : Frms) (v : Val) (w : State) → Quiet (setq (meaning n) env ns fs v w 0) w
+pub setq_quiet : (n : ℕ) (env : Context) (ns : List Name) (fs : Forms) (v : Val) (w : State) → Quiet (setq (meaning n) env ns fs v w 0) w
 setq_quiet n env [] fs v w = (refl, refl)
 setq_quiet n env (x ∷ ns) nil v w = (refl, refl)
 setq_quiet n env (x ∷ ns) (cons f fs) v w =
     halted (collect (meaning n) env (alone f) [] (name_stored (meaning n) env x) w 0) (λ u. setq (meaning n) env ns fs u) w
     (halts n env f (λ v. collect (meaning n) env nil (v ∷ []) (name_stored (meaning n) env x)) w)
 
-pub placed_halts : (n : ℕ) (env : Context) (t : Access) (ps : Frms) (f : Frm) (w : State) → Halts w (collect (meaning n) env ps [] (place_set_to (meaning n) env t f) w 0)
+pub placed_halts : (n : ℕ) (env : Context) (t : Access) (ps : Forms) (f : Form) (w : State) → Halts w (collect (meaning n) env ps [] (place_set_to (meaning n) env t f) w 0)
 placed_halts n env t nil f w = halts n env f (λ v. collect (meaning n) env nil (v ∷ []) (λ us u k. place_set (meaning n) env t us u k)) w
 placed_halts n env t (cons p ps) f w = halts n env p (λ v. collect (meaning n) env ps (v ∷ []) (place_set_to (meaning n) env t f)) w
 
-pub assigned_halts : (n : ℕ) (env : Context) (o : Option Plc) (ps : Frms) (f : Frm) (w : State) → Halts w (assigned (meaning n) env o ps f w 0)
+pub assigned_halts : (n : ℕ) (env : Context) (o : Option Place) (ps : Forms) (f : Form) (w : State) → Halts w (assigned (meaning n) env o ps f w 0)
 assigned_halts n env None ps f w = (_, refl)
 assigned_halts n env (Some (variable_place x)) ps f w = halts n env f (λ v. collect (meaning n) env nil (v ∷ []) (name_stored (meaning n) env x)) w
 assigned_halts n env (Some slot_value_place) ps f w = placed_halts n env slot_access ps f w
 assigned_halts n env (Some (call_place x)) ps f w = placed_halts n env (call_access x) ps f w
 
-pub setf_quiet : (n : ℕ) (env : Context) (fs : Frms) (v : Val) (w : State) → Quiet (setf (meaning n) env fs v w 0) w
+pub setf_quiet : (n : ℕ) (env : Context) (fs : Forms) (v : Val) (w : State) → Quiet (setf (meaning n) env fs v w 0) w
 setf_quiet n env nil v w = (refl, refl)
 setf_quiet n env (cons p nil) v w = (refl, refl)
 setf_quiet n env (cons p (cons f fs)) v w =
@@ -531,46 +531,46 @@ setf_quiet n env (cons p (cons f fs)) v w =
 
 -- ---- control
 
-pub while_quiet : (n : ℕ) (env : Context) (fs : Frms) (v : Val) (w : State) → leaves (closed (while_true (meaning n) env fs v w 0)) (unbound w) 0
+pub while_quiet : (n : ℕ) (env : Context) (fs : Forms) (v : Val) (w : State) → leaves (closed (while_true (meaning n) env fs v w 0)) (unbound w) 0
 while_quiet n env nil v w = (refl, refl)
 while_quiet n env (cons f fs) v w = then_quiet n env f (λ u t k. if is_true u then while_true (meaning n) env fs u t k else Gave u t k) w
 
-pub until_quiet : (n : ℕ) (env : Context) (fs : Frms) (v : Val) (w : State) → leaves (closed (until_true (meaning n) env fs v w 0)) (unbound w) 0
+pub until_quiet : (n : ℕ) (env : Context) (fs : Forms) (v : Val) (w : State) → leaves (closed (until_true (meaning n) env fs v w 0)) (unbound w) 0
 until_quiet n env nil v w = (refl, refl)
 until_quiet n env (cons f fs) v w = then_quiet n env f (λ u t k. if is_true u then Gave u t k else until_true (meaning n) env fs u t k) w
 
-pub keeping_quiet : (n : ℕ) (env : Context) (fs : Frms) (v : Val) (w : State) → leaves (closed (keeping (meaning n) env fs v w 0)) (unbound w) 0
+pub keeping_quiet : (n : ℕ) (env : Context) (fs : Forms) (v : Val) (w : State) → leaves (closed (keeping (meaning n) env fs v w 0)) (unbound w) 0
 keeping_quiet n env nil v w = (refl, refl)
 keeping_quiet n env (cons f fs) v w = then_quiet n env f (λ u. keeping (meaning n) env fs v) w
 
-pub branch_quiet : (n : ℕ) (env : Context) (b : Bool) (fs : Frms) (w : State) → leaves (closed (branch (meaning n) env b fs w 0)) (unbound w) 0
+pub branch_quiet : (n : ℕ) (env : Context) (b : Bool) (fs : Forms) (w : State) → leaves (closed (branch (meaning n) env b fs w 0)) (unbound w) 0
 branch_quiet n env b nil w = (refl, refl)
 branch_quiet n env true (cons f fs) w = task_quiet n env f w
 branch_quiet n env false (cons f fs) w = sequence_quiet n env fs (value.list value.nil) w
 
-pub where_true_quiet : (n : ℕ) (env : Context) (fs : Frms) (v : Val) (w : State) → Quiet (where_true (meaning n) env fs v w 0) w
+pub where_true_quiet : (n : ℕ) (env : Context) (fs : Forms) (v : Val) (w : State) → Quiet (where_true (meaning n) env fs v w 0) w
 where_true_quiet n env fs v w =
     choice_quiet (is_true v) (sequence (meaning n) env fs (value.list value.nil) w 0) _ w (sequence_quiet n env fs (value.list value.nil) w) (refl, refl)
 
-pub where_false_quiet : (n : ℕ) (env : Context) (fs : Frms) (v : Val) (w : State) → Quiet (where_false (meaning n) env fs v w 0) w
+pub where_false_quiet : (n : ℕ) (env : Context) (fs : Forms) (v : Val) (w : State) → Quiet (where_false (meaning n) env fs v w 0) w
 where_false_quiet n env fs v w =
     choice_quiet (is_true v) _ (sequence (meaning n) env fs (value.list value.nil) w 0) w (refl, refl) (sequence_quiet n env fs (value.list value.nil) w)
 
-pub and_quiet : (n : ℕ) (env : Context) (fs : Frms) (v : Val) (w : State) → Quiet (and_then (meaning n) env fs v w 0) w
+pub and_quiet : (n : ℕ) (env : Context) (fs : Forms) (v : Val) (w : State) → Quiet (and_then (meaning n) env fs v w 0) w
 and_quiet n env fs v w = choice_quiet (is_true v) (while_true (meaning n) env fs v w 0) _ w (while_quiet n env fs v w) (refl, refl)
 
-pub or_quiet : (n : ℕ) (env : Context) (fs : Frms) (v : Val) (w : State) → Quiet (or_then (meaning n) env fs v w 0) w
+pub or_quiet : (n : ℕ) (env : Context) (fs : Forms) (v : Val) (w : State) → Quiet (or_then (meaning n) env fs v w 0) w
 or_quiet n env fs v w = choice_quiet (is_true v) _ (until_true (meaning n) env fs v w 0) w (refl, refl) (until_quiet n env fs v w)
 
-pub clause_quiet : (n : ℕ) (env : Context) (fs : Frms) (rest : Run) (w : State) → leaves (closed (clause (meaning n) env fs rest w 0)) (unbound w) 0
+pub clause_quiet : (n : ℕ) (env : Context) (fs : Forms) (rest : Run) (w : State) → leaves (closed (clause (meaning n) env fs rest w 0)) (unbound w) 0
 clause_quiet n env nil rest w = (refl, refl)
 clause_quiet n env (cons f fs) rest w = then_quiet n env f (λ v. tested (meaning n) env fs rest v) w
 
-pub clauses_quiet : (n : ℕ) (env : Context) (cs : Frms) (w : State) → leaves (closed (clauses (meaning n) env cs w 0)) (unbound w) 0
+pub clauses_quiet : (n : ℕ) (env : Context) (cs : Forms) (w : State) → leaves (closed (clauses (meaning n) env cs w 0)) (unbound w) 0
 clauses_quiet n env nil w = (refl, refl)
 clauses_quiet n env (cons c cs) w = clause_quiet n env (parts_in c) (λ t k. clauses (meaning n) env cs t k) w
 
-pub tested_quiet : (n : ℕ) (env : Context) (fs cs : Frms) (v : Val) (w : State) → leaves (closed (tested (meaning n) env fs (clauses (meaning n) env cs) v w 0)) (unbound w) 0
+pub tested_quiet : (n : ℕ) (env : Context) (fs cs : Forms) (v : Val) (w : State) → leaves (closed (tested (meaning n) env fs (clauses (meaning n) env cs) v w 0)) (unbound w) 0
 tested_quiet n env fs cs v w =
     choice_quiet (is_true v) (sequence (meaning n) env fs v w 0) (clauses (meaning n) env cs w 0) w (sequence_quiet n env fs v w) (clauses_quiet n env cs w)
 
@@ -581,36 +581,36 @@ left_quiet m (Gave v u k) w h = h
 left_quiet m (Stopped c u k) w h = h
 left_quiet m (Noted n o) w h = left_quiet m o w h
 
-pub init_quiet : (n : ℕ) (env : Context) (fs : Frms) (go : Frms → Val → Run) (w : State) → leaves (closed (init_form (meaning n) env fs go w 0)) (unbound w) 0
+pub init_quiet : (n : ℕ) (env : Context) (fs : Forms) (go : Forms → Val → Run) (w : State) → leaves (closed (init_form (meaning n) env fs go w 0)) (unbound w) 0
 init_quiet n env nil go w = (refl, refl)
 init_quiet n env (cons f fs) go w = then_quiet n env f (λ v. go fs v) w
 
-pub within_quiet : (n : ℕ) (env : Context) (m : ℕ) (fs : Frms) (v : Val) (w : State) → Quiet (within (meaning n) env m fs v w 0) w
+pub within_quiet : (n : ℕ) (env : Context) (m : ℕ) (fs : Forms) (v : Val) (w : State) → Quiet (within (meaning n) env m fs v w 0) w
 within_quiet n env m fs v w = left_quiet m (sequence (meaning n) env fs v w 0) w (sequence_quiet n env fs v w)
 
-pub order_quiet : (n : ℕ) (env : Context) (m : ℕ) (bs : List Bound) (fs : Frms) (w : State) → Quiet (in_order (meaning n) env m bs fs w 0) w
+pub order_quiet : (n : ℕ) (env : Context) (m : ℕ) (bs : List Bound) (fs : Forms) (w : State) → Quiet (in_order (meaning n) env m bs fs w 0) w
 order_quiet n env m [] fs w = within_quiet n env m fs (value.list value.nil) w
 order_quiet n env m (b ∷ bs) fs w =
     choice_quiet b.has_init (init_form (meaning n) env fs (λ rest v. binding b.name v (in_order (meaning n) env m bs rest)) w 0) _ w
     (init_quiet n env fs (λ rest v. binding b.name v (in_order (meaning n) env m bs rest)) w)
     (binding_quiet b.name (value.list value.nil) (in_order (meaning n) env m bs fs) w (λ u. order_quiet n env m bs fs u))
 
-pub together_quiet : (n : ℕ) (env : Context) (m : ℕ) (ls : List Local) (fs : Frms) (w : State) → Quiet (together (meaning n) env m ls fs w 0) w
+pub together_quiet : (n : ℕ) (env : Context) (m : ℕ) (ls : List Local) (fs : Forms) (w : State) → Quiet (together (meaning n) env m ls fs w 0) w
 together_quiet n env m ls fs w =
     choice_quiet (any_global w.globals (map name_in ls)) _ (within (meaning n) env m fs (value.list value.nil) (bound_as (ls ++ w.locals) w) 0) w (refl, refl)
     (within_quiet n env m fs (value.list value.nil) (bound_as (ls ++ w.locals) w))
 
-pub aside_quiet : (n : ℕ) (env : Context) (m : ℕ) (bs : List Bound) (fs : Frms) (ls : List Local) (w : State) → Quiet (aside (meaning n) env m bs fs ls w 0) w
+pub aside_quiet : (n : ℕ) (env : Context) (m : ℕ) (bs : List Bound) (fs : Forms) (ls : List Local) (w : State) → Quiet (aside (meaning n) env m bs fs ls w 0) w
 aside_quiet n env m [] fs ls w = together_quiet n env m ls fs w
 aside_quiet n env m (b ∷ bs) fs ls w =
     choice_quiet b.has_init (init_form (meaning n) env fs (λ rest v. aside (meaning n) env m bs rest ((b.name, held v) ∷ ls)) w 0) _ w
     (init_quiet n env fs (λ rest v. aside (meaning n) env m bs rest ((b.name, held v) ∷ ls)) w)
     (aside_quiet n env m bs fs ((b.name, held (value.list value.nil)) ∷ ls) w)
 
-pub within_slots_quiet : (n : ℕ) (env : Context) (bs : List BoundSlot) (fs : Frms) (object : Val) (w : State) → Quiet (within_slots (meaning n) env bs fs object w 0) w
+pub within_slots_quiet : (n : ℕ) (env : Context) (bs : List BoundSlot) (fs : Forms) (object : Val) (w : State) → Quiet (within_slots (meaning n) env bs fs object w 0) w
 within_slots_quiet n env bs fs object w = within_quiet n env (length w.locals) fs (value.list value.nil) (bound_as (slot_locals bs object ++ w.locals) w)
 
-pub result_quiet : (n : ℕ) (env : Context) (b : Bool) (fs : Frms) (w : State) → Quiet (result_value (meaning n) env b fs w 0) w
+pub result_quiet : (n : ℕ) (env : Context) (b : Bool) (fs : Forms) (w : State) → Quiet (result_value (meaning n) env b fs w 0) w
 result_quiet n env false fs w = (refl, refl)
 result_quiet n env true nil w = (refl, refl)
 result_quiet n env true (cons f fs) w = task_quiet n env f w
@@ -631,12 +631,12 @@ repeated_quiet n env l (value.generic x) w = (refl, refl)
 repeated_quiet n env l (value.method x) w = (refl, refl)
 repeated_quiet n env l (value.instance x) w = (refl, refl)
 
-pub turn_quiet : (n : ℕ) (env : Context) (l : Loop) (left done : ℕ) (fs : Frms) (v : Val) (w : State)
+pub turn_quiet : (n : ℕ) (env : Context) (l : Loop) (left done : ℕ) (fs : Forms) (v : Val) (w : State)
     → Quiet (then_do (sequence (meaning n) env fs v w 0) (λ u. turns (meaning n) env l left done)) w
 turn_quiet n env l left done nil v w = turns_quiet n env l left done w
 turn_quiet n env l left done (cons f fs) v w =
     halted (sequence (meaning n) env (cons f fs) v w 0) (λ u. turns (meaning n) env l left done) w (halts n env f (λ u. sequence (meaning n) env fs u) w)
 
 -- a form by itself
-pub evaluation_quiet : (n : ℕ) (env : Context) (f : Frm) (w : State) → Quiet (meaning n env f w 0) w
+pub evaluation_quiet : (n : ℕ) (env : Context) (f : Form) (w : State) → Quiet (meaning n env f w 0) w
 evaluation_quiet = task_quiet

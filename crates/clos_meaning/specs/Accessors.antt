@@ -1,6 +1,6 @@
 -- What the methods of readers and writers do (HyperSpec 7.5.2).
 use Rattle.std.specs.Prelude.{ℕ, List, [], ◌∷◌, Some, Result, Ok, Err}
-use Rattle.lisp_data.specs.Name.{Nam}
+use Rattle.lisp_data.specs.Name.{Name}
 use Rattle.lisp_data.specs.Value.{Val}
 use Rattle.clos_world.specs.clos_store.Store.{slot_found}
 use Rattle.clos_world.specs.declared.condition.Condition.{Condition}
@@ -12,12 +12,12 @@ use Rattle.clos_meaning.specs.declared.arguments.Context.{Context}
 -- ---- a reader is called with an instance
 
 -- the slot of the instance, as slot-value reads it; the condition where the argument is no instance
-abbrev pub read_of : Eval → Context → Nam → Result ℕ Condition → Run
+abbrev pub read_of : Eval → Context → Name → Result ℕ Condition → Run
 read_of ev env slot (Err c) w s = Stopped c w s
 read_of ev env slot (Ok i) w s = slot_read ev env i slot (slot_found w.store i slot) w s
 
 -- of just one argument; another number of them is PROGRAM-ERROR
-abbrev pub read_by : Eval → Context → Nam → List Val → Run
+abbrev pub read_by : Eval → Context → Name → List Val → Run
 read_by ev env slot [] w s = stopped ProgramError [] w s
 read_by ev env slot (v ∷ []) w s = read_of ev env slot (instance_in v) w s
 read_by ev env slot (v ∷ (x ∷ vs)) w s = stopped ProgramError [] w s
@@ -25,12 +25,12 @@ read_by ev env slot (v ∷ (x ∷ vs)) w s = stopped ProgramError [] w s
 -- ---- a writer with the new value and an instance
 
 -- the slot of the instance gets the new value, which is given; the condition where there is no instance
-abbrev pub written_of : Eval → Context → Nam → Val → Result ℕ Condition → Run
+abbrev pub written_of : Eval → Context → Name → Val → Result ℕ Condition → Run
 written_of ev env slot new (Err c) w s = Stopped c w s
 written_of ev env slot new (Ok i) w s = slot_changed ev env i slot (Some new) new (slot_found w.store i slot) w s
 
 -- of just two arguments, the new value first; another number of them is PROGRAM-ERROR
-abbrev pub written_by : Eval → Context → Nam → List Val → Run
+abbrev pub written_by : Eval → Context → Name → List Val → Run
 written_by ev env slot [] w s = stopped ProgramError [] w s
 written_by ev env slot (new ∷ []) w s = stopped ProgramError [] w s
 written_by ev env slot (new ∷ (v ∷ [])) w s = written_of ev env slot new (instance_in v) w s

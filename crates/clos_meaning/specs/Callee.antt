@@ -1,6 +1,6 @@
 -- What the functions of the language are, by their names (HyperSpec 3.1.2.1.2.3).
 use Rattle.std.specs.Prelude.{Option, Some, None, codes, if◌then◌else◌}
-use Rattle.lisp_data.specs.Name.{Nam}
+use Rattle.lisp_data.specs.Name.{Name}
 use Rattle.lisp_prims.specs.Primitive.{primitive_of}
 use Rattle.lisp_prims.specs.declared.primitive.Primitive as of_values
 use Rattle.clos_forms.specs.Names.{is_called}
@@ -18,7 +18,7 @@ value_function None = Defined
 value_function (Some p) = Primitive p
 
 -- class-of, class-name, find-class and typep; and class-precedence-list, which the standard does not have
-abbrev pub class_function_of : Nam → Option of_classes.ClassFunction
+abbrev pub class_function_of : Name → Option of_classes.ClassFunction
 class_function_of name =
     if is_called (codes "CLASS-OF") name then Some ClassOf
     else if is_called (codes "CLASS-NAME") name then Some ClassName
@@ -33,7 +33,7 @@ class_function None other = other
 class_function (Some f) other = ClassFunction f
 
 -- slot-value, slot-boundp, slot-makunbound and slot-exists-p (7.7)
-abbrev pub slot_function_of : Nam → Option of_slots.SlotFunction
+abbrev pub slot_function_of : Name → Option of_slots.SlotFunction
 slot_function_of name =
     if is_called (codes "SLOT-VALUE") name then Some SlotValue
     else if is_called (codes "SLOT-BOUNDP") name then Some SlotBoundp
@@ -42,12 +42,12 @@ slot_function_of name =
     else None
 
 -- where the name is that of no function of slots, a function of values or a defined one
-abbrev pub slot_function : Option of_slots.SlotFunction → Nam → Callee
+abbrev pub slot_function : Option of_slots.SlotFunction → Name → Callee
 slot_function None name = value_function (primitive_of name)
 slot_function (Some f) name = SlotFunction f
 
 -- what a call of the name calls
-abbrev pub callee_of : Nam → Callee
+abbrev pub callee_of : Name → Callee
 callee_of name =
     if is_called (codes "PRINC") name then Output Princ
     else if is_called (codes "PRIN1") name then Output Prin1

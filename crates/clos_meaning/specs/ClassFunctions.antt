@@ -1,7 +1,7 @@
 -- Functions of classes (HyperSpec 4.3.7, the entries class-of, class-name, find-class and typep; AMOP 6 class-precedence-list).
 use Rattle.std.specs.Prelude.{◌≡◌, ℕ, ◌==◌, List, [], ◌∷◌, Bool, true, false, map, Option, Some, None, Result, Ok, Err}
 use Rattle.std.specs.List.{list_any}
-use Rattle.lisp_data.specs.Name.{Nam}
+use Rattle.lisp_data.specs.Name.{Name}
 use Rattle.lisp_data.specs.Value.{Val, symbol, list, class, nil}
 use Rattle.lisp_data.specs.ValueView.{value_of}
 use Rattle.lisp_data.specs.declared.value.Value.{Value}
@@ -35,16 +35,16 @@ abbrev pub wrong_type : Val → Condition
 wrong_type v = record { kind = TypeError; items = v ∷ [] }
 
 -- no class has this name, which the condition tells
-abbrev pub undefined_class : Nam → Condition
+abbrev pub undefined_class : Name → Condition
 undefined_class name = record { kind = UndefinedClass; items = name_value name ∷ [] }
 
 -- the condition that the class of this name is not complete: a superclass of it, or of one of them and so on, is not defined
-abbrev pub incomplete_class : Option Nam → Condition
+abbrev pub incomplete_class : Option Name → Condition
 incomplete_class None = record { kind = IncompleteClass; items = [] }
 incomplete_class (Some name) = record { kind = IncompleteClass; items = name_value name ∷ [] }
 
 -- the symbol that a value is; NIL, the empty list, is one
-abbrev pub symbol_in : Val → Option Nam
+abbrev pub symbol_in : Val → Option Name
 symbol_in (symbol name) = Some name
 symbol_in (list nil) = Some nil_name
 symbol_in v = None
@@ -60,7 +60,7 @@ class_of_value class_of (v ∷ (u ∷ vs)) = wrong_number
 -- ---- class-name: the name of a class
 
 -- the name under which the class was defined; where there is none the value is of a wrong type
-abbrev pub told_name : Val → Option Nam → Answer
+abbrev pub told_name : Val → Option Name → Answer
 told_name v None = Err (wrong_type v)
 told_name v (Some name) = Ok (name_value name)
 
@@ -87,7 +87,7 @@ abbrev pub classes_listed : List ℕ → Answer
 classes_listed ns = in_words_of_conditions (answer (Listed lists.List) (map class ns))
 
 -- a class that is not complete has no such list; the condition tells its name
-abbrev pub listed_if_complete : Option Nam → Option (List ℕ) → Answer
+abbrev pub listed_if_complete : Option Name → Option (List ℕ) → Answer
 listed_if_complete name None = Err (incomplete_class name)
 listed_if_complete name (Some ns) = classes_listed ns
 
@@ -105,17 +105,17 @@ precedence_list_of classes (v ∷ (u ∷ vs)) = wrong_number
 -- ---- find-class: the class of a name; where there is none a condition, or NIL if errorp is NIL
 
 -- no class has this name: a condition where errorp is true, else NIL
-abbrev pub missing : Nam → Bool → Answer
+abbrev pub missing : Name → Bool → Answer
 missing name true = Err (undefined_class name)
 missing name false = Ok (list nil)
 
 -- errorp matters only where no class has the name
-abbrev pub found_or_missing : Nam → Bool → Option ℕ → Answer
+abbrev pub found_or_missing : Name → Bool → Option ℕ → Answer
 found_or_missing name errorp None = missing name errorp
 found_or_missing name errorp (Some n) = Ok (class n)
 
 -- a class is named by a symbol; another value is of a wrong type, whatever errorp is
-abbrev pub class_by_symbol : Table → Bool → Val → Option Nam → Answer
+abbrev pub class_by_symbol : Table → Bool → Val → Option Name → Answer
 class_by_symbol classes errorp v None = Err (wrong_type v)
 class_by_symbol classes errorp v (Some name) = found_or_missing name errorp (named classes name)
 
@@ -129,12 +129,12 @@ found_class classes (v ∷ (e ∷ (u ∷ vs))) = wrong_number
 -- ---- typep: whether a value is of a class, or of a subclass of it (4.3.7)
 
 -- the class of a name, or the condition that there is none
-abbrev pub named_or_undefined : Nam → Option ℕ → Result ℕ Condition
+abbrev pub named_or_undefined : Name → Option ℕ → Result ℕ Condition
 named_or_undefined name None = Err (undefined_class name)
 named_or_undefined name (Some n) = Ok n
 
 -- a value that is no class has to be the name of one; other type specifiers are of a wrong type
-abbrev pub named_by : Table → Val → Option Nam → Result ℕ Condition
+abbrev pub named_by : Table → Val → Option Name → Result ℕ Condition
 named_by classes v None = Err (wrong_type v)
 named_by classes v (Some name) = named_or_undefined name (named classes name)
 

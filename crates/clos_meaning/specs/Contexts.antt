@@ -1,7 +1,7 @@
 -- What bodies and effective forms know of the calls for which they run.
 use Rattle.std.specs.Prelude.{ℕ, List, Some, None}
 use Rattle.lisp_data.specs.Value.{Val}
-use Rattle.clos_forms.specs.Form.{Frms}
+use Rattle.clos_forms.specs.Form.{Forms}
 use Rattle.clos_forms.specs.Operator.{Callable}
 use Rattle.clos_meaning.specs.Dispatch.{Dispatch}
 use Rattle.clos_meaning.specs.declared.arguments.Context.{Context}
@@ -15,7 +15,7 @@ abbrev pub in_call : Dispatch → List Val → Context
 in_call d vs = record { arguments = vs; call = Some d; running = None }
 
 -- the body of a method, with its next methods, and the forms of those that are made
-abbrev pub running : ℕ → List Callable → Frms → Context → Context
+abbrev pub running : ℕ → List Callable → Forms → Context → Context
 running m next forms env = record env { running = Some (record { method = record { 0 = m }; next = next; forms = forms }) }
 
 -- of the same call, an effective form with other arguments

@@ -1,25 +1,25 @@
 -- Worked examples: what a few forms give and write, and in how many steps.
 use Rattle.std.specs.Fmt.{digits}
 use Rattle.std.specs.Prelude.{◌≡◌, ℕ, pos, false, List, [], ◌++◌, codes, refl}
-use Rattle.lisp_data.specs.Name.{Nam}
+use Rattle.lisp_data.specs.Name.{Name}
 use Rattle.lisp_data.specs.Value.{integer}
-use Rattle.clos_forms.specs.Form.{Frm, Frms, form, nil, cons}
+use Rattle.clos_forms.specs.Form.{Form, Forms, form, nil, cons}
 use Rattle.clos_forms.specs.Operator as of
 use Rattle.clos_world.specs.World.{State, unbound}
 use Rattle.clos_world.specs.declared.condition.ConditionKind.TheVariants.{StepLimit}
 use Rattle.clos_meaning.specs.Meaning.{evaluation}
 use Rattle.clos_meaning.specs.Outcome.{Gave, stopped}
 
-abbrev name : List ℕ → Nam
+abbrev name : List ℕ → Name
 name text = record { text = text; keyword = false }
 
-abbrev number : ℕ → Frm
+abbrev number : ℕ → Form
 number n = form (of.constant (integer (pos n))) nil
 
-abbrev alone : Frm → Frms
+abbrev alone : Form → Forms
 alone f = cons f nil
 
-abbrev princ : Frm → Frm
+abbrev princ : Form → Form
 princ f = form (of.call (name (codes "PRINC"))) (alone f)
 
 -- the state of a session after these bytes were written too
@@ -28,7 +28,7 @@ wrote w bytes = record w { written = w.written ++ bytes }
 
 -- ---- (progn (princ 1) (princ 2)) takes a step for each of its five forms, and one for each writing
 
-abbrev both : Frm
+abbrev both : Form
 both = form of.progn (cons (princ (number 1)) (alone (princ (number 2))))
 
 -- the decimal digits of a number

@@ -1,11 +1,11 @@
 -- The system's method of shared-initialize (HyperSpec 7.1.4): the slots of an instance are filled in layout order.
 use Rattle.std.specs.Prelude.{ℕ, ◌==◌, codes, Bool, true, false, ◌&&◌, ◌||◌, List, [], ◌∷◌, Option, Some, None, if◌then◌else◌}
 use Rattle.std.specs.List.{list_any}
-use Rattle.lisp_data.specs.Name.{Nam}
+use Rattle.lisp_data.specs.Name.{Name}
 use Rattle.lisp_data.specs.Value.{Val, Vals, instance, list, nil, cons}
 use Rattle.lisp_data.specs.declared.ids.CellId.{CellId}
 use Rattle.lisp_prims.specs.Predicates.{is_symbol}
-use Rattle.clos_forms.specs.Form.{Frm}
+use Rattle.clos_forms.specs.Form.{Form}
 use Rattle.clos_world.specs.clos_class.declared.effective_slots.EffectiveSlot.{EffectiveSlot}
 use Rattle.clos_world.specs.clos_store.Store.{slot_found}
 use Rattle.clos_world.specs.World.{State, class_of_instance}
@@ -37,16 +37,16 @@ is_list_of_symbols v = false
 abbrev pub are_slot_names : Val → Bool
 are_slot_names v = is_symbol_t v || is_list_of_symbols v
 
-abbrev pub is_listed : Nam → Vals → Bool
+abbrev pub is_listed : Name → Vals → Bool
 is_listed name nil = false
 is_listed name (cons v vs) = is_symbol_named name v || is_listed name vs
 
-abbrev pub is_in_list : Nam → Val → Bool
+abbrev pub is_in_list : Name → Val → Bool
 is_in_list name (list vs) = is_listed name vs
 is_in_list name v = false
 
 -- whether the slot of this name is among them
-abbrev pub is_named : Val → Nam → Bool
+abbrev pub is_named : Val → Name → Bool
 is_named names name = is_symbol_t names || is_in_list name names
 
 -- ---- the slots
@@ -55,18 +55,18 @@ is_named names name = is_symbol_t names || is_in_list name names
 pub data Filler : Type 0 where
   nothing : Filler
   value : Val → Filler
-  initform : Frm → Filler
+  initform : Form → Filler
 
 -- the leftmost initarg that names the slot
 abbrev pub initarg_for : EffectiveSlot → List Val → Option Val
 initarg_for slot vs = argument_by (λ v. list_any (λ n. is_symbol_named n v) slot.initargs) vs
 
-abbrev pub form_filler : Option Frm → Filler
+abbrev pub form_filler : Option Form → Filler
 form_filler None = nothing
 form_filler (Some f) = initform f
 
 -- a local slot that is named and unbound takes its initform, if there is one; a shared one takes none
-abbrev pub unbound_filler : Bool → Option CellId → Option (Option Val) → Option Frm → Filler
+abbrev pub unbound_filler : Bool → Option CellId → Option (Option Val) → Option Form → Filler
 unbound_filler true None (Some None) o = form_filler o
 unbound_filler true None (Some (Some v)) o = nothing
 unbound_filler true None None o = nothing

@@ -1,6 +1,6 @@
 -- The method of a generic function that has some qualifiers and specializers (HyperSpec 7.7 find-method).
 use Rattle.std.specs.Prelude.{ℕ, codes, Bool, true, false, List, [], ◌∷◌, Option, Some, None, Result, Ok, Err, if◌then◌else◌, slice_get}
-use Rattle.lisp_data.specs.Name.{Nam}
+use Rattle.lisp_data.specs.Name.{Name}
 use Rattle.lisp_data.specs.Print.{Specializer, on_class, on_eql}
 use Rattle.lisp_data.specs.Value.{Val, Vals, symbol, list, class, generic, method, nil, cons}
 use Rattle.clos_forms.specs.Names.{is_called}
@@ -18,7 +18,7 @@ use Rattle.clos_meaning.specs.Outcome.{is_true}
 -- one of these as it is written; whether there is a class of the name is asked later
 pub data Designator : Type 0 where
   class_itself : ℕ → Designator
-  class_of_name : Nam → Designator
+  class_of_name : Name → Designator
   eql_to : Val → Designator
 
 -- the symbol EQL; the keyword of that name is another one
@@ -32,7 +32,7 @@ eql_designator (cons head (cons object nil)) = if is_eql_symbol head then Some (
 eql_designator vs = None
 
 -- a value that is none of the others has to be the name of a class, a symbol
-abbrev pub if_symbol : Option Nam → Option Designator
+abbrev pub if_symbol : Option Name → Option Designator
 if_symbol None = None
 if_symbol (Some name) = Some (class_of_name name)
 

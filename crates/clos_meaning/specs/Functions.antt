@@ -1,6 +1,6 @@
 -- Any function by its name (HyperSpec 3.1.2.1.2.3), and places (5.1.1).
 use Rattle.std.specs.Prelude.{List}
-use Rattle.lisp_data.specs.Name.{Nam}
+use Rattle.lisp_data.specs.Name.{Name}
 use Rattle.lisp_data.specs.Value.{Val}
 use Rattle.lisp_prims.specs.Primitive.{answer}
 use Rattle.clos_forms.specs.declared.operator.FunctionName.TheVariants.{Symbol}
@@ -22,7 +22,7 @@ use Rattle.clos_meaning.specs.declared.callee.Callee.TheVariants.{Output, Terpri
 use Rattle.clos_meaning.specs.declared.callee.SlotFunction.TheVariants.{SlotValue}
 
 -- what the function does with the values of its arguments; a defined one is found by its name
-abbrev pub applied : Eval → Context → Callee → Nam → List Val → Run
+abbrev pub applied : Eval → Context → Callee → Name → List Val → Run
 applied ev env (Output o) name vs w s = output_of o (only_value vs) w s
 applied ev env Terpri name vs w s = line_ended vs w s
 applied ev env (Primitive p) name vs w s = answered (answer p vs) w s
@@ -33,7 +33,7 @@ applied ev env (SlotFunction f) name vs w s = slot_called ev env f vs w s
 applied ev env Defined name vs w s = called_function ev name vs (named w.generics (Symbol name)) w s
 
 -- the function is looked up after its arguments were evaluated
-abbrev pub called : Eval → Context → Nam → List Val → Run
+abbrev pub called : Eval → Context → Name → List Val → Run
 called ev env name vs w s = applied ev env (callee_of name) name vs w s
 
 -- ---- places that have subforms: how they are read with their values, and set with these and the new value after them
@@ -41,7 +41,7 @@ called ev env name vs w s = applied ev env (callee_of name) name vs w s
 -- the slot of an instance, or what functions of this name and of (setf name) tell
 pub data Access : Type 0 where
   slot_access : Access
-  call_access : Nam → Access
+  call_access : Name → Access
 
 -- the value of the place, as its form would give it with these values of its subforms
 abbrev pub place_read : Eval → Context → Access → List Val → Run

@@ -1,16 +1,16 @@
 -- Calls of generic functions (HyperSpec 7.6.5, 7.6.6).
 use Rattle.std.specs.Prelude.{ℕ, ◌+◌, Bool, true, false, not, ◌&&◌, ◌||◌, List, [], ◌∷◌, Option, Some, None, drop, if◌then◌else◌, length, slice_get}
-use Rattle.lisp_data.specs.Name.{Nam}
+use Rattle.lisp_data.specs.Name.{Name}
 use Rattle.lisp_data.specs.Value.{Val, generic, method, symbol}
 use Rattle.clos_world.specs.clos_comb.Effective as comb
 use Rattle.clos_world.specs.clos_comb.Outcome.{Combined, effective, invalid_method, group_empty}
 use Rattle.clos_world.specs.clos_generic.Calls.{accepts, allows_all, checks_keywords}
 use Rattle.clos_world.specs.clos_generic.Table.{Function, Table}
-use Rattle.clos_world.specs.clos_generic_core.Shape.{takes_count}
-use Rattle.clos_world.specs.clos_generic_core.System.{system_number}
-use Rattle.clos_world.specs.clos_generic_core.declared.shape.Shape.{Shape}
-use Rattle.clos_world.specs.clos_generic_core.declared.system.SystemFunction.{SystemFunction}
-use Rattle.clos_world.specs.clos_generic_core.declared.system.SystemFunction.TheVariants.{NoApplicableMethod}
+use Rattle.clos_world.specs.clos_method.Shape.{takes_count}
+use Rattle.clos_world.specs.clos_method.System.{system_number}
+use Rattle.clos_world.specs.clos_method.declared.shape.Shape.{Shape}
+use Rattle.clos_world.specs.clos_method.declared.system.SystemFunction.{SystemFunction}
+use Rattle.clos_world.specs.clos_method.declared.system.SystemFunction.TheVariants.{NoApplicableMethod}
 use Rattle.clos_world.specs.Dispatch.{ordered}
 use Rattle.clos_world.specs.FunctionName.{called_value}
 use Rattle.clos_world.specs.declared.condition.ConditionKind.TheVariants.{InvalidMethod, ProgramError, RequiredGroupEmpty}
@@ -29,7 +29,7 @@ abbrev pub after_positional : Shape → List Val → List Val
 after_positional s vs = drop (s.required + s.optional) vs
 
 -- a symbol, where it is accepted as a name (7.6.5); another value in the place of a name never is
-abbrev pub is_accepted : Table → ℕ → List ℕ → Option Nam → Bool
+abbrev pub is_accepted : Table → ℕ → List ℕ → Option Name → Bool
 is_accepted t g ms None = false
 is_accepted t g ms (Some name) = accepts t g ms name
 

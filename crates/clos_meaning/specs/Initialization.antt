@@ -1,15 +1,15 @@
 -- The making of instances and their initialization (HyperSpec 7.1): make-instance, and the system's methods that it calls.
 use Rattle.std.specs.Prelude.{ℕ, ◌+◌, Bool, true, false, ◌||◌, List, [], ◌∷◌, ◌++◌, Option, Some, None, is_some, Result, Ok, Err, if◌then◌else◌, length}
 use Rattle.std.specs.List.{list_any}
-use Rattle.lisp_data.specs.Name.{Nam}
+use Rattle.lisp_data.specs.Name.{Name}
 use Rattle.lisp_data.specs.Value.{Val, instance}
 use Rattle.lisp_prims.specs.Primitive.{truth}
 use Rattle.clos_forms.specs.Quotation.{name_value}
 use Rattle.clos_world.specs.clos_class.clos_syntax.declared.class.DefaultInitarg.{DefaultInitarg}
-use Rattle.clos_world.specs.clos_generic_core.Keywords.{method_allows, method_names}
-use Rattle.clos_world.specs.clos_generic_core.System.{system_number}
-use Rattle.clos_world.specs.clos_generic_core.declared.method.Method.{Method}
-use Rattle.clos_world.specs.clos_generic_core.declared.system.SystemFunction.{SystemFunction}
+use Rattle.clos_world.specs.clos_method.Keywords.{method_allows, method_names}
+use Rattle.clos_world.specs.clos_method.System.{system_number}
+use Rattle.clos_world.specs.clos_method.declared.method.Method.{Method}
+use Rattle.clos_world.specs.clos_method.declared.system.SystemFunction.{SystemFunction}
 use Rattle.clos_world.specs.clos_class.Slots.{Effective}
 use Rattle.clos_world.specs.clos_class.declared.effective_slots.EffectiveSlot.{EffectiveSlot}
 use Rattle.clos_world.specs.clos_store.Store.{allocated, has_room, with_instance}
@@ -18,7 +18,7 @@ use Rattle.clos_world.specs.Dispatch.{ordered}
 use Rattle.clos_world.specs.World.{State}
 use Rattle.clos_world.specs.declared.condition.Condition.{Condition}
 use Rattle.clos_world.specs.declared.condition.ConditionKind.TheVariants.{ProgramError, InvalidInitarg, TableLimit}
-use Rattle.clos_world.specs.clos_generic_core.declared.system.SystemFunction.TheVariants.{InitializeInstance, SharedInitialize}
+use Rattle.clos_world.specs.clos_method.declared.system.SystemFunction.TheVariants.{InitializeInstance, SharedInitialize}
 use Rattle.clos_meaning.specs.Bodies.{scoped}
 use Rattle.clos_meaning.specs.ClassFunctions.{symbol_in}
 use Rattle.clos_meaning.specs.Contexts.{known}
@@ -43,7 +43,7 @@ with_uses w f i names o =
 abbrev pub fills : List EffectiveSlot → Val → Bool
 fills slots v = list_any (λ s. list_any (λ n. is_symbol_named n v) s.initargs) slots
 
-abbrev pub is_keyword_of : List Method → List ℕ → Option Nam → Bool
+abbrev pub is_keyword_of : List Method → List ℕ → Option Name → Bool
 is_keyword_of methods ms None = false
 is_keyword_of methods ms (Some name) = list_any (method_names methods name) ms
 
@@ -65,7 +65,7 @@ abbrev mutual
 abbrev pub invalid_initarg : List Method → List ℕ → List EffectiveSlot → List Val → Option Val
 invalid_initarg methods ms slots vs = if is_allowing vs || list_any (method_allows methods) ms then None else first_invalid methods ms slots vs
 
-abbrev pub invalid_for : Val → Option Nam → Condition
+abbrev pub invalid_for : Val → Option Name → Condition
 invalid_for k None = record { kind = InvalidInitarg; items = k ∷ [] }
 invalid_for k (Some name) = record { kind = InvalidInitarg; items = k ∷ name_value name ∷ [] }
 

@@ -1,16 +1,16 @@
 -- What forms mean (HyperSpec 3.1.2), by their operators.
 use Rattle.std.specs.Prelude.{ℕ, zero, suc, pos, Bool, true, false, List, [], ◌∷◌, ◌++◌, Option, Some, None, is_some, ◌||◌, length}
-use Rattle.lisp_data.specs.Name.{Nam}
+use Rattle.lisp_data.specs.Name.{Name}
 use Rattle.lisp_data.specs.Print.{Called, by_symbol, by_setf}
 use Rattle.lisp_data.specs.Value.{Val, integer, generic, list, nil}
 use Rattle.lisp_prims.specs.Primitive.{truth, answer}
 use Rattle.lisp_prims.specs.declared.primitive.Primitive.{Primitive}
 use Rattle.lisp_prims.specs.declared.primitive.Primitive.TheVariants.{Number}
 use Rattle.lisp_prims.specs.declared.arithmetic.Arithmetic.TheVariants.{Sum, Difference}
-use Rattle.clos_forms.specs.Form.{Frm, Frms, operator_in, parts_in}
+use Rattle.clos_forms.specs.Form.{Form, Forms, operator_in, parts_in}
 use Rattle.clos_forms.specs.Form as form
 use Rattle.clos_forms.specs.Names.{is_one_of, functions}
-use Rattle.clos_forms.specs.Operator.{Opr, Plc, variable_place, slot_value_place, call_place}
+use Rattle.clos_forms.specs.Operator.{Operator, Place, variable_place, slot_value_place, call_place}
 use Rattle.clos_forms.specs.Operator as of
 use Rattle.clos_forms.specs.Quotation.{name_value}
 use Rattle.clos_forms.specs.declared.operator.FunctionName.TheVariants.{Symbol, Setf}
@@ -33,18 +33,18 @@ use Rattle.clos_meaning.specs.Variables.{in_order, aside, dotimes}
 use Rattle.clos_meaning.specs.declared.arguments.Context.{Context}
 
 -- the values of forms, from left to right
-abbrev pub collect : Eval → Context → Frms → List Val → (List Val → Run) → Run
+abbrev pub collect : Eval → Context → Forms → List Val → (List Val → Run) → Run
 collect ev env form.nil vs go w s = go vs w s
 collect ev env (form.cons f fs) vs go w s = then_do (ev env f w s) (λ v. collect ev env fs (vs ++ v ∷ []) go)
 
 -- a single form, where several could stand
-abbrev pub alone : Frm → Frms
+abbrev pub alone : Form → Forms
 alone f = form.cons f form.nil
 
 -- ---- a place that is changed by an amount: it is read, and then set
 
 -- these values and the amount, which is 1 where no form gives it
-abbrev pub with_amount : Eval → Context → Frms → List Val → (List Val → Run) → Run
+abbrev pub with_amount : Eval → Context → Forms → List Val → (List Val → Run) → Run
 with_amount ev env form.nil vs go w s = go (vs ++ integer (pos 1) ∷ []) w s
 with_amount ev env (form.cons f fs) vs go w s = collect ev env (form.cons f fs) vs go w s
 
@@ -62,57 +62,57 @@ changed_place ev env p t [] w s = stopped ProgramError [] w s
 changed_place ev env p t (amount ∷ vs) w s = then_do (place_read ev env t vs w s) (λ old. changed_from ev env p t vs amount old)
 
 -- a name that stands for a slot is changed as its place is, another as a variable
-abbrev pub name_changed : Eval → Context → Primitive → Nam → Option (List Val) → List Val → Run
+abbrev pub name_changed : Eval → Context → Primitive → Name → Option (List Val) → List Val → Run
 name_changed ev env p name None vs w s = changed_only p name (only_value vs) w s
 name_changed ev env p name (Some place) vs w s = changed_place ev env p slot_access (last_first (place ++ vs)) w s
 
 -- the name gets what the function makes of its value and this amount
-abbrev pub name_changed_by : Eval → Context → Primitive → Nam → List Val → Run
+abbrev pub name_changed_by : Eval → Context → Primitive → Name → List Val → Run
 name_changed_by ev env p name vs w s = name_changed ev env p name (place_denoted w name) vs w s
 
 -- a place with these arguments is set to the value of a form
-abbrev pub place_set_to : Eval → Context → Access → Frm → List Val → Run
+abbrev pub place_set_to : Eval → Context → Access → Form → List Val → Run
 place_set_to ev env a f vs w s = collect ev env (alone f) vs (λ us u k. place_set ev env a us u k) w s
 
 -- it is changed by the value of a form, or by 1
-abbrev pub place_changed_by : Eval → Context → Primitive → Access → Frms → List Val → Run
+abbrev pub place_changed_by : Eval → Context → Primitive → Access → Forms → List Val → Run
 place_changed_by ev env p a fs vs w s = with_amount ev env fs vs (λ us u k. changed_place ev env p a (last_first us) u k) w s
 
 -- ---- setq, setf, incf and decf: assignments one after another, of which the last gives the value
 
 -- each variable is set before the next form is evaluated; this value is given where no more are left
-abbrev pub setq : Eval → Context → List Nam → Frms → Val → Run
+abbrev pub setq : Eval → Context → List Name → Forms → Val → Run
 setq ev env [] fs v w s = Gave v w s
 setq ev env (n ∷ ns) form.nil v w s = stopped ProgramError [] w s
 setq ev env (n ∷ ns) (form.cons f fs) v w s = then_do (collect ev env (alone f) [] (name_stored ev env n) w s) (λ u. setq ev env ns fs u)
 
 -- the place that a form is, where setf, incf or decf has it; other forms are none
-abbrev pub place_in : Opr → Option Plc
+abbrev pub place_in : Operator → Option Place
 place_in (of.place p) = Some p
 place_in o = None
 
 -- a place is set to the value of a form
-abbrev pub assigned : Eval → Context → Option Plc → Frms → Frm → Run
+abbrev pub assigned : Eval → Context → Option Place → Forms → Form → Run
 assigned ev env None ps f w s = stopped ProgramError [] w s
 assigned ev env (Some (variable_place n)) ps f w s = collect ev env (alone f) [] (name_stored ev env n) w s
 assigned ev env (Some slot_value_place) ps f w s = collect ev env ps [] (place_set_to ev env slot_access f) w s
 assigned ev env (Some (call_place n)) ps f w s = collect ev env ps [] (place_set_to ev env (call_access n) f) w s
 
 -- the same of places, each form of a new value after the subforms of its place
-abbrev pub setf : Eval → Context → Frms → Val → Run
+abbrev pub setf : Eval → Context → Forms → Val → Run
 setf ev env form.nil v w s = Gave v w s
 setf ev env (form.cons p form.nil) v w s = stopped ProgramError [] w s
 setf ev env (form.cons p (form.cons f fs)) v w s = then_do (assigned ev env (place_in (operator_in p)) (parts_in p) f w s) (λ u. setf ev env fs u)
 
 -- a place with its parts is changed by the amount that these forms give
-abbrev pub changed_by : Eval → Context → Primitive → Option Plc → Frms → Frms → Run
+abbrev pub changed_by : Eval → Context → Primitive → Option Place → Forms → Forms → Run
 changed_by ev env p None ps fs w s = stopped ProgramError [] w s
 changed_by ev env p (Some (variable_place n)) ps fs w s = with_amount ev env fs [] (name_changed_by ev env p n) w s
 changed_by ev env p (Some slot_value_place) ps fs w s = collect ev env ps [] (place_changed_by ev env p slot_access fs) w s
 changed_by ev env p (Some (call_place n)) ps fs w s = collect ev env ps [] (place_changed_by ev env p (call_access n) fs) w s
 
 -- incf with the sum, decf with the difference; the first form is the place, and the amount may follow
-abbrev pub changing : Eval → Context → Primitive → Frms → Run
+abbrev pub changing : Eval → Context → Primitive → Forms → Run
 changing ev env p form.nil w s = stopped ProgramError [] w s
 changing ev env p (form.cons place fs) w s = changed_by ev env p (place_in (operator_in place)) (parts_in place) fs w s
 
@@ -124,16 +124,16 @@ other_function true name w s = stopped Unsupported [] w s
 other_function false name w s = stopped UndefinedFunction (name ∷ []) w s
 
 -- a function of the language, or one that a defun defined
-abbrev pub is_plain_function : State → Nam → Bool
+abbrev pub is_plain_function : State → Name → Bool
 is_plain_function w name = is_one_of functions name || is_some (function_in w.functions name)
 
 -- of #'name: the generic function of that name, or one of the conditions above
-abbrev pub symbol_function : Nam → Option ℕ → Run
+abbrev pub symbol_function : Name → Option ℕ → Run
 symbol_function name None w s = other_function (is_plain_function w name) (name_value name) w s
 symbol_function name (Some g) w s = Gave (generic g) w s
 
 -- of #'(setf name): the same; a defun alone makes a function of such a name that is not generic
-abbrev pub setter_function : Nam → Option ℕ → Run
+abbrev pub setter_function : Name → Option ℕ → Run
 setter_function name None w s = other_function (is_some (function_in w.setters name)) (setter_value name) w s
 setter_function name (Some g) w s = Gave (generic g) w s
 
@@ -145,14 +145,14 @@ function_value (by_setf name) w s = setter_function name (named w.generics (Setf
 -- ---- call-next-method: without forms, with the arguments with which the method was called
 
 -- where there are forms, their values are the arguments of the next method instead
-abbrev pub next_method : Eval → Context → Frms → Run
+abbrev pub next_method : Eval → Context → Forms → Run
 next_method ev env form.nil w s = next_called ev env env.running env.arguments w s
 next_method ev env (form.cons f fs) w s = collect ev env (form.cons f fs) [] (next_with ev env) w s
 
 -- ---- forms
 
 -- what an operator does with its parts
-abbrev pub operated : Eval → Context → Opr → Frms → Run
+abbrev pub operated : Eval → Context → Operator → Forms → Run
 operated ev env (of.constant v) ps w s = Gave v w s
 operated ev env of.no_value ps w s = stopped Unsupported [] w s
 operated ev env (of.variable name) ps w s = name_read ev env name (place_denoted w name) w s
@@ -181,7 +181,7 @@ operated ev env (of.call name) ps w s = collect ev env ps [] (called ev env name
 operated ev env (of.call_method m ns) ps w s = method_called ev env m ns ps w s
 
 -- what a form gives once its own step is taken: what its operator does with its parts
-abbrev pub body : Eval → Context → Frm → Run
+abbrev pub body : Eval → Context → Form → Run
 body ev env f w s = operated ev env (operator_in f) (parts_in f) w s
 
 -- With this much room for depth: each form takes a step, and what it evaluates has one less room.
@@ -196,5 +196,5 @@ closed (Stopped c w s) = Stopped c (unbound w) s
 closed (Noted n o) = closed o
 
 -- A form that is evaluated by itself begins with no variables and leaves none.
-abbrev pub evaluation : ℕ → Frm → Run
+abbrev pub evaluation : ℕ → Form → Run
 evaluation room f w s = closed (meaning room (known []) f (unbound w) s)

@@ -4,8 +4,8 @@ use Rattle.std.specs.Str.{bytes_eq}
 use Rattle.lisp_data.specs.Value.{Val, generic, method}
 use Rattle.clos_forms.specs.Operator.{Callable}
 use Rattle.clos_world.specs.clos_generic.Table.{Function}
-use Rattle.clos_world.specs.clos_generic_core.Shape.{takes_count}
-use Rattle.clos_world.specs.clos_generic_core.declared.system.SystemFunction.TheVariants.{NoNextMethod}
+use Rattle.clos_world.specs.clos_method.Shape.{takes_count}
+use Rattle.clos_world.specs.clos_method.declared.system.SystemFunction.TheVariants.{NoNextMethod}
 use Rattle.clos_world.specs.Dispatch.{ordered}
 use Rattle.clos_world.specs.declared.condition.ConditionKind.TheVariants.{NextArguments, ProgramError}
 use Rattle.clos_meaning.specs.Calls.{method_called}

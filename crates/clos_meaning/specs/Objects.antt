@@ -1,9 +1,9 @@
 -- The classes of which instances can be made (HyperSpec 7.1.1).
 use Rattle.std.specs.Prelude.{ℕ, List, [], ◌∷◌, Option, Some, None, Result, Ok, Err, if◌then◌else◌}
-use Rattle.lisp_data.specs.Name.{Nam}
+use Rattle.lisp_data.specs.Name.{Name}
 use Rattle.lisp_data.specs.Value.{Val, integer, symbol, string, list, class, generic, method, instance, nil, cons}
 use Rattle.clos_forms.specs.Quotation.{name_value}
-use Rattle.clos_world.specs.clos_class_core.Initial.{is_standard}
+use Rattle.clos_world.specs.clos_hierarchy.Initial.{is_standard}
 use Rattle.clos_world.specs.clos_class.Table.{Table}
 use Rattle.clos_world.specs.Class.{named, precedence, class_name}
 use Rattle.clos_world.specs.Condition.{nil_name}
@@ -12,7 +12,7 @@ use Rattle.clos_world.specs.declared.condition.ConditionKind.TheVariants.{TypeEr
 use Rattle.clos_meaning.specs.ClassFunctions.{incomplete_class}
 
 -- a class without a class precedence list is not complete; the condition tells its name
-abbrev pub if_complete : ℕ → Option Nam → Option (List ℕ) → Result ℕ Condition
+abbrev pub if_complete : ℕ → Option Name → Option (List ℕ) → Result ℕ Condition
 if_complete n name None = Err (incomplete_class name)
 if_complete n name (Some l) = Ok n
 
@@ -21,7 +21,7 @@ abbrev pub instantiable : Table → ℕ → Result ℕ Condition
 instantiable cs n = if is_standard cs.table n then if_complete n (class_name cs n) (precedence cs n) else Err (record { kind = Unsupported; items = [] })
 
 -- the class that a symbol names; where it names none, UNDEFINED-CLASS
-abbrev pub class_found : Table → Nam → Option ℕ → Result ℕ Condition
+abbrev pub class_found : Table → Name → Option ℕ → Result ℕ Condition
 class_found cs name None = Err (record { kind = UndefinedClass; items = name_value name ∷ [] })
 class_found cs name (Some n) = instantiable cs n
 

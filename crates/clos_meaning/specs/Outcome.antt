@@ -1,7 +1,7 @@
 -- What an evaluation comes to: a value or a condition, the state after, and the steps left.
 use Rattle.std.specs.Prelude.{◌≡◌, ℕ, zero, suc, Bool, true, false, List, []}
 use Rattle.lisp_data.specs.Value.{Val, list, nil}
-use Rattle.clos_forms.specs.Form.{Frm}
+use Rattle.clos_forms.specs.Form.{Form}
 use Rattle.clos_world.specs.World.{State}
 use Rattle.clos_world.specs.declared.condition.Condition.{Condition}
 use Rattle.clos_world.specs.declared.condition.ConditionKind.{ConditionKind}
@@ -25,7 +25,7 @@ Run = State → ℕ → Out
 
 -- a form's meaning in a context
 abbrev pub Eval : Type 0
-Eval = Context → Frm → Run
+Eval = Context → Form → Run
 
 -- It goes on where there is a value, and stops where there is a condition.
 abbrev pub then_do : Out → (Val → Run) → Out

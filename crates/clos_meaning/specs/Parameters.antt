@@ -2,14 +2,14 @@
 use Rattle.std.specs.Prelude.{nat_le, Bool, true, false, ◌&&◌, ◌||◌, List, [], ◌∷◌, ◌++◌, Option, Some, None, is_some, is_none, Result, Ok, Err, codes, drop, length, if◌then◌else◌}
 use Rattle.std.specs.List.{list_any}
 use Rattle.std.specs.Str.{bytes_eq}
-use Rattle.lisp_data.specs.Name.{Nam, same_name}
+use Rattle.lisp_data.specs.Name.{Name, same_name}
 use Rattle.lisp_data.specs.Value.{Val, symbol, list, nil}
 use Rattle.lisp_prims.specs.Fault as prims
 use Rattle.lisp_prims.specs.Predicates.{is_symbol}
 use Rattle.lisp_prims.specs.Primitive.{answer, truth}
 use Rattle.lisp_prims.specs.declared.lists.ListFunction.TheVariants as lists
 use Rattle.lisp_prims.specs.declared.primitive.Primitive.TheVariants.{Listed}
-use Rattle.clos_forms.specs.Form.{Frm}
+use Rattle.clos_forms.specs.Form.{Form}
 use Rattle.clos_world.specs.clos_lambda.declared.lambda_list.Key.{Key}
 use Rattle.clos_world.specs.clos_lambda.declared.lambda_list.Keys.{Keys}
 use Rattle.clos_world.specs.clos_lambda.declared.lambda_list.LambdaList.{LambdaList}
@@ -34,7 +34,7 @@ are_even (k ∷ []) = false
 are_even (k ∷ (v ∷ vs)) = are_even vs
 
 -- the symbol of this name; NIL is the empty list
-abbrev pub is_symbol_named : Nam → Val → Bool
+abbrev pub is_symbol_named : Name → Val → Bool
 is_symbol_named name (symbol n) = same_name n name
 is_symbol_named name (list nil) = same_name nil_name name
 is_symbol_named name v = false
@@ -46,7 +46,7 @@ argument_by is_name (k ∷ []) = None
 argument_by is_name (k ∷ (v ∷ vs)) = if is_name k then Some v else argument_by is_name vs
 
 -- the argument after this name; where the name stands twice, the leftmost one counts
-abbrev pub argument_named : Nam → List Val → Option Val
+abbrev pub argument_named : Name → List Val → Option Val
 argument_named name vs = argument_by (is_symbol_named name) vs
 
 -- the symbol :ALLOW-OTHER-KEYS
@@ -113,25 +113,25 @@ requires_only l = is_empty l.optional && is_none l.rest && is_none l.keys
 pub data Source : Type 0 where
   argument : Val → Source
   refused : Condition → Source
-  init : Frm → Source
+  init : Form → Source
 
 -- the variables in the order in which they are bound, each with where its value comes from
 abbrev pub Sources : Type 0
-Sources = List (Nam × Source)
+Sources = List (Name × Source)
 
 -- each has the argument at its place; variables past the last argument have none
-abbrev pub required_sources : List Nam → List Val → Sources
+abbrev pub required_sources : List Name → List Val → Sources
 required_sources [] vs = []
 required_sources (n ∷ ns) [] = []
 required_sources (n ∷ ns) (v ∷ vs) = (n, argument v) ∷ required_sources ns vs
 
 -- of a parameter without an argument: its init form, or NIL where none is written (3.4.1.2)
-abbrev pub init_source : Option Frm → Source
+abbrev pub init_source : Option Form → Source
 init_source None = argument (list nil)
 init_source (Some f) = init f
 
 -- the variable that tells whether there is an argument
-abbrev pub given_source : Option Nam → Bool → Sources
+abbrev pub given_source : Option Name → Bool → Sources
 given_source None b = []
 given_source (Some n) b = (n, argument (truth b)) ∷ []
 
@@ -156,7 +156,7 @@ listed (Ok v) = argument v
 listed (Err c) = refused (condition_of c)
 
 -- the list of the arguments that are left
-abbrev pub rest_sources : Option Nam → List Val → Sources
+abbrev pub rest_sources : Option Name → List Val → Sources
 rest_sources None vs = []
 rest_sources (Some n) vs = (n, listed (answer (Listed lists.List) vs)) ∷ []
 

@@ -10,9 +10,9 @@ use Rattle.clos_world.specs.declared.condition.Condition.{Condition}
 use Rattle.clos_world.specs.declared.condition.ConditionKind.{ConditionKind}
 use Rattle.clos_world.specs.declared.condition.ConditionKind.TheVariants.{NoApplicableMethod, NoNextMethod, ProgramError, UnboundSlot, MissingSlot, Unsupported}
 use Rattle.clos_world.specs.clos_generic.Table.{Function}
-use Rattle.clos_world.specs.clos_generic_core.declared.system.SystemFunction.{SystemFunction}
-use Rattle.clos_world.specs.clos_generic_core.declared.system.SystemFunction.TheVariants.{InitializeInstance, ReinitializeInstance, SharedInitialize, UpdateInstanceForRedefinedClass, UpdateInstanceForDifferentClass, SlotUnbound, SlotMissing}
-use Rattle.clos_world.specs.clos_generic_core.declared.system.SystemFunction.TheVariants as of_system
+use Rattle.clos_world.specs.clos_method.declared.system.SystemFunction.{SystemFunction}
+use Rattle.clos_world.specs.clos_method.declared.system.SystemFunction.TheVariants.{InitializeInstance, ReinitializeInstance, SharedInitialize, UpdateInstanceForRedefinedClass, UpdateInstanceForDifferentClass, SlotUnbound, SlotMissing}
+use Rattle.clos_world.specs.clos_method.declared.system.SystemFunction.TheVariants as of_system
 use Rattle.clos_meaning.specs.Bodies.{scoped}
 use Rattle.clos_meaning.specs.ClassFunctions.{wrong_type}
 use Rattle.clos_meaning.specs.Filling.{are_slot_names, fill}

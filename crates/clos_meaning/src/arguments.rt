@@ -1,7 +1,7 @@
 //! The arguments of calls, and what a running body knows of its own.
 ghost use Rattle.std.specs.Prelude.{◌≡◌, IfOk, Some, map};
 ghost use Rattle.lisp_data.specs.ValueView.{value_of};
-ghost use Rattle.clos_world.specs.clos_generic_core.MethodIds.{method_numbers};
+ghost use Rattle.clos_world.specs.clos_method.MethodIds.{method_numbers};
 ghost use Rattle.clos_meaning.specs.Contexts.{in_call, known, with_arguments};
 
 use clos_forms::{Forms, NextMethods};

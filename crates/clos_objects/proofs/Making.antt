@@ -2,7 +2,7 @@
 use Rattle.std.proofs.Common.{◌≡◌, ℕ, zero, suc, ◌+◌, ◌*◌, ◌<◌, List, [], ◌∷◌, ◌++◌, Bool, true, false, Option, Some, None, Result, Ok, Err, drop, get_or, length, arith, add-one, refl, ap, sym, subst, ◌∙◌}
 use Rattle.std.specs.Prelude.{if◌then◌else◌}
 use Rattle.std.proofs.Math.Seq.{drop-cons}
-use Rattle.clos_forms.specs.Form.{Frm}
+use Rattle.clos_forms.specs.Form.{Form}
 use Rattle.lisp_data.specs.Value.{Val, instance}
 use Rattle.lisp_data.specs.declared.ids.ClassId.{ClassId}
 use Rattle.lisp_data.specs.declared.ids.InstanceId.{InstanceId}
@@ -37,8 +37,8 @@ use Rattle.clos_machine.specs.Fault.{TellsCondition}
 use Rattle.clos_objects.specs.Objects.{Enters, default_first, ungiven}
 use Rattle.clos_objects.proofs.Methods.{leads_refused_after}
 use Rattle.clos_class.specs.declared.effective_slots.EffectiveSlot.{EffectiveSlot}
-use Rattle.clos_generic_core.specs.declared.method.Method.{Method}
-use Rattle.clos_generic_core.specs.declared.system.SystemFunction.TheVariants.{InitializeInstance}
+use Rattle.clos_method.specs.declared.method.Method.{Method}
+use Rattle.clos_method.specs.declared.system.SystemFunction.TheVariants.{InitializeInstance}
 use Rattle.lisp_prims.specs.Primitive.{truth}
 
 -- ---- default initargs
@@ -90,7 +90,7 @@ module _ (vs : List Val) where
     defaulted_first ds all k p h = sym (defaulted_ungiven ds ∙ ap (λ l. expanded l w t) h ∙ expanded_first all k p)
 
 -- the first of those from a place on is evaluated
-pub first_default : (ev : Eval) (env : Context) (c : ℕ) (e : Effective) (vs : List Val) (w : State) (t : ℕ) (f : Frm) (ds : List DefaultInitarg) (k : ℕ) (d : DefaultInitarg)
+pub first_default : (ev : Eval) (env : Context) (c : ℕ) (e : Effective) (vs : List Val) (w : State) (t : ℕ) (f : Form) (ds : List DefaultInitarg) (k : ℕ) (d : DefaultInitarg)
     → k < length ds → d ≡ get_or ds k d → f ≡ d.form
     → then_do (ev env f w t) (λ v. default_given ev env c e (drop k ds) vs v) ≡ default_first ev env c e (drop k ds) vs w t
 first_default ev env c e vs w t f ds k d p q r =

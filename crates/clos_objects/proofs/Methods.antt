@@ -4,7 +4,7 @@ use Rattle.std.specs.Prelude.{if◌then◌else◌}
 use Rattle.lisp_data.specs.Value.{Val, list, nil}
 use Rattle.clos_class.specs.Slots.{Effective}
 use Rattle.clos_class.specs.declared.effective_slots.EffectiveSlot.{EffectiveSlot}
-use Rattle.clos_generic_core.specs.declared.method.Method.{Method}
+use Rattle.clos_method.specs.declared.method.Method.{Method}
 use Rattle.clos_machine.specs.clos_meaning.Parameters.{are_even}
 use Rattle.clos_machine.specs.clos_world.Class.{class_name}
 use Rattle.clos_machine.specs.clos_world.World.{State}
@@ -12,8 +12,8 @@ use Rattle.clos_machine.specs.clos_world.declared.condition.Condition.{Condition
 use Rattle.clos_machine.specs.clos_world.declared.condition.ConditionKind.TheVariants.{ProgramError}
 use Rattle.clos_machine.specs.clos_world.declared.condition.Stop.{Stop}
 use Rattle.clos_machine.specs.clos_world.declared.condition.Stop.TheVariants.{Refused, Storage}
-use Rattle.clos_generic_core.specs.declared.system.SystemFunction.{SystemFunction}
-use Rattle.clos_generic_core.specs.declared.system.SystemFunction.TheVariants.{InitializeInstance, ReinitializeInstance, SharedInitialize, UpdateInstanceForRedefinedClass, UpdateInstanceForDifferentClass, SlotUnbound, SlotMissing, NoApplicableMethod, NoNextMethod}
+use Rattle.clos_method.specs.declared.system.SystemFunction.{SystemFunction}
+use Rattle.clos_method.specs.declared.system.SystemFunction.TheVariants.{InitializeInstance, ReinitializeInstance, SharedInitialize, UpdateInstanceForRedefinedClass, UpdateInstanceForDifferentClass, SlotUnbound, SlotMissing, NoApplicableMethod, NoNextMethod}
 use Rattle.clos_machine.specs.clos_meaning.ClassFunctions.{wrong_type}
 use Rattle.clos_machine.specs.clos_meaning.Filling.{are_slot_names}
 use Rattle.clos_machine.specs.clos_meaning.Initialization.{invalid_for, invalid_initarg, methods_reached}

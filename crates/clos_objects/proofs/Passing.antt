@@ -7,7 +7,7 @@ use Rattle.lisp_data.specs.Value.{Val}
 use Rattle.lisp_data.specs.Value.{instance}
 use Rattle.lisp_data.specs.declared.ids.InstanceId.{InstanceId}
 use Rattle.lisp_data.specs.declared.value.Value.TheVariants.{Instance}
-use Rattle.clos_forms.specs.Form.{Frm}
+use Rattle.clos_forms.specs.Form.{Form}
 use Rattle.clos_machine.specs.clos_world.clos_store.Store.{with_slot}
 use Rattle.clos_machine.specs.clos_world.declared.condition.Condition.{Condition}
 use Rattle.clos_machine.specs.clos_world.declared.condition.ConditionKind.TheVariants.{StepLimit}
@@ -92,7 +92,7 @@ fills_bound : (ls : List Local) (w : State) (f : Subject) (slots : List Effectiv
 fills_bound ls w f [] x h = h
 fills_bound ls w f (slot ∷ slots) x h = h
 
-fill_form : (ev : Eval) (env : Context) (w : State) (f : Subject) (slots : List EffectiveSlot) (g : Frm) (k : ℕ) → Fills w f slots (found.Initform g)
+fill_form : (ev : Eval) (env : Context) (w : State) (f : Subject) (slots : List EffectiveSlot) (g : Form) (k : ℕ) → Fills w f slots (found.Initform g)
     → then_do (ev env g w k) (λ v. fill_with ev env f slots v) ≡ fill ev env f slots w k
 fill_form ev env w f [] g k h = absurd h
 fill_form ev env w f (slot ∷ slots) g k h = sym (ap (λ y. filled_by ev env f slot (λ u j. fill ev env f slots u j) y w k) h)
@@ -124,7 +124,7 @@ module _ (m : Machine) (f : Subject) where
       (λ t. ap (λ o. closed (resume m.levels m.context o))
       (fill_value (at m w) f (meaning m.room) m.context all x v t e (fills_bound m.locals w f all x k) ∙ to_pending slots all w t h)) l
 
-  pub fill_evaluates : (n : Machine) (slots all : List EffectiveSlot) (x : Found) (g : Frm) (w : State) (s : ℕ) (r : Result Doing Stop)
+  pub fill_evaluates : (n : Machine) (slots all : List EffectiveSlot) (x : Found) (g : Form) (w : State) (s : ℕ) (r : Result Doing Stop)
       → x ≡ found.Initform g → pending w f slots ≡ all → Fills w f all x
       → Leads (inside m (λ u k. then_do (meaning m.room m.context g u k) (λ v. fill_with (meaning m.room) m.context f all v))) w r n
       → Turns (inside m (filling_slots slots)) w s r n w s

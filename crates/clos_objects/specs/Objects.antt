@@ -8,7 +8,7 @@ use Rattle.clos_machine.specs.clos_world.World.{State}
 use Rattle.clos_machine.specs.clos_world.declared.condition.Condition.{Condition}
 use Rattle.clos_machine.specs.clos_meaning.Filling.{Filler, Subject, fill, filled, filler, nothing, value, initform}
 use Rattle.clos_class.specs.Slots.{Effective}
-use Rattle.clos_forms.specs.Form.{Frm}
+use Rattle.clos_forms.specs.Form.{Form}
 use Rattle.clos_machine.specs.clos_meaning.Contexts.{known}
 use Rattle.clos_machine.specs.clos_meaning.Initialization.{is_given}
 use Rattle.clos_machine.specs.clos_meaning.Outcome.{Gave, Run, Eval, then_do, stopped}
@@ -26,7 +26,7 @@ is_nothing nothing = true
 is_nothing (value v) = false
 is_nothing (initform f) = false
 
-abbrev pub filler_of_form : Option Frm → Filler
+abbrev pub filler_of_form : Option Form → Filler
 filler_of_form None = nothing
 filler_of_form (Some f) = initform f
 

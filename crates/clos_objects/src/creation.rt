@@ -12,7 +12,6 @@ use crate::classes::designate;
 use crate::initargs::{invalid_initarg, is_given};
 use crate::reached::methods_reached;
 use clos_forms::{Forms, value_named};
-use clos_generic_core::SystemFunction;
 use clos_machine::finalized::Finalized;
 use clos_machine::machine::{Action, Doing, Frame, Machine};
 use clos_machine::moves::{begin, invoke_under, set_apart};
@@ -21,6 +20,7 @@ use clos_machine::truth::t;
 use clos_machine::{
     Arguments, Condition, ConditionKind, Context, Stop, Values, World, about, about_both, plain,
 };
+use clos_method::SystemFunction;
 use clos_syntax::DefaultInitarg;
 use lisp_data::{ClassId, InstanceId, Value};
 use std::alloc::{AllocError, Global};

@@ -9,8 +9,8 @@ ghost use Rattle.clos_machine.specs.clos_meaning.Parameters.{is_symbol_named};
 
 use crate::reached::Reached;
 use clos_class::EffectiveSlot;
-use clos_generic_core::Method;
 use clos_machine::parameters::{argument_named, is_allow_other_keys, is_allowing, is_symbol_named};
+use clos_method::Method;
 use clos_syntax::DefaultInitarg;
 use lisp_data::{Name, Value};
 

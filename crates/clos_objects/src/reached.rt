@@ -2,12 +2,12 @@
 ghost use Rattle.std.specs.Prelude.{◌≡◌, IfOk};
 ghost use Rattle.std.specs.List.{list_any};
 ghost use Rattle.lisp_data.specs.ValueView.{value_of};
-ghost use Rattle.clos_generic_core.specs.Keywords.{method_allows, method_names};
+ghost use Rattle.clos_method.specs.Keywords.{method_allows, method_names};
 ghost use Rattle.clos_machine.specs.clos_world.World.{seen};
 ghost use Rattle.clos_machine.specs.clos_meaning.Initialization.{methods_reached};
 
-use clos_generic_core::{Method, MethodIds, SystemFunction, any_allows, any_names};
 use clos_machine::{Values, World};
+use clos_method::{Method, MethodIds, SystemFunction, any_allows, any_names};
 use lisp_data::{InstanceId, Name, Value};
 use std::alloc::{AllocError, Global};
 use std::marker::Model;

@@ -9,14 +9,13 @@ ghost use Rattle.clos_machine.specs.clos_meaning.SystemMethods.{class_in, initia
 ghost use Rattle.clos_machine.specs.Fault.{TellsCondition};
 ghost use Rattle.clos_objects.specs.Objects.{next_condition};
 ghost use Rattle.clos_machine.specs.clos_world.declared.condition.ConditionKind.TheVariants.{NoApplicableMethod};
-ghost use Rattle.clos_generic_core.specs.declared.system.SystemFunction.TheVariants.{SharedInitialize};
+ghost use Rattle.clos_method.specs.declared.system.SystemFunction.TheVariants.{SharedInitialize};
 
 use crate::creation::{enter, refuse};
 use crate::initargs::invalid_initarg;
 use crate::reached::methods_reached;
 use crate::slot_names::are_slot_names;
 use clos_forms::Forms;
-use clos_generic_core::SystemFunction;
 use clos_machine::fault::{instance_in, wrong_type};
 use clos_machine::finalized::Finalized;
 use clos_machine::machine::{Action, Doing, Filling, Frame, Machine};
@@ -27,6 +26,7 @@ use clos_machine::{
     Arguments, Condition, ConditionKind, Stop, Values, World, about, about_both, called_value,
     plain,
 };
+use clos_method::SystemFunction;
 use lisp_data::{ClassId, InstanceId, Value};
 use std::alloc::{AllocError, Global};
 

@@ -1,7 +1,7 @@
 -- Calls of readers and writers.
 use Rattle.std.proofs.Common.{◌≡◌, ℕ, List, [], ◌∷◌, Some, None, Result, Ok, Err, refl, ap, sym, ◌∙◌}
 use Rattle.std.specs.Prelude.{unwrap_or}
-use Rattle.lisp_data.specs.Name.{Nam}
+use Rattle.lisp_data.specs.Name.{Name}
 use Rattle.lisp_data.specs.Value.{Val}
 use Rattle.clos_machine.specs.clos_world.clos_store.Store.{slot_found}
 use Rattle.clos_machine.specs.clos_world.Values.{only_value}
@@ -22,7 +22,7 @@ use Rattle.clos_machine.proofs.Turns.{leads_same, stopped_through}
 use Rattle.clos_objects_core.specs.Slots.{two_of}
 use Rattle.clos_machine.proofs.Runs.{stops_at_once, turns_same}
 
-module _ (ev : Eval) (env : Context) (slot : Nam) where
+module _ (ev : Eval) (env : Context) (slot : Name) where
   -- ---- a reader
 
   none_at : (xs : List Val) (w : State) (s : ℕ) → None ≡ only_value xs → read_by ev env slot xs w s ≡ stopped ProgramError [] w s

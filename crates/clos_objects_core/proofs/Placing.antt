@@ -1,7 +1,7 @@
 -- Slots that are read and set by their names.
 use Rattle.std.proofs.Common.{◌≡◌, ℕ, suc, ◌+◌, List, [], ◌∷◌, true, false, Option, Some, None, Result, Ok, Err, arith, refl, ap, sym, ◌∙◌}
 use Rattle.std.specs.Prelude.{option_map, unwrap_or, is_some}
-use Rattle.lisp_data.specs.Name.{Nam}
+use Rattle.lisp_data.specs.Name.{Name}
 use Rattle.lisp_data.specs.Value.{Val}
 use Rattle.lisp_data.specs.ValueView.{value_of}
 use Rattle.lisp_data.specs.declared.ids.InstanceId.{InstanceId}
@@ -46,7 +46,7 @@ module _ (ev : Eval) (env : Context) where
   two_at f (x ∷ (y ∷ [])) a b w s e = ap (λ p. slot_applied ev env f (slot_designated p.0 p.1) w s) (ap (λ o. unwrap_or o (x, y)) e)
   two_at f (x ∷ (y ∷ (z ∷ xs))) a b w s e = absurd (cc e)
 
-  pub called_goes : (m n : Machine) (f : SlotFunction) (vs us : List Val) (a b : Val) (p : InstanceId × Nam) (w : State) (s : ℕ) (r : Result Doing Stop) (w' : State) (s' : ℕ)
+  pub called_goes : (m n : Machine) (f : SlotFunction) (vs us : List Val) (a b : Val) (p : InstanceId × Name) (w : State) (s : ℕ) (r : Result Doing Stop) (w' : State) (s' : ℕ)
       → Some (a, b) ≡ two_of us → us ≡ vs → slot_designated a b ≡ Ok (p.0.0, p.1) → Turns (inside m (slot_answer ev env f p.0.0 p.1)) w s r n w' s'
       → Turns (inside m (slot_called ev env f vs)) w s r n w' s'
   called_goes m n f vs us a b p w s r w' s' e k d h =
@@ -83,7 +83,7 @@ module _ (ev : Eval) (env : Context) where
   three_at (y ∷ (z ∷ (u ∷ []))) a b x w s e = ap (λ p. slot_given ev env p.1.1 (slot_designated p.0 p.1.0) w s) (ap (λ o. unwrap_or o (y, (z, u))) e)
   three_at (y ∷ (z ∷ (u ∷ (v ∷ xs)))) a b x w s e = absurd (cc e)
 
-  pub set_goes : (m n : Machine) (vs us : List Val) (a b x y z : Val) (p : InstanceId × Nam) (w : State) (s : ℕ) (r : Result Doing Stop) (w' : State) (s' : ℕ)
+  pub set_goes : (m n : Machine) (vs us : List Val) (a b x y z : Val) (p : InstanceId × Name) (w : State) (s : ℕ) (r : Result Doing Stop) (w' : State) (s' : ℕ)
       → Some (a, (b, x)) ≡ three_of us → us ≡ vs → slot_designated a b ≡ Ok (p.0.0, p.1) → y ≡ x → z ≡ x
       → Turns (inside m (λ u. slot_changed ev env p.0.0 p.1 (Some y) z (slot_found u.store p.0.0 p.1) u)) w s r n w' s' → Turns (inside m (slot_set ev env vs)) w s r n w' s'
   set_goes m n vs us a b x y z p w s r w' s' e k d i j h =
@@ -111,17 +111,17 @@ some_found f None x e h = absurd (cc h)
 some_found f (Some a) x e h = (f a, e)
 
 -- what is done with a slot that is there, or is not
-abbrev pub change_at : Machine → InstanceId → Nam → Option Val → Val → Run
+abbrev pub change_at : Machine → InstanceId → Name → Option Val → Val → Run
 change_at m id name x v u = slot_changed (meaning m.room) m.context id.0 name x v (slot_found u.store id.0 name) u
 
-pub change_missing : (m n : Machine) (id : InstanceId) (name : Nam) (x : Option Val) (v : Val) (w : State) (s : ℕ) (r : Result Doing Stop) → None ≡ slot_found w.store id.0 name
+pub change_missing : (m n : Machine) (id : InstanceId) (name : Name) (x : Option Val) (v : Val) (w : State) (s : ℕ) (r : Result Doing Stop) → None ≡ slot_found w.store id.0 name
     → Leads (inside m (slot_changed (meaning m.room) m.context id.0 name x v None)) w r n → Turns (inside m (change_at m id name x v)) w s r n w s
 change_missing m n id name x v w s r e h =
     turns_of_leads (inside m (change_at m id name x v)) w s r n
     (leads_same (inside m (slot_changed (meaning m.room) m.context id.0 name x v None)) (inside m (change_at m id name x v)) w r n
     (λ t. ap (λ o. inside m (slot_changed (meaning m.room) m.context id.0 name x v o) w t) e) h)
 
-pub change_no_step : (m n : Machine) (id : InstanceId) (name : Nam) (x : Option Val) (v : Val) (y : Option Val) (w : State) (s : ℕ) (c : Condition)
+pub change_no_step : (m n : Machine) (id : InstanceId) (name : Name) (x : Option Val) (v : Val) (y : Option Val) (w : State) (s : ℕ) (c : Condition)
     → Some y ≡ slot_found w.store id.0 name → s ≡ 0 → c ≡ record { kind = StepLimit; items = [] } → Turns (inside m (change_at m id name x v)) w s (Err (Refused c)) n w s
 change_no_step m n id name x v y w s c e z k =
     stops_at_once m n (change_at m id name x v) w s c
@@ -131,7 +131,7 @@ change_no_step m n id name x v y w s c e z k =
 one_more : (t : ℕ) → 1 + t ≡ suc t
 one_more t = omega arith
 
-pub change_next : (m : Machine) (id : InstanceId) (name : Nam) (x : Option Val) (value : Value) (y : Option Val) (w w' : State) (s s' : ℕ)
+pub change_next : (m : Machine) (id : InstanceId) (name : Name) (x : Option Val) (value : Value) (y : Option Val) (w w' : State) (s s' : ℕ)
     → Some y ≡ slot_found w.store id.0 name → s ≡ 1 + s' → w' ≡ record w { store = with_slot id.0 name x w.store }
     → Turns (inside m (change_at m id name x (value_of value))) w s (Ok (Give value)) m w' s'
 change_next m id name x value y w w' s s' e z k = (

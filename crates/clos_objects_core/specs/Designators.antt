@@ -2,8 +2,8 @@
 use Rattle.std.specs.Prelude.{◌≡◌, List, map, Result, Ok, Err}
 use Rattle.lisp_data.specs.Print.{Specializer}
 use Rattle.lisp_data.specs.ValueView.{value_of}
-use Rattle.clos_generic_core.specs.Specializer.{specializer_of}
-use Rattle.clos_generic_core.specs.declared.specializer.Specializer as code
+use Rattle.clos_method.specs.Specializer.{specializer_of}
+use Rattle.clos_method.specs.declared.specializer.Specializer as code
 use Rattle.clos_machine.specs.clos_world.declared.condition.Condition.{Condition}
 use Rattle.clos_machine.specs.clos_world.declared.condition.Stop.{Stop}
 use Rattle.clos_machine.specs.clos_world.declared.condition.Stop.TheVariants.{Refused, Storage}

@@ -2,7 +2,7 @@
 ghost use Rattle.std.specs.Prelude.{◌≡◌, ◌++◌, ◌∷◌, [], IfOk, map, option_map, slice_get};
 ghost use Rattle.lisp_data.specs.Value.{generic};
 ghost use Rattle.lisp_data.specs.ValueView.{value_of};
-ghost use Rattle.clos_generic_core.specs.Specializer.{specializer_of};
+ghost use Rattle.clos_method.specs.Specializer.{specializer_of};
 ghost use Rattle.clos_machine.specs.clos_world.World.{seen};
 ghost use Rattle.clos_machine.specs.clos_meaning.ClassFunctions.{Tells, comes_to};
 ghost use Rattle.clos_machine.specs.clos_meaning.FindMethod.{designator, designators, eql_designator, found_method, is_eql_symbol, method_answer, method_designated, method_with, no_such_method, qualifiers_given, specializer_for, specializers_for, specializers_given, values_of};
@@ -11,11 +11,11 @@ ghost use Rattle.clos_objects_core.specs.Designators.{Specializes, SpecializesAl
 
 use crate::class_functions::{symbol_in, undefined_class, wrong_number};
 use clos_forms::is_the;
-use clos_generic_core::{Qualifiers, Specializer, Specializers};
 use clos_machine::fault::wrong_type;
 use clos_machine::machine::{Doing, Machine};
 use clos_machine::truth::{is_true, nil};
 use clos_machine::{Condition, ConditionKind, Stop, Values, World, about, called_value};
+use clos_method::{Qualifiers, Specializer, Specializers};
 use lisp_data::{ClassId, GenericId, Items, Name, Value};
 use std::alloc::{AllocError, Global};
 

@@ -16,11 +16,11 @@ ghost use Rattle.clos_objects_core.specs.Slots.{DesignatesSlot, changed_argument
 
 use crate::class_functions::{symbol_in, truth};
 use clos_forms::{Forms, value_named};
-use clos_generic_core::SystemFunction;
 use clos_machine::fault::{instance_in, wrong_type};
 use clos_machine::machine::{Doing, Frame, Machine};
 use clos_machine::moves::invoke_under;
 use clos_machine::{ConditionKind, SlotFunction, Stop, Values, World, plain};
+use clos_method::SystemFunction;
 use lisp_data::{InstanceId, Name, Value};
 use std::alloc::{AllocError, Global};
 

@@ -1,6 +1,6 @@
 -- Names that are set and changed: as the places that they stand for, or as variables.
 use Rattle.std.proofs.Common.{◌≡◌, ℕ, List, ◌++◌, Option, Some, None, Result, Ok, ap, ◌∙◌}
-use Rattle.lisp_data.specs.Name.{Nam}
+use Rattle.lisp_data.specs.Name.{Name}
 use Rattle.lisp_data.specs.Value.{Val}
 use Rattle.lisp_prims.specs.declared.primitive.Primitive.{Primitive}
 use Rattle.clos_machine.specs.clos_world.Values.{last_first, only_value}
@@ -19,7 +19,7 @@ use Rattle.clos_machine.specs.declared.machine.Target.TheVariants.{SlotValue}
 use Rattle.clos_machine.specs.declared.machine.Machine.{Machine}
 use Rattle.clos_machine.proofs.Runs.{turns_of_leads, turns_same}
 
-module _ (m : Machine) (name : Nam) (vs : List Val) (w : State) (s : ℕ) where
+module _ (m : Machine) (name : Name) (vs : List Val) (w : State) (s : ℕ) where
   abbrev pub setting : Run
   setting u k = name_set (meaning m.room) m.context name (place_denoted u name) vs u k
 

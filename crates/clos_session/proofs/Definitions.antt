@@ -2,9 +2,9 @@
 use Rattle.std.proofs.Common.{ℕ, zero, suc, List, [], ◌∷◌, ◌++◌, Option, Some, None, Result, Ok, Err, Bool, true, false, length, map, subst}
 use Rattle.std.specs.Prelude.{⊤, nat_lt, ◌||◌, is_some, if◌then◌else◌}
 use Rattle.lisp_data.specs.Datum.{Dat}
-use Rattle.lisp_data.specs.Name.{Nam}
+use Rattle.lisp_data.specs.Name.{Name}
 use Rattle.lisp_data.specs.Value.{Val, class, generic, method}
-use Rattle.clos_forms.specs.Form.{Frm}
+use Rattle.clos_forms.specs.Form.{Form}
 use Rattle.clos_forms.specs.declared.operator.FunctionName.{FunctionName}
 use Rattle.clos_forms.specs.declared.operator.FunctionName.TheVariants.{Symbol, Setf}
 use Rattle.clos_definition_forms.specs.clos_generic.Table.{named as generic_named, number}
@@ -78,12 +78,12 @@ then_refuses w (Stopped c u k) go h g = h
 then_refuses w (Noted n o) go h g = then_refuses w o go h g
 then_refuses w (Gave v u k) go h g = shifted_refuses w u (go v u k) h (g v u k)
 
-form_refuses : (o : Option Frm) (go : Option Val → Run) (w : State) (k : ℕ) → ((v : Option Val) (u : State) (j : ℕ) → Refuses u (go v u j)) → Refuses w (form_evaluated o go w k)
+form_refuses : (o : Option Form) (go : Option Val → Run) (w : State) (k : ℕ) → ((v : Option Val) (u : State) (j : ℕ) → Refuses u (go v u j)) → Refuses w (form_evaluated o go w k)
 form_refuses None go w k g = g None w k
 form_refuses (Some f) go w k g =
     then_refuses w (evaluation (room_below w) f w k) (λ v. go (Some v)) (evaluation_kept (room_below w) f w k) (λ v u j. g (Some v) u j)
 
-forms_refuse : (fs : List (Option Frm)) (vs : List (Option Val)) (go : List (Option Val) → Run) (w : State) (k : ℕ) → ((us : List (Option Val)) (u : State) (j : ℕ) → Refuses u (go us u j))
+forms_refuse : (fs : List (Option Form)) (vs : List (Option Val)) (go : List (Option Val) → Run) (w : State) (k : ℕ) → ((us : List (Option Val)) (u : State) (j : ℕ) → Refuses u (go us u j))
     → Refuses w (forms_evaluated fs vs go w k)
 forms_refuse [] vs go w k g = g vs w k
 forms_refuse (f ∷ fs) vs go w k g =
@@ -117,7 +117,7 @@ removed_refuses : (v : Val) (r : Result (ℕ × ℕ) Condition) (w : State) (k :
 removed_refuses v (Err c) w k = same w
 removed_refuses v (Ok p) w k = step_refuses (λ x j. Gave v (with_removed p.0 p.1 w) j) w k (λ j. tt)
 
-removal_refuses : (f m : Frm) (w : State) (k : ℕ) → Refuses w (remove_method f m w k)
+removal_refuses : (f m : Form) (w : State) (k : ℕ) → Refuses w (remove_method f m w k)
 removal_refuses f m w k =
     forms_refuse (Some f ∷ Some m ∷ []) [] values_removed w k (λ vs u j. removed_refuses (value_at vs 0) (removable (value_at vs 0) (value_at vs 1)) u j)
 
@@ -140,7 +140,7 @@ then_step_refuses w (Noted n o) go h g = then_step_refuses w o go h g
 then_step_refuses w (Gave v u zero) go h g = h
 then_step_refuses w (Gave v u (suc k)) go h g = shifted_refuses w u (go v u k) h (g v u k)
 
-value_refuses : (name : Nam) (o : Option Frm) (w : State) (k : ℕ) → Refuses w (new_value name o w k)
+value_refuses : (name : Name) (o : Option Form) (w : State) (k : ℕ) → Refuses w (new_value name o w k)
 value_refuses name None w k = step_refuses (declared name) w k (λ j. choice_refuses (is_global w.globals name) w _ _ tt tt)
 value_refuses name (Some f) w k =
     then_step_refuses w (evaluation (room_below w) f w k) (λ v. value_given name v) (evaluation_kept (room_below w) f w k) (λ v u j. tt)

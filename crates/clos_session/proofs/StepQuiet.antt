@@ -1,10 +1,10 @@
 -- With no step left a top-level form changes nothing.
 use Rattle.std.proofs.Common.{◌≡◌, ◌≤◌, ◌-◌, arith, subst, ℕ, zero, suc, [], Option, Some, None, Err, Bool, true, false, length, refl}
 use Rattle.std.specs.Prelude.{nat_lt, ◌||◌, is_some, if◌then◌else◌}
-use Rattle.lisp_data.specs.Name.{Nam}
+use Rattle.lisp_data.specs.Name.{Name}
 use Rattle.lisp_data.specs.Datum.{Dat}
 use Rattle.lisp_data.specs.Value.{Val}
-use Rattle.clos_forms.specs.Form.{Frm}
+use Rattle.clos_forms.specs.Form.{Form}
 use Rattle.clos_forms.specs.declared.operator.FunctionName.{FunctionName}
 use Rattle.clos_forms.specs.declared.operator.FunctionName.TheVariants.{Symbol, Setf}
 use Rattle.clos_definition_forms.specs.clos_generic.Table.{named as generic_named}
@@ -50,7 +50,7 @@ then_step_quiet (Noted n o) go w h = then_step_quiet o go w h
 then_step_quiet (Gave v u zero) go w h = h
 then_step_quiet (Gave v u (suc k)) go w h = absurd (cc h.1)
 
-value_quiet : (name : Nam) (o : Option Frm) (w : World) → leaves (new_value name o (seen w) 0) (seen w) 0
+value_quiet : (name : Name) (o : Option Form) (w : World) → leaves (new_value name o (seen w) 0) (seen w) 0
 value_quiet name None w = (refl, refl)
 value_quiet name (Some f) w =
     then_step_quiet (evaluation (room_below (seen w)) f (seen w) 0) (λ v. value_given name v) (seen w)

@@ -1,12 +1,12 @@
 -- Which forms are served.
 use Rattle.std.specs.Prelude.{Bool, true, false, not, ◌&&◌, ◌||◌, Option, Some, None, codes}
 use Rattle.std.specs.List.{list_all}
-use Rattle.lisp_data.specs.Name.{Nam}
+use Rattle.lisp_data.specs.Name.{Name}
 use Rattle.lisp_data.specs.Datum.{Dat, integer, symbol, string, list, dotted, method, Dats}
 use Rattle.lisp_data.specs.Datum as datum
-use Rattle.clos_forms.specs.Form.{Frm, form, Frms, nil, cons, operator_in}
+use Rattle.clos_forms.specs.Form.{Form, form, Forms, nil, cons, operator_in}
 use Rattle.clos_forms.specs.Names.{is_called, is_one_of, functions}
-use Rattle.clos_forms.specs.Operator.{Opr, call_place}
+use Rattle.clos_forms.specs.Operator.{Operator, call_place}
 use Rattle.clos_forms.specs.Operator as of
 use Rattle.clos_lambda.specs.LambdaList.{entries_of}
 use Rattle.clos_lambda.specs.declared.lambda_list.LambdaList.{LambdaList}
@@ -23,30 +23,30 @@ use Rattle.clos_definition_forms.specs.clos_machine.clos_meaning.declared.callee
 use Rattle.clos_definition_forms.specs.clos_machine.clos_meaning.declared.callee.Callee.TheVariants.{Defined}
 
 -- the system's functions that the program does not call
-abbrev pub is_update : Nam → Bool
+abbrev pub is_update : Name → Bool
 is_update name = is_called (codes "UPDATE-INSTANCE-FOR-REDEFINED-CLASS") name || is_called (codes "UPDATE-INSTANCE-FOR-DIFFERENT-CLASS") name
 
 -- whether calls of a function are served: of those of the language some are not yet, and have no other meaning
-abbrev pub is_served_as : Callee → Nam → Bool
+abbrev pub is_served_as : Callee → Name → Bool
 is_served_as Defined name = not (is_one_of functions name) && not (is_update name)
 is_served_as _ name = true
 
 -- by the name that is called, whatever the arguments
-abbrev pub calls : Nam → Bool
+abbrev pub calls : Name → Bool
 calls name = is_served_as (callee_of name) name
 
 -- the place of incf and decf is read by a call of its function
-abbrev pub reads : Opr → Bool
+abbrev pub reads : Operator → Bool
 reads (of.place (call_place name)) = calls name
 reads _ = true
 
 -- the first of the forms of incf or decf, which is the place
-abbrev pub reads_first : Frms → Bool
+abbrev pub reads_first : Forms → Bool
 reads_first nil = true
 reads_first (cons f fs) = reads (operator_in f)
 
 -- whether an operator is served with these parts
-abbrev pub serves : Opr → Frms → Bool
+abbrev pub serves : Operator → Forms → Bool
 serves (of.call name) parts = calls name
 serves of.incf parts = reads_first parts
 serves of.decf parts = reads_first parts
@@ -55,16 +55,16 @@ serves _ parts = true
 -- whether a form is served, with all that is evaluated in it
 abbrev mutual
   -- its operator, and each of its parts
-  pub is_served : Frm → Bool
+  pub is_served : Form → Bool
   is_served (form o ps) = serves o ps && are_served ps
 
   -- all of these forms
-  pub are_served : Frms → Bool
+  pub are_served : Forms → Bool
   are_served nil = true
   are_served (cons f fs) = is_served f && are_served fs
 
 -- where no form is written, there is nothing that is not served
-abbrev pub is_served_if_any : Option Frm → Bool
+abbrev pub is_served_if_any : Option Form → Bool
 is_served_if_any None = true
 is_served_if_any (Some f) = is_served f
 
@@ -83,7 +83,7 @@ abbrev pub are_inits_served : LambdaList → Bool
 are_inits_served l = list_all is_served_optional l.optional && list_all (λ k. is_served_optional k.variable) (entries_of l.keys)
 
 -- its init forms and its body, though its definition evaluates none of them
-abbrev pub is_served_function : LambdaList → Frms → Bool
+abbrev pub is_served_function : LambdaList → Forms → Bool
 is_served_function l body = are_inits_served l && are_served body
 
 -- the forms of its eql specializers, its init forms and its body

@@ -2,20 +2,20 @@
 use Rattle.std.specs.Prelude.{ℕ, zero, suc, ◌+◌, ◌-◌, ◌==◌, nat_le, nat_lt, List, [], ◌∷◌, ◌++◌, Bool, Option, Some, None, if◌then◌else◌, map, option_map, length, position, slice_get, slice_set}
 use Rattle.std.specs.Map.{lookup}
 use Rattle.std.specs.Option.{option_map_or}
-use Rattle.lisp_data.specs.Name.{Nam, same_name}
+use Rattle.lisp_data.specs.Name.{Name, same_name}
 use Rattle.lisp_data.specs.Value.{Val}
 use Rattle.lisp_data.specs.declared.ids.CellId.{CellId}
 use Rattle.clos_class.specs.Slots.{Layout}
 
 -- slots by their names, each with its value; one that has none is unbound
 abbrev pub Slots : Type 0
-Slots = List (Nam × Option Val)
+Slots = List (Name × Option Val)
 
 -- an instance: its class, its local slots in layout order, and the cells of its shared slots
 pub record Object : Type 0 where
   pub class : ℕ
   pub slots : Slots
-  pub shared : List (Nam × CellId)
+  pub shared : List (Name × CellId)
 
 pub record Contents : Type 0 where
   pub instances : List Object  -- in the order in which they were made; the first has the number 1
@@ -29,7 +29,7 @@ empty instances cells = record { instances = []; cells = []; most_instances = in
 
 -- ---- slots
 
-abbrev pub slot_names : Slots → List Nam
+abbrev pub slot_names : Slots → List Name
 slot_names ss = map (λ s. s.0) ss
 
 abbrev pub if_bound : Option (Option Val) → Option Val
@@ -37,11 +37,11 @@ if_bound None = None
 if_bound (Some value) = value
 
 -- the value of the slot of this name, where there is one and it is bound
-abbrev pub value_named : Slots → Nam → Option Val
+abbrev pub value_named : Slots → Name → Option Val
 value_named ss name = if_bound (lookup (same_name name) ss)
 
 -- the slots after the one of this name has this value, or none
-abbrev pub with_value : Nam → Option Val → Slots → Slots
+abbrev pub with_value : Name → Option Val → Slots → Slots
 with_value name value [] = []
 with_value name value (s ∷ ss) = if same_name name s.0 then (s.0, value) ∷ ss else s ∷ with_value name value ss
 
@@ -82,11 +82,11 @@ instance w i = if i == 0 then None else slice_get w.instances (i - 1)
 abbrev pub slots_of : Contents → ℕ → Slots
 slots_of w i = option_map_or (λ o. o.slots) (instance w i) []
 
-abbrev pub shared_of : Contents → ℕ → List (Nam × CellId)
+abbrev pub shared_of : Contents → ℕ → List (Name × CellId)
 shared_of w i = option_map_or (λ o. o.shared) (instance w i) []
 
 -- the place of the slot of this name
-abbrev pub place_named : Contents → ℕ → Nam → Option ℕ
+abbrev pub place_named : Contents → ℕ → Name → Option ℕ
 place_named w i name = position (same_name name) (slot_names (slots_of w i))
 
 -- the instances after the one at this place was changed so
@@ -134,17 +134,17 @@ found_or None shared = shared
 found_or (Some value) shared = Some value
 
 -- its value, or that it is unbound, where there is such a slot
-abbrev pub slot_found : Contents → ℕ → Nam → Option (Option Val)
+abbrev pub slot_found : Contents → ℕ → Name → Option (Option Val)
 slot_found w i name = found_or (lookup (same_name name) (slots_of w i)) (cell_found w (lookup (same_name name) (shared_of w i)))
 
 abbrev pub with_cell_named : Option CellId → Option Val → Contents → Contents
 with_cell_named None value w = w
 with_cell_named (Some c) value w = with_cell_value c.0 value w
 
-abbrev pub with_place : ℕ → Nam → Option Val → Contents → Option ℕ → Contents
+abbrev pub with_place : ℕ → Name → Option Val → Contents → Option ℕ → Contents
 with_place i name value w None = with_cell_named (lookup (same_name name) (shared_of w i)) value w
 with_place i name value w (Some place) = with_slots (with_value name value) i w
 
 -- the slot of this name has this value, or none, where the instance has such a slot
-abbrev pub with_slot : ℕ → Nam → Option Val → Contents → Contents
+abbrev pub with_slot : ℕ → Name → Option Val → Contents → Contents
 with_slot i name value w = with_place i name value w (place_named w i name)

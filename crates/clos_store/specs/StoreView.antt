@@ -1,7 +1,7 @@
 -- How the logic stores what the store has.
 use Rattle.std.specs.Prelude.{ℕ, List, Option, refl}
 use Rattle.std.specs.Coded.{Coded, code_by, coded×, coded_list, coded_option, coded_ℕ}
-use Rattle.lisp_data.specs.Name.{Nam}
+use Rattle.lisp_data.specs.Name.{Name}
 use Rattle.lisp_data.specs.NameCode.{name_code}
 use Rattle.lisp_data.specs.Value.{Val}
 use Rattle.lisp_data.specs.ValueCode.{value_code}
@@ -13,7 +13,7 @@ cell_code = code_by ℕ coded_ℕ (λ c. c.0) (λ n. record { 0 = n }) (λ _. re
 
 abbrev pub object_code : Coded Object
 object_code =
-    code_by (ℕ × (Slots × List (Nam × CellId)))
+    code_by (ℕ × (Slots × List (Name × CellId)))
     (coded× coded_ℕ (coded× (coded_list (coded× name_code (coded_option value_code))) (coded_list (coded× name_code cell_code))))
     (λ o. (o.class, (o.slots, o.shared))) (λ p. record { class = p.0; slots = p.1.0; shared = p.1.1 }) (λ _. refl)
 

@@ -1,12 +1,12 @@
 -- Each method that is read has a specializer for each required parameter.
 use Rattle.std.proofs.Common.{◌≡◌, List, All, Option, Some, None, length, refl, ap, sym, ◌∙◌}
 use Rattle.std.specs.Prelude.{IfSome, ⊤, codes, if◌then◌else◌}
-use Rattle.lisp_data.specs.Name.{Nam}
+use Rattle.lisp_data.specs.Name.{Name}
 use Rattle.lisp_data.specs.Datum.{Dat, integer, symbol, string, list, dotted, method, Dats, nil, cons, length_of}
 use Rattle.clos_forms.specs.Binding.{each}
 use Rattle.clos_forms.specs.Distinct.{are_distinct}
 use Rattle.clos_forms.specs.Fault.{◌>>=◌, Gives}
-use Rattle.clos_forms.specs.Form.{Frms}
+use Rattle.clos_forms.specs.Form.{Forms}
 use Rattle.clos_forms.specs.Grammar.{body_forms_of}
 use Rattle.clos_forms.specs.Names.{is_called}
 use Rattle.clos_forms.specs.Part.{only_in}
@@ -39,24 +39,24 @@ use Rattle.clos_syntax.proofs.WhereGiven.{passes, keeps, follows, either, one_fo
 
 -- ---- lambda lists keep their required parameters
 
-abbrev Requires : List Nam → LambdaList → Type 0
+abbrev Requires : List Name → LambdaList → Type 0
 Requires ns l = l.required ≡ ns
 
 abbrev Counts : Dats → LambdaList → Type 0
 Counts l r = length r.required ≡ length_of (front l)
 
-keys_stay : (ns : List Nam) (os : List Optional) (r : Option Nam) (l : Dats) → IfSome (with_keys ns os r l) (Requires ns)
+keys_stay : (ns : List Name) (os : List Optional) (r : Option Name) (l : Dats) → IfSome (with_keys ns os r l) (Requires ns)
 keys_stay ns os r l =
     passes (Requires ns) (keys_from (after (codes "&KEY") l) l) (λ ks. if_distinct (record { required = ns; optional = os; rest = r; keys = ks }))
     (λ ks. either (Requires ns) (are_distinct (all_variables (record { required = ns; optional = os; rest = r; keys = ks })))
     (Some (record { required = ns; optional = os; rest = r; keys = ks })) None refl tt)
 
-rest_stays : (ns : List Nam) (os : List Optional) (l : Dats) → IfSome (with_rest ns os l) (Requires ns)
+rest_stays : (ns : List Name) (os : List Optional) (l : Dats) → IfSome (with_rest ns os l) (Requires ns)
 rest_stays ns os l =
     passes (Requires ns) (rest_in (after (codes "&REST") l)) (λ r. with_keys ns os r (past l (after (codes "&REST") l)))
     (λ r. keys_stay ns os r (past l (after (codes "&REST") l)))
 
-required_stay : (ns : List Nam) (l : Dats) → IfSome (with_optionals ns l) (Requires ns)
+required_stay : (ns : List Name) (l : Dats) → IfSome (with_optionals ns l) (Requires ns)
 required_stay ns l =
     passes (Requires ns) (optionals_in (after (codes "&OPTIONAL") l)) (λ os. with_rest ns os (past l (after (codes "&OPTIONAL") l)))
     (λ os. rest_stays ns os (past l (after (codes "&OPTIONAL") l)))
@@ -69,7 +69,7 @@ counted l =
 
 -- ---- methods
 
-abbrev made : Dats → LambdaList → List ParameterSpecializer → Frms → MethodDefinition
+abbrev made : Dats → LambdaList → List ParameterSpecializer → Forms → MethodDefinition
 made qualifiers l ss fs = record { qualifiers = qualifiers; lambda_list = l; specializers = ss; body = fs }
 
 method_with_law : (qualifiers parameters body : Dats) → IfSome (method_with qualifiers parameters body) IsSpecialized
@@ -99,12 +99,12 @@ OfGeneric g = All IsSpecialized g.methods
 option_law : (d : Dat) → IfSome (method_option_in d) IsSpecialized
 option_law d = passes IsSpecialized (arguments_in d) method_in method_law
 
-abbrev with_methods : Dats → Option (List Nam) → Option CombinationUse → Option GenericOptions
+abbrev with_methods : Dats → Option (List Name) → Option CombinationUse → Option GenericOptions
 with_methods l precedence combination =
     each method_option_in (options_of (codes "METHOD") l)
     >>= λ ms. Some (record { precedence = precedence; combination = combination; methods = ms })
 
-abbrev with_combination : Dats → Option (List Nam) → Option GenericOptions
+abbrev with_combination : Dats → Option (List Name) → Option GenericOptions
 with_combination l precedence = option_in combination_in (codes "METHOD-COMBINATION") l >>= λ c. with_methods l precedence c
 
 abbrev with_precedence : Dats → Option GenericOptions
@@ -113,7 +113,7 @@ with_precedence l = option_in symbols_in (codes "ARGUMENT-PRECEDENCE-ORDER") l >
 abbrev with_documentation : Dats → Option GenericOptions
 with_documentation l = option_in documentation_option_in (codes "DOCUMENTATION") l >>= λ d. with_precedence l
 
-methods_law : (l : Dats) (p : Option (List Nam)) (c : Option CombinationUse) → IfSome (with_methods l p c) OfOptions
+methods_law : (l : Dats) (p : Option (List Name)) (c : Option CombinationUse) → IfSome (with_methods l p c) OfOptions
 methods_law l p c =
     keeps (All IsSpecialized) OfOptions (each method_option_in (options_of (codes "METHOD") l))
     (λ ms. Some (record { precedence = p; combination = c; methods = ms }))

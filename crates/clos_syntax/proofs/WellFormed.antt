@@ -2,13 +2,13 @@
 use Rattle.std.proofs.Common.{◌≡◌, true, List, [], ◌∷◌, All, Option, Some, None}
 use Rattle.std.specs.Prelude.{ℕ, IfSome, codes, if◌then◌else◌}
 use Rattle.std.proofs.lemmas.List.Elements.{All-nil, All-cons}
-use Rattle.lisp_data.specs.Name.{Nam}
+use Rattle.lisp_data.specs.Name.{Name}
 use Rattle.lisp_data.specs.Datum.{Dat, integer, symbol, string, list, dotted, method, Dats, nil, cons}
 use Rattle.clos_forms.specs.Binding.{each}
 use Rattle.clos_forms.specs.Body.{body_of}
 use Rattle.clos_forms.specs.Distinct.{are_distinct}
 use Rattle.clos_forms.specs.Fault.{◌>>=◌}
-use Rattle.clos_forms.specs.Form.{Frm, Frms}
+use Rattle.clos_forms.specs.Form.{Form, Forms}
 use Rattle.clos_forms.specs.FunctionName.{symbol_in, variable_in}
 use Rattle.clos_forms.specs.Grammar.{form_of, body_forms_of, full_room}
 use Rattle.clos_forms.specs.Part.{at_most_one, only_in}
@@ -57,7 +57,7 @@ use Rattle.clos_syntax.proofs.WhereGiven.{passes, keeps, either, all_of_each, si
 form_law : (d : Dat) → IfSome (form_of Plain d) IsPlain
 form_law d = each_given IsPlain (form_of Plain d) (λ f e. form_is_well_formed full_room Plain d f e)
 
-abbrev AllWell : Context → Frms → Type 0
+abbrev AllWell : Context → Forms → Type 0
 AllWell context fs = are_well_formed context fs ≡ true
 
 body_law : (context : Context) (l : Dats) → IfSome (body_forms_of context l) (AllWell context)
@@ -65,10 +65,10 @@ body_law context l = each_given (AllWell context) (body_forms_of context l) (λ 
 
 -- ---- lambda lists
 
-abbrev opt : Nam → Frm → Option Nam → Optional
+abbrev opt : Name → Form → Option Name → Optional
 opt n f g = record { name = n; init = Some f; given = g }
 
-optional_with_law : (n : Nam) (l : Dats) → IfSome (optional_with n l) OfOptional
+optional_with_law : (n : Name) (l : Dats) → IfSome (optional_with n l) OfOptional
 optional_with_law n nil = tt
 optional_with_law n (cons init l) =
     keeps IsPlain OfOptional (form_of Plain init) (λ f. at_most_one l >>= given_in >>= λ g. Some (opt n f g)) (form_law init)
@@ -90,7 +90,7 @@ optionals_law : (o : Option Dats) → IfSome (optionals_in o) (All OfOptional)
 optionals_law None = All-nil OfOptional
 optionals_law (Some section) = all_of_each OfOptional optional_in optional_law (front section)
 
-keyed_law : (k : Nam) (o : Option Optional) → IfSome o OfOptional → IfSome (o >>= λ x. Some (keyed k x)) OfKey
+keyed_law : (k : Name) (o : Option Optional) → IfSome o OfOptional → IfSome (o >>= λ x. Some (keyed k x)) OfKey
 keyed_law k o h = keeps OfOptional OfKey o (λ x. Some (keyed k x)) h (λ x p. p)
 
 named_key_law : (m l : Dats) → IfSome (named_key m l) OfKey
@@ -100,7 +100,7 @@ named_key_law (cons name v) l =
     (λ k. passes OfKey (only_in v >>= parameter_in) (λ n. optional_with n l >>= λ o. Some (keyed k o))
     (λ n. keyed_law k (optional_with n l) (optional_with_law n l)))
 
-plain_key_law : (n : Nam) (l : Dats) → IfSome (plain_key n l) OfKey
+plain_key_law : (n : Name) (l : Dats) → IfSome (plain_key n l) OfKey
 plain_key_law n l = keyed_law (keyword_of n) (optional_with n l) (optional_with_law n l)
 
 key_with_law : (d : Dat) (l : Dats) → IfSome (key_with d l) OfKey
@@ -135,21 +135,21 @@ keys_law (Some section) l =
     (all_of_each OfKey key_in key_law (front section))
     (λ es p. passes MayHaveKeys (allowing (back section)) (λ a. Some (Some (record { entries = es; allow_other_keys = a }))) (λ a. p))
 
-abbrev lambda_list : List Nam → List Optional → Option Nam → Option Keys → LambdaList
+abbrev lambda_list : List Name → List Optional → Option Name → Option Keys → LambdaList
 lambda_list required os rest ks = record { required = required; optional = os; rest = rest; keys = ks }
 
-with_keys_law : (ns : List Nam) (os : List Optional) (r : Option Nam) (l : Dats) → All OfOptional os → IfSome (with_keys ns os r l) OfLambdaList
+with_keys_law : (ns : List Name) (os : List Optional) (r : Option Name) (l : Dats) → All OfOptional os → IfSome (with_keys ns os r l) OfLambdaList
 with_keys_law ns os r l h =
     keeps MayHaveKeys OfLambdaList (keys_from (after (codes "&KEY") l) l) (λ ks. if_distinct (lambda_list ns os r ks))
     (keys_law (after (codes "&KEY") l) l)
     (λ ks p. either OfLambdaList (are_distinct (all_variables (lambda_list ns os r ks))) (Some (lambda_list ns os r ks)) None (h, p) tt)
 
-with_rest_law : (ns : List Nam) (os : List Optional) (l : Dats) → All OfOptional os → IfSome (with_rest ns os l) OfLambdaList
+with_rest_law : (ns : List Name) (os : List Optional) (l : Dats) → All OfOptional os → IfSome (with_rest ns os l) OfLambdaList
 with_rest_law ns os l h =
     passes OfLambdaList (rest_in (after (codes "&REST") l)) (λ r. with_keys ns os r (past l (after (codes "&REST") l)))
     (λ r. with_keys_law ns os r (past l (after (codes "&REST") l)) h)
 
-with_optionals_law : (ns : List Nam) (l : Dats) → IfSome (with_optionals ns l) OfLambdaList
+with_optionals_law : (ns : List Name) (l : Dats) → IfSome (with_optionals ns l) OfLambdaList
 with_optionals_law ns l =
     keeps (All OfOptional) OfLambdaList (optionals_in (after (codes "&OPTIONAL") l)) (λ os. with_rest ns os (past l (after (codes "&OPTIONAL") l)))
     (optionals_law (after (codes "&OPTIONAL") l)) (λ os p. with_rest_law ns os (past l (after (codes "&OPTIONAL") l)) p)
@@ -196,7 +196,7 @@ specializer_law (method n) = tt
 specialized_law : (l : Dats) → IfSome (specialized l) OfLambdaList
 specialized_law l = passes OfLambdaList (each required_in (front l)) (λ ns. with_optionals ns (back l)) (λ ns. with_optionals_law ns (back l))
 
-abbrev made : Dats → LambdaList → List ParameterSpecializer → Frms → MethodDefinition
+abbrev made : Dats → LambdaList → List ParameterSpecializer → Forms → MethodDefinition
 made qualifiers l ss fs = record { qualifiers = qualifiers; lambda_list = l; specializers = ss; body = fs }
 
 method_with_law : (qualifiers parameters body : Dats) → IfSome (method_with qualifiers parameters body) OfMethod
@@ -230,12 +230,12 @@ OfOptions os = All OfMethod os.methods
 option_law : (d : Dat) → IfSome (method_option_in d) OfMethod
 option_law d = passes OfMethod (arguments_in d) method_in method_law
 
-abbrev with_methods : Dats → Option (List Nam) → Option CombinationUse → Option GenericOptions
+abbrev with_methods : Dats → Option (List Name) → Option CombinationUse → Option GenericOptions
 with_methods l precedence combination =
     each method_option_in (options_of (codes "METHOD") l)
     >>= λ ms. Some (record { precedence = precedence; combination = combination; methods = ms })
 
-abbrev with_combination : Dats → Option (List Nam) → Option GenericOptions
+abbrev with_combination : Dats → Option (List Name) → Option GenericOptions
 with_combination l precedence = option_in combination_in (codes "METHOD-COMBINATION") l >>= λ c. with_methods l precedence c
 
 abbrev with_precedence : Dats → Option GenericOptions
@@ -244,7 +244,7 @@ with_precedence l = option_in symbols_in (codes "ARGUMENT-PRECEDENCE-ORDER") l >
 abbrev with_documentation : Dats → Option GenericOptions
 with_documentation l = option_in documentation_option_in (codes "DOCUMENTATION") l >>= λ d. with_precedence l
 
-methods_law : (l : Dats) (p : Option (List Nam)) (c : Option CombinationUse) → IfSome (with_methods l p c) OfOptions
+methods_law : (l : Dats) (p : Option (List Name)) (c : Option CombinationUse) → IfSome (with_methods l p c) OfOptions
 methods_law l p c =
     keeps (All OfMethod) OfOptions (each method_option_in (options_of (codes "METHOD") l))
     (λ ms. Some (record { precedence = p; combination = c; methods = ms }))
@@ -279,25 +279,25 @@ initform_law : (text : List ℕ) (l : Dats) → IfSome (value_in form_in text l)
 initform_law text l =
     keeps (All IsPlain) HasInit (each form_in (values_of text l)) single (all_of_each IsPlain form_in form_law (values_of text l)) (single_law IsPlain)
 
-abbrev slot : Nam → List Nam → List Accessor → Option Frm → Option Allocation → SlotSpecifier
+abbrev slot : Name → List Name → List Accessor → Option Form → Option Allocation → SlotSpecifier
 slot n initargs accessors i a = record { name = n; initargs = initargs; accessors = accessors; initform = i; allocation = or_instance a }
 
 -- what initargs read of a slot after its initform
-abbrev with_initform : Nam → Dats → List Nam → List Accessor → Option Frm → Option SlotSpecifier
+abbrev with_initform : Name → Dats → List Name → List Accessor → Option Form → Option SlotSpecifier
 with_initform n l initargs accessors i =
     value_in allocation_in (codes "ALLOCATION") l
     >>= λ a. value_in anything (codes "TYPE") l
     >>= λ t. value_in documentation_in (codes "DOCUMENTATION") l
     >>= λ d. Some (slot n initargs accessors i a)
 
-with_initform_law : (n : Nam) (l : Dats) (initargs : List Nam) (accessors : List Accessor) (i : Option Frm) → HasInit i → IfSome (with_initform n l initargs accessors i) OfSlot
+with_initform_law : (n : Name) (l : Dats) (initargs : List Name) (accessors : List Accessor) (i : Option Form) → HasInit i → IfSome (with_initform n l initargs accessors i) OfSlot
 with_initform_law n l initargs accessors i h =
     passes OfSlot (value_in allocation_in (codes "ALLOCATION") l)
     (λ a. value_in anything (codes "TYPE") l >>= λ t. value_in documentation_in (codes "DOCUMENTATION") l >>= λ d. Some (slot n initargs accessors i a))
     (λ a. passes OfSlot (value_in anything (codes "TYPE") l) (λ t. value_in documentation_in (codes "DOCUMENTATION") l >>= λ d. Some (slot n initargs accessors i a))
     (λ t. passes OfSlot (value_in documentation_in (codes "DOCUMENTATION") l) (λ d. Some (slot n initargs accessors i a)) (λ d. h)))
 
-slot_from_law : (n : Nam) (l : Dats) → IfSome (slot_from n l) OfSlot
+slot_from_law : (n : Name) (l : Dats) → IfSome (slot_from n l) OfSlot
 slot_from_law n l =
     passes OfSlot (each symbol_in (values_of (codes "INITARG") l))
     (λ initargs. accessors_in l >>= λ accessors. value_in form_in (codes "INITFORM") l >>= λ i. with_initform n l initargs accessors i)
@@ -305,7 +305,7 @@ slot_from_law n l =
     (λ accessors. keeps HasInit OfSlot (value_in form_in (codes "INITFORM") l) (λ i. with_initform n l initargs accessors i) (initform_law (codes "INITFORM") l)
     (λ i h. with_initform_law n l initargs accessors i h)))
 
-slot_with_law : (n : Nam) (l : Dats) → IfSome (slot_with n l) OfSlot
+slot_with_law : (n : Name) (l : Dats) → IfSome (slot_with n l) OfSlot
 slot_with_law n l = either OfSlot (are_slot_options l) (slot_from n l) None (slot_from_law n l) tt
 
 listed_slot_law : (l : Dats) → IfSome (listed_slot l) OfSlot
@@ -366,7 +366,7 @@ class_options_law l =
     (λ m. keeps MayHaveDefaults (All OfDefault) (option_in defaults_in (codes "DEFAULT-INITARGS") l) (λ ds. Some (or_none ds))
     (default_option_law (codes "DEFAULT-INITARGS") l) none_or_all)))
 
-abbrev class : Nam → List Nam → List SlotSpecifier → List DefaultInitarg → ClassDefinition
+abbrev class : Name → List Name → List SlotSpecifier → List DefaultInitarg → ClassDefinition
 class n cs ss ds = record { name = n; superclasses = cs; slots = ss; defaults = ds }
 
 class_with_law : (name superclasses slots : Dat) (l : Dats) → IfSome (class_with name superclasses slots l) OfClass
@@ -384,7 +384,7 @@ class_law (cons name (cons superclasses (cons slots l))) = class_with_law name s
 
 -- ---- functions and variables
 
-abbrev function : FunctionName → LambdaList → Frms → FunctionDefinition
+abbrev function : FunctionName → LambdaList → Forms → FunctionDefinition
 function n l fs = record { name = n; lambda_list = l; body = fs }
 
 function_with_law : (name parameters : Dat) (body : Dats) → IfSome (function_with name parameters body) OfFunction
@@ -417,7 +417,7 @@ variable_law definer (cons name l) =
 
 -- ---- top-level forms
 
-abbrev BothPlain : Frm × Frm → Type 0
+abbrev BothPlain : Form × Form → Type 0
 BothPlain p = IsPlain p.0 × IsPlain p.1
 
 two_forms_law : (l : Dats) → IfSome (two_forms_in l) BothPlain

@@ -3,7 +3,7 @@ use Rattle.std.proofs.Common.{◌≡◌, Bool, true, false, List, [], ◌∷◌,
 use Rattle.std.specs.Prelude.{IfSome, IfOk, codes, if◌then◌else◌}
 use Rattle.std.proofs.lemmas.List.Elements.{All-nil, All-cons, All-head}
 use Rattle.std.proofs.lemmas.Option.{none-some}
-use Rattle.lisp_data.specs.Name.{Nam}
+use Rattle.lisp_data.specs.Name.{Name}
 use Rattle.lisp_data.specs.Datum.{Dat, integer, symbol, string, list, dotted, method, Dats, nil, cons, length_of}
 use Rattle.clos_forms.specs.Binding.{each}
 use Rattle.clos_forms.specs.Fault.{◌>>=◌, Gives}
@@ -94,7 +94,7 @@ of_five P false false true d u v w x y hu hv hw hx hy = hw
 of_five P false false false true u v w x y hu hv hw hx hy = hx
 of_five P false false false false u v w x y hu hv hw hx hy = hy
 
-other_law : (P : Top → Type 0) → Cases P → (name : Nam) (l : Dats) (d : Dat) → IfSome (other_top name l d) P
+other_law : (P : Top → Type 0) → Cases P → (name : Name) (l : Dats) (d : Dat) → IfSome (other_top name l d) P
 other_law P h name l d =
     of_five P (is_called (codes "REMOVE-METHOD") name) (is_called (codes "ADD-DEPENDENT") name) (is_called (codes "REMOVE-DEPENDENT") name)
     (is_called (codes "IN-PACKAGE") name) (two_forms_in l >>= λ p. Some (RemoveMethod p.0 p.1)) (two_forms_in l >>= λ p. Some (AddDependent p.0 p.1))
@@ -104,14 +104,14 @@ other_law P h name l d =
     (passes P (only_in l) (λ x. Some InPackage) (λ x. h.in_package)) (expression_law P h d)
 
 -- the definitions after those of methods
-abbrev past_methods : Nam → Dats → Dat → Option Top
+abbrev past_methods : Name → Dats → Dat → Option Top
 past_methods name l d =
     if is_called (codes "DEFUN") name then (function_in l >>= λ f. Some (Defun f))
     else if is_called (codes "DEFVAR") name then (variable_definition_in a_defvar l >>= λ v. Some (DefVar v))
     else if is_called (codes "DEFPARAMETER") name then (variable_definition_in a_defparameter l >>= λ v. Some (DefVar v))
     else other_top name l d
 
-past_methods_law : (P : Top → Type 0) → Cases P → (name : Nam) (l : Dats) (d : Dat) → IfSome (past_methods name l d) P
+past_methods_law : (P : Top → Type 0) → Cases P → (name : Name) (l : Dats) (d : Dat) → IfSome (past_methods name l d) P
 past_methods_law P h name l d =
     of_five P (is_called (codes "DEFUN") name) (is_called (codes "DEFVAR") name) (is_called (codes "DEFPARAMETER") name) true
     (function_in l >>= λ f. Some (Defun f)) (variable_definition_in a_defvar l >>= λ v. Some (DefVar v))
@@ -119,7 +119,7 @@ past_methods_law P h name l d =
     (as_top P (function_in l) Defun (h.function l)) (as_top P (variable_definition_in a_defvar l) DefVar (h.variable a_defvar l))
     (as_top P (variable_definition_in a_defparameter l) DefVar (h.variable a_defparameter l)) (other_law P h name l d) tt
 
-named_law : (P : Top → Type 0) → Cases P → (name : Nam) (l : Dats) (d : Dat) → IfSome (named_top name l d) P
+named_law : (P : Top → Type 0) → Cases P → (name : Name) (l : Dats) (d : Dat) → IfSome (named_top name l d) P
 named_law P h name l d =
     of_five P (is_called (codes "DEFCLASS") name) (is_called (codes "DEFGENERIC") name) (is_called (codes "DEFMETHOD") name) true
     (class_in l >>= λ c. Some (DefClass c)) (generic_in l >>= λ g. Some (DefGeneric g)) (defmethod_in l) (past_methods name l d) None

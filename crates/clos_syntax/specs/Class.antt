@@ -1,6 +1,6 @@
 -- Classes (HyperSpec 7.7 defclass).
 use Rattle.std.specs.Prelude.{ℕ, List, [], ◌∷◌, ◌||◌, codes, Option, Some, None, if◌then◌else◌}
-use Rattle.lisp_data.specs.Name.{Nam}
+use Rattle.lisp_data.specs.Name.{Name}
 use Rattle.lisp_data.specs.Datum.{Dat, Dats, nil, cons}
 use Rattle.clos_forms.specs.Binding.{each}
 use Rattle.clos_forms.specs.Distinct.{are_distinct}
@@ -24,22 +24,22 @@ predefined_classes =
     ∷ codes "LIST" ∷ codes "SEQUENCE" ∷ codes "CONS" ∷ codes "STRING" ∷ codes "VECTOR" ∷ codes "ARRAY" ∷ codes "FUNCTION" ∷ codes "GENERIC-FUNCTION"
     ∷ codes "STANDARD-GENERIC-FUNCTION" ∷ codes "CLASS" ∷ codes "STANDARD-CLASS" ∷ codes "BUILT-IN-CLASS" ∷ codes "STANDARD-METHOD" ∷ codes "METHOD" ∷ []
 
-abbrev pub unless_predefined : Nam → Option Nam
+abbrev pub unless_predefined : Name → Option Name
 unless_predefined name = if is_one_of predefined_classes name then None else Some name
 
-abbrev pub new_class_in : Dat → Option Nam
+abbrev pub new_class_in : Dat → Option Name
 new_class_in d = symbol_in d >>= unless_predefined
 
-abbrev pub if_distinct_names : List Nam → Option (List Nam)
+abbrev pub if_distinct_names : List Name → Option (List Name)
 if_distinct_names ns = if are_distinct ns then Some ns else None
 
 -- ---- superclasses and slots
 
 -- symbols, none twice
-abbrev pub superclasses_in : Dat → Option (List Nam)
+abbrev pub superclasses_in : Dat → Option (List Name)
 superclasses_in d = list_in d >>= each symbol_in >>= if_distinct_names
 
-abbrev pub slot_names : List SlotSpecifier → List Nam
+abbrev pub slot_names : List SlotSpecifier → List Name
 slot_names [] = []
 slot_names (s ∷ ss) = s.name ∷ slot_names ss
 
@@ -64,7 +64,7 @@ defaults_from nil = Some []
 defaults_from (cons k nil) = None
 defaults_from (cons k (cons v l)) = default_with k v >>= λ x. defaults_from l >>= λ xs. Some (x ∷ xs)
 
-abbrev pub default_names : List DefaultInitarg → List Nam
+abbrev pub default_names : List DefaultInitarg → List Name
 default_names [] = []
 default_names (d ∷ ds) = d.name ∷ default_names ds
 

@@ -1,6 +1,6 @@
 -- Generic functions (HyperSpec 7.7 defgeneric).
 use Rattle.std.specs.Prelude.{List, Bool, true, ◌||◌, ◌&&◌, codes, Option, Some, None, if◌then◌else◌}
-use Rattle.lisp_data.specs.Name.{Nam}
+use Rattle.lisp_data.specs.Name.{Name}
 use Rattle.lisp_data.specs.Datum.{Dat, Dats, nil, cons}
 use Rattle.clos_forms.specs.Binding.{each}
 use Rattle.clos_forms.specs.Distinct.{are_among, are_distinct}
@@ -26,7 +26,7 @@ generic_option_in d =
 
 -- ---- the options
 
-abbrev pub symbols_in : Dat → Option (List Nam)
+abbrev pub symbols_in : Dat → Option (List Name)
 symbols_in d = arguments_in d >>= each symbol_in
 
 -- a name, and any data
@@ -52,10 +52,10 @@ generic_options_in l =
 -- ---- the order of the arguments
 
 -- each required parameter exactly once
-abbrev pub orders : List Nam → List Nam → Bool
+abbrev pub orders : List Name → List Name → Bool
 orders required names = are_distinct names && are_among names required && are_among required names
 
-abbrev pub fits : List Nam → Option (List Nam) → Bool
+abbrev pub fits : List Name → Option (List Name) → Bool
 fits required None = true
 fits required (Some names) = orders required names
 

@@ -1,6 +1,6 @@
 -- Methods (HyperSpec 7.6.2, 3.4.3, 7.7 defmethod).
 use Rattle.std.specs.Prelude.{List, Bool, true, false, not, codes, Option, Some, None, if◌then◌else◌}
-use Rattle.lisp_data.specs.Name.{Nam}
+use Rattle.lisp_data.specs.Name.{Name}
 use Rattle.lisp_data.specs.Datum.{Dat, integer, symbol, string, list, dotted, method, Dats, nil, cons}
 use Rattle.clos_forms.specs.Binding.{each}
 use Rattle.clos_forms.specs.Fault.{◌>>=◌}
@@ -18,14 +18,14 @@ use Rattle.clos_syntax.specs.declared.method.MethodDefinition.{MethodDefinition}
 
 -- ---- required parameters
 
-abbrev pub specialized_name : Dats → Option Nam
+abbrev pub specialized_name : Dats → Option Name
 specialized_name nil = None
 specialized_name (cons v nil) = None
 specialized_name (cons v (cons s nil)) = parameter_in v
 specialized_name (cons v (cons s (cons d l))) = None
 
 -- the variable of v, or of (v specializer)
-abbrev pub required_in : Dat → Option Nam
+abbrev pub required_in : Dat → Option Name
 required_in (integer n) = None
 required_in (symbol name) = parameter_in (symbol name)
 required_in (string s) = None
@@ -34,7 +34,7 @@ required_in (dotted l d) = None
 required_in (method n) = None
 
 -- the class of all objects, of a parameter without a specializer
-abbrev pub t_name : Nam
+abbrev pub t_name : Name
 t_name = record { text = codes "T"; keyword = false }
 
 abbrev pub eql_specializer : Dats → Option ParameterSpecializer

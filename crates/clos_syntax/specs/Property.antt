@@ -1,14 +1,14 @@
 -- Names and values in turn, and options that their heads name.
 use Rattle.std.specs.Prelude.{ℕ, List, Bool, false, ◌&&◌, Option, Some, None, if◌then◌else◌}
 use Rattle.std.specs.Str.{bytes_eq}
-use Rattle.lisp_data.specs.Name.{Nam}
+use Rattle.lisp_data.specs.Name.{Name}
 use Rattle.lisp_data.specs.Datum.{Dat, integer, symbol, string, list, dotted, method, Dats, nil, cons}
 use Rattle.clos_forms.specs.Binding.{each}
 use Rattle.clos_forms.specs.Fault.{◌>>=◌}
 use Rattle.clos_lambda.specs.Lists.{single}
 
 -- the keyword of these characters
-abbrev pub is_keyword_called : List ℕ → Nam → Bool
+abbrev pub is_keyword_called : List ℕ → Name → Bool
 is_keyword_called text name = name.keyword && bytes_eq name.text text
 
 abbrev pub is_key : List ℕ → Dat → Bool

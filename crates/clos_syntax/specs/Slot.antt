@@ -1,6 +1,6 @@
 -- Slot specifiers (HyperSpec 7.7 defclass, 7.5.3).
 use Rattle.std.specs.Prelude.{List, [], ◌∷◌, ◌++◌, Bool, true, false, ◌&&◌, ◌||◌, codes, Option, Some, None, if◌then◌else◌}
-use Rattle.lisp_data.specs.Name.{Nam}
+use Rattle.lisp_data.specs.Name.{Name}
 use Rattle.lisp_data.specs.Datum.{Dat, integer, symbol, string, list, dotted, method, Dats, nil, cons}
 use Rattle.clos_forms.specs.Binding.{each}
 use Rattle.clos_forms.specs.Body.{is_string}
@@ -70,7 +70,7 @@ or_instance (Some a) = a
 
 -- ---- slots
 
-abbrev pub slot_from : Nam → Dats → Option SlotSpecifier
+abbrev pub slot_from : Name → Dats → Option SlotSpecifier
 slot_from name l =
     each symbol_in (values_of (codes "INITARG") l)
     >>= λ initargs. accessors_in l
@@ -80,7 +80,7 @@ slot_from name l =
     >>= λ t. value_in documentation_in (codes "DOCUMENTATION") l
     >>= λ d. Some (record { name = name; initargs = initargs; accessors = accessors; initform = initform; allocation = or_instance allocation })
 
-abbrev pub slot_with : Nam → Dats → Option SlotSpecifier
+abbrev pub slot_with : Name → Dats → Option SlotSpecifier
 slot_with name l = if are_slot_options l then slot_from name l else None
 
 abbrev pub listed_slot : Dats → Option SlotSpecifier

@@ -1,9 +1,9 @@
 -- Top-level forms (HyperSpec 3.2.3.1).
 use Rattle.std.specs.Prelude.{Bool, true, false, ◌||◌, codes, Option, Some, None, if◌then◌else◌}
-use Rattle.lisp_data.specs.Name.{Nam}
+use Rattle.lisp_data.specs.Name.{Name}
 use Rattle.lisp_data.specs.Datum.{Dat, integer, symbol, string, list, dotted, method, Dats, nil, cons}
 use Rattle.clos_forms.specs.Fault.{◌>>=◌}
-use Rattle.clos_forms.specs.Form.{Frm}
+use Rattle.clos_forms.specs.Form.{Form}
 use Rattle.clos_forms.specs.Names.{is_called}
 use Rattle.clos_forms.specs.Part.{only_in}
 use Rattle.clos_lambda.specs.PlainForm.{form_in}
@@ -37,7 +37,7 @@ defmethod_in nil = None
 defmethod_in (cons name l) = method_function_in name >>= λ n. method_in l >>= λ m. Some (DefMethod n m)
 
 -- exactly two forms
-abbrev pub two_forms_in : Dats → Option (Frm × Frm)
+abbrev pub two_forms_in : Dats → Option (Form × Form)
 two_forms_in nil = None
 two_forms_in (cons a rest) = only_in rest >>= λ b. form_in a >>= λ f. form_in b >>= λ g. Some (f, g)
 
@@ -49,7 +49,7 @@ abbrev pub expression : Dat → Option Top
 expression d = form_in d >>= λ f. Some (Expr f)
 
 -- forms that change functions and metaobjects that there are, and expressions
-abbrev pub other_top : Nam → Dats → Dat → Option Top
+abbrev pub other_top : Name → Dats → Dat → Option Top
 other_top name rest whole =
     if is_called (codes "REMOVE-METHOD") name then (two_forms_in rest >>= λ p. Some (RemoveMethod p.0 p.1))
     else if is_called (codes "ADD-DEPENDENT") name then (two_forms_in rest >>= λ p. Some (AddDependent p.0 p.1))
@@ -58,7 +58,7 @@ other_top name rest whole =
     else expression whole
 
 -- by the operator's name. DEFINE-METHOD-COMBINATION is not served yet: it is no expression either
-abbrev pub named_top : Nam → Dats → Dat → Option Top
+abbrev pub named_top : Name → Dats → Dat → Option Top
 named_top name rest whole =
     if is_called (codes "DEFCLASS") name then (class_in rest >>= λ c. Some (DefClass c))
     else if is_called (codes "DEFGENERIC") name then (generic_in rest >>= λ g. Some (DefGeneric g))

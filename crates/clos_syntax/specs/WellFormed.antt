@@ -1,7 +1,7 @@
 -- What holds of the forms of each top-level form that is read: they are well formed, and those of a method's body alone
 -- may call its next method.
 use Rattle.std.specs.Prelude.{◌≡◌, true, All, Option, Some, None, IfSome, ⊤}
-use Rattle.clos_forms.specs.Form.{Frm}
+use Rattle.clos_forms.specs.Form.{Form}
 use Rattle.clos_forms.specs.WellFormed.{is_well_formed, are_well_formed}
 use Rattle.clos_forms.specs.declared.part.Context.TheVariants.{Plain, Method}
 use Rattle.clos_lambda.specs.declared.lambda_list.Key.{Key}
@@ -21,11 +21,11 @@ use Rattle.clos_syntax.specs.declared.top.Top.TheVariants.{DefClass, DefGeneric,
 use Rattle.clos_syntax.specs.declared.variable.VariableDefinition.{VariableDefinition}
 
 -- a form outside of any method's body
-abbrev pub IsPlain : Frm → Type 0
+abbrev pub IsPlain : Form → Type 0
 IsPlain f = is_well_formed Plain f ≡ true
 
 -- an init form, where there is one
-abbrev pub HasInit : Option Frm → Type 0
+abbrev pub HasInit : Option Form → Type 0
 HasInit o = IfSome o IsPlain
 
 abbrev pub OfOptional : Optional → Type 0

@@ -1,19 +1,19 @@
 -- The classes of a session, as its functions ask for them (HyperSpec 4.3).
 use Rattle.std.specs.Prelude.{ℕ, List, Option, option_map, slice_get}
-use Rattle.lisp_data.specs.Name.{Nam}
-use Rattle.clos_class_core.specs.Classes.{listing, list_in}
-use Rattle.clos_class_core.specs.Classes as classes
-use Rattle.clos_class_core.specs.Table.{list_if}
+use Rattle.lisp_data.specs.Name.{Name}
+use Rattle.clos_hierarchy.specs.Classes.{listing, list_in}
+use Rattle.clos_hierarchy.specs.Classes as classes
+use Rattle.clos_hierarchy.specs.Table.{list_if}
 use Rattle.clos_class.specs.Slots.{Effective, effective_of}
 use Rattle.clos_class.specs.SlotsView.{defaults, direct_slots}
 use Rattle.clos_class.specs.Table.{Table}
 
 -- the number of the class of this name
-abbrev pub named : Table → Nam → Option ℕ
+abbrev pub named : Table → Name → Option ℕ
 named t name = classes.named t.table.classes name
 
 -- the name of the class of this number
-abbrev pub class_name : Table → ℕ → Option Nam
+abbrev pub class_name : Table → ℕ → Option Name
 class_name t n = slice_get t.table.classes.names n
 
 -- The class precedence list of a class, if it is complete: if all its superclasses, and theirs and so on, are defined.

@@ -1,6 +1,6 @@
 -- Conditions, and what they are about.
 use Rattle.std.specs.Prelude.{ℕ, List, false, codes}
-use Rattle.lisp_data.specs.Name.{Nam}
+use Rattle.lisp_data.specs.Name.{Name}
 use Rattle.clos_world.specs.declared.condition.ConditionKind.{ConditionKind}
 use Rattle.clos_world.specs.declared.condition.ConditionKind.TheVariants.{ProgramError, UnboundVariable, UndefinedFunction, TypeError, IntegerRange, DivisionByZero, UndefinedClass, InvalidSuperclass, InconsistentPrecedence, SuperclassCycle, IncompleteClass, LambdaListCongruence, NoApplicableMethod, RequiredGroupEmpty, InvalidMethod, NoNextMethod, NextArguments, UnboundSlot, MissingSlot, InvalidInitarg, NoSuchMethod, Unsupported, StepLimit, DepthLimit, TableLimit}
 
@@ -58,5 +58,5 @@ condition_name StepLimit = codes "STEP-LIMIT"
 condition_name DepthLimit = codes "DEPTH-LIMIT"
 condition_name TableLimit = codes "TABLE-LIMIT"
 
-abbrev pub nil_name : Nam
+abbrev pub nil_name : Name
 nil_name = record { text = codes "NIL"; keyword = false }

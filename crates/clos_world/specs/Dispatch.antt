@@ -1,7 +1,7 @@
 -- The methods that a call of a generic function finds (HyperSpec 7.6.6.1).
 use Rattle.std.specs.Prelude.{ℕ, zero, List, map, take, Option, Some, None, slice_get}
 use Rattle.lisp_data.specs.Value.{Val}
-use Rattle.clos_generic_core.specs.Arguments.{Argument, arguments_of}
+use Rattle.clos_method.specs.Arguments.{Argument, arguments_of}
 use Rattle.clos_generic.specs.Calls as calls
 use Rattle.clos_generic.specs.Table.{Function}
 use Rattle.clos_world.specs.World.{State, class_of}

@@ -11,10 +11,10 @@ pub mod Initial
 pub mod FunctionName
 pub mod Definitions
 pub use Rattle.clos_precedence.specs as clos_precedence
-pub use Rattle.clos_class_core.specs as clos_class_core
+pub use Rattle.clos_hierarchy.specs as clos_hierarchy
 pub use Rattle.clos_class.specs as clos_class
 pub use Rattle.clos_store.specs as clos_store
-pub use Rattle.clos_generic_core.specs as clos_generic_core
+pub use Rattle.clos_method.specs as clos_method
 pub use Rattle.clos_generic.specs as clos_generic
 pub use Rattle.clos_comb.specs as clos_comb
 pub use Rattle.clos_lambda.specs as clos_lambda

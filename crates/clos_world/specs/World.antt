@@ -1,17 +1,17 @@
 -- The state of a session (HyperSpec 3.1.1, 4.3, 7.6): lists that only grow at their ends.
 use Rattle.std.specs.Prelude.{ℕ, List, [], ◌∷◌, Option, Some, None, codes, reverse, take, option_map, unwrap_or, slice_get, if◌then◌else◌}
-use Rattle.lisp_data.specs.Name.{Nam, same_name}
+use Rattle.lisp_data.specs.Name.{Name, same_name}
 use Rattle.lisp_data.specs.Value.{Val, integer, symbol, string, list, class, generic, method, instance, nil, cons}
 use Rattle.lisp_data.specs.Print.{Names, MethodParts}
 use Rattle.clos_forms.specs.OperatorView.{called_of}
 use Rattle.clos_generic.specs.Changes.{released}
 use Rattle.clos_generic.specs.Table as generics
-use Rattle.clos_generic_core.specs.declared.method.Method.{Method}
+use Rattle.clos_method.specs.declared.method.Method.{Method}
 use Rattle.clos_world.specs.declared.limits.Limits.{Limits}
 use Rattle.clos_world.specs.declared.functions.Function.{Function}
 use Rattle.clos_world.specs.declared.world.World.{World}
 use Rattle.clos_world.specs.Globals.{Variables}
-use Rattle.clos_class_core.specs.Initial.{number, class_of_class}
+use Rattle.clos_hierarchy.specs.Initial.{number, class_of_class}
 use Rattle.clos_class.specs.Table.{Table}
 use Rattle.clos_store.specs.Store.{Contents}
 use Rattle.clos_store.specs.Store as store
@@ -20,17 +20,17 @@ use Rattle.clos_world.specs.Class.{class_name}
 -- what a lexical name denotes: a variable that holds a value (3.1.2.1.1), or the slot of this name of an object (7.7 with-slots)
 pub data Denoted : Type 0 where
   held : Val → Denoted
-  in_slot : Nam → Val → Denoted
+  in_slot : Name → Val → Denoted
 
 -- a lexical name, and what it denotes
 abbrev pub Local : Type 0
-Local = Nam × Denoted
+Local = Name × Denoted
 
 pub record State : Type 0 where
   pub classes : Table
   pub generics : generics.Table  -- with all methods ever made
-  pub functions : List (Nam × Function)  -- by symbols, in order of definition
-  pub setters : List (Nam × Function)  -- the functions (setf name), by that name
+  pub functions : List (Name × Function)  -- by symbols, in order of definition
+  pub setters : List (Name × Function)  -- the functions (setf name), by that name
   pub globals : Variables  -- in order of definition
   pub store : Contents  -- the instances, and the cells of shared slots
   pub written : List ℕ
@@ -60,7 +60,7 @@ abbrev pub unbound : State → State
 unbound w = bound_as [] w
 
 -- what the innermost of this name denotes
-abbrev pub local_named : List Local → Nam → Option Denoted
+abbrev pub local_named : List Local → Name → Option Denoted
 local_named [] name = None
 local_named (l ∷ ls) name = if same_name l.0 name then Some l.1 else local_named ls name
 

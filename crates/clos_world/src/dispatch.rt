@@ -6,7 +6,7 @@ ghost use Rattle.clos_world.specs.Dispatch.{ordered, required_by};
 ghost use Rattle.clos_world.specs.World.{class_of, seen};
 
 use crate::world::World;
-use clos_generic_core::{Arguments, MethodIds};
+use clos_method::{Arguments, MethodIds};
 use lisp_data::{ClassId, GenericId, Value};
 use std::alloc::{AllocError, Global};
 

@@ -25,12 +25,12 @@ pub struct Functions {
 impl Model for Functions {
     ghost use Rattle.std.specs.Prelude.{List};
     ghost use Rattle.std.specs.Coded.{coded_list, coded×};
-    ghost use Rattle.lisp_data.specs.Name.{Nam};
+    ghost use Rattle.lisp_data.specs.Name.{Name};
     ghost use Rattle.lisp_data.specs.NameCode.{name_code};
     ghost use Rattle.clos_world.specs.declared.functions.Function.{Function};
     ghost use Rattle.clos_world.specs.contracts.functions.Function as function;
 
-    ghost Value = { List (Nam × Function) };
+    ghost Value = { List (Name × Function) };
 
     ghost coded = { coded_list (coded× name_code function.the_row.coded) };
 

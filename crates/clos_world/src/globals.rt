@@ -17,12 +17,12 @@ pub struct Globals {
 impl Model for Globals {
     ghost use Rattle.std.specs.Prelude.{List, Option, map};
     ghost use Rattle.std.specs.Coded.{coded_list, coded×, coded_option};
-    ghost use Rattle.lisp_data.specs.Name.{Nam};
+    ghost use Rattle.lisp_data.specs.Name.{Name};
     ghost use Rattle.lisp_data.specs.NameCode.{name_code};
     ghost use Rattle.lisp_data.specs.Value.{Val};
     ghost use Rattle.lisp_data.specs.ValueCode.{value_code};
 
-    ghost Value = { List (Nam × Option Val) };
+    ghost Value = { List (Name × Option Val) };
 
     ghost coded = { coded_list (coded× name_code (coded_option value_code)) };
 

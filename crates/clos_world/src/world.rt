@@ -10,9 +10,9 @@ use crate::functions::Functions;
 use crate::globals::Globals;
 use crate::limits::Limits;
 use clos_class::Classes;
-use clos_class_core::numbers;
 use clos_comb::{Combinations, Meter};
 use clos_generic::Generics;
+use clos_hierarchy::numbers;
 use clos_store::Store;
 use lisp_data::{
     ClassId, FunctionName, GenericId, InstanceId, MethodId, Name, Naming, Specializer, Value,

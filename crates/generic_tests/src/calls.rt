@@ -2,11 +2,11 @@
 ghost use Rattle.std.specs.Prelude.{◌≡◌, IfOk};
 
 use clos_class::Classes;
-use clos_class_core::numbers;
 use clos_comb::{Combinations, Outcome};
 use clos_forms::{FunctionName, Operator};
 use clos_generic::{GenericFault, Generics, Options, Positions};
-use clos_generic_core::{
+use clos_hierarchy::numbers;
+use clos_method::{
     Arguments, Method, MethodBody, Qualifiers, Shape, Specializer, Specializers, SystemFunction,
 };
 use clos_syntax::CombinationUse;

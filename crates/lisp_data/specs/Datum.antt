@@ -1,11 +1,11 @@
 -- The data that a reader makes of a text (HyperSpec 2, 14.1).
 use Rattle.std.specs.Prelude.{ℕ, ℤ, ◌+◌, max, List, [], ◌∷◌}
-use Rattle.lisp_data.specs.Name.{Nam}
+use Rattle.lisp_data.specs.Name.{Name}
 
 mutual
   pub data Dat : Type 0 where
     integer : ℤ → Dat
-    symbol : Nam → Dat
+    symbol : Name → Dat
     string : List ℕ → Dat  -- its characters, in UTF-8
     list : Dats → Dat  -- a list that ends in NIL
     dotted : Dats → Dat → Dat  -- a list that ends in another atom

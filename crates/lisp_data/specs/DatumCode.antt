@@ -3,12 +3,12 @@ use Rattle.std.specs.Prelude.{◌≡◌, ◌⊎◌, ℕ, ℤ, List, [], ◌∷�
 use Rattle.std.specs.Coded.{Coded, code_by, coded×, coded⊎, coded_list, coded_ℕ, coded_ℤ}
 use Rattle.std.proofs.Common.{inl, inr, ◌∙◌, ap}
 use base.Stored.{coded_unit}
-use Rattle.lisp_data.specs.Name.{Nam}
+use Rattle.lisp_data.specs.Name.{Name}
 use Rattle.lisp_data.specs.NameCode.{name_code}
 use Rattle.lisp_data.specs.Datum.{Dat, integer, symbol, string, list, dotted, method, Dats, nil, cons, Dot}
 
 abbrev pub Token : Type 0
-Token = ℤ ⊎ (Nam ⊎ (List ℕ ⊎ (ℕ ⊎ (Unit {0} ⊎ (Unit {0} ⊎ (Unit {0} ⊎ Unit {0}))))))
+Token = ℤ ⊎ (Name ⊎ (List ℕ ⊎ (ℕ ⊎ (Unit {0} ⊎ (Unit {0} ⊎ (Unit {0} ⊎ Unit {0}))))))
 
 abbrev pub token_code : Coded Token
 token_code = coded⊎ coded_ℤ (coded⊎ name_code (coded⊎ (coded_list coded_ℕ) (coded⊎ coded_ℕ (coded⊎ coded_unit (coded⊎ coded_unit (coded⊎ coded_unit coded_unit))))))

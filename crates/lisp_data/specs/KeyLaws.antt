@@ -5,7 +5,7 @@ use Rattle.std.specs.Bool.{Decides}
 use Rattle.std.specs.Cmp.{IsEquivalence, decided, first_so, second_so}
 use Rattle.std.specs.Str.{bytes_eq}
 use Rattle.std.proofs.lemmas.Slice.Eq.{bytes_eq-Decides}
-use Rattle.lisp_data.specs.Name.{Nam, same_kind, same_name}
+use Rattle.lisp_data.specs.Name.{Name, same_kind, same_name}
 use Rattle.lisp_data.specs.Value.{Val}
 use Rattle.lisp_data.specs.ValueCode.{value_code}
 use Rattle.lisp_data.specs.Datum.{Dat}
@@ -23,18 +23,18 @@ kind_itself : (a : Bool) → same_kind a a ≡ true
 kind_itself true = refl
 kind_itself false = refl
 
-from_same_name : (a b : Nam) → same_name a b ≡ true → a ≡ b
+from_same_name : (a b : Name) → same_name a b ≡ true → a ≡ b
 from_same_name a b h = λ i. record {
   text = (bytes_eq-Decides a.text b.text).0 (second_so (same_kind a.keyword b.keyword) (bytes_eq a.text b.text) h) i;
   keyword = kinds_alike a.keyword b.keyword (first_so (same_kind a.keyword b.keyword) (bytes_eq a.text b.text) h) i;
 }
 
-to_same_name : (a b : Nam) → a ≡ b → same_name a b ≡ true
+to_same_name : (a b : Name) → a ≡ b → same_name a b ≡ true
 to_same_name a b p =
     ap (λ c. same_name a c) (sym p)
     ∙ both_so (same_kind a.keyword a.keyword) (bytes_eq a.text a.text) (kind_itself a.keyword) ((bytes_eq-Decides a.text a.text).1 refl)
 
-pub same_name-Decides : (a b : Nam) → Decides (same_name a b) (a ≡ b)
+pub same_name-Decides : (a b : Name) → Decides (same_name a b) (a ≡ b)
 same_name-Decides a b = (from_same_name a b, to_same_name a b)
 
 pub names_equiv : IsEquivalence same_name
@@ -46,7 +46,7 @@ values_equiv = decided same_value (same-Decides value_code)
 pub data_equiv : IsEquivalence same_datum
 data_equiv = decided same_datum (same-Decides datum_code)
 
-pub names_feed : (a b : Nam) → IsTrue (same_name a b) → name_writes a ≡ name_writes b
+pub names_feed : (a b : Name) → IsTrue (same_name a b) → name_writes a ≡ name_writes b
 names_feed a b h = ap name_writes (from_same_name a b h)
 
 pub values_feed : (v w : Val) → IsTrue (same_value v w) → value_writes v ≡ value_writes w

@@ -3,7 +3,7 @@ use Rattle.std.specs.Prelude.{ℕ, List, Bool}
 use Rattle.std.specs.Hash as fed
 use Rattle.std.specs.Hash.{HashWrites}
 use Rattle.std.specs.Hash.FoldHasher as folding
-use Rattle.lisp_data.specs.Name.{Nam}
+use Rattle.lisp_data.specs.Name.{Name}
 use Rattle.lisp_data.specs.Value as of_value
 use Rattle.lisp_data.specs.Value.{Val}
 use Rattle.lisp_data.specs.ValueCode.{value_code}
@@ -25,7 +25,7 @@ abbrev pub hash_of : List ℕ → ℕ
 hash_of text = folding.finish (folding.write folding.initial text)
 
 -- a name feeds the hash that it keeps
-abbrev pub name_writes : Nam → HashWrites
+abbrev pub name_writes : Name → HashWrites
 name_writes n = fed.u64 (hash_of n.text)
 
 -- an atom feeds its content, a list its length

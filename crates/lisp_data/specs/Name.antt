@@ -3,7 +3,7 @@ use Rattle.std.specs.Prelude.{ℕ, List, Bool, true, false, ◌&&◌}
 use Rattle.std.specs.Str.{bytes_eq}
 
 -- a symbol's name: its characters, already in upper case, and whether it is a keyword
-pub record Nam : Type 0 where
+pub record Name : Type 0 where
   pub text : List ℕ
   pub keyword : Bool
 
@@ -15,5 +15,5 @@ same_kind true false = false
 same_kind false true = false
 
 -- whether both are one name
-abbrev pub same_name : Nam → Nam → Bool
+abbrev pub same_name : Name → Name → Bool
 same_name a b = same_kind a.keyword b.keyword && bytes_eq a.text b.text

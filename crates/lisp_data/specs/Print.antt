@@ -2,13 +2,13 @@
 use Rattle.std.specs.Prelude.{ℕ, zero, suc, Bool, true, false, List, [], ◌∷◌, ◌++◌, Option, Some, None, codes, map, option_and_then, if◌then◌else◌, ◌==◌, ◌||◌}
 use Rattle.std.specs.Fmt.{decimal, signed_decimal}
 use Rattle.std.specs.List.{flat_map}
-use Rattle.lisp_data.specs.Name.{Nam}
+use Rattle.lisp_data.specs.Name.{Name}
 use Rattle.lisp_data.specs.Value.{Val, integer, symbol, string, list, class, generic, method, instance, Vals, nil, cons}
 
 -- what a function is called (HyperSpec glossary, function name): a symbol, or (SETF symbol)
 pub data Called : Type 0 where
-  by_symbol : Nam → Called
-  by_setf : Nam → Called
+  by_symbol : Name → Called
+  by_setf : Name → Called
 
 -- what a method asks of one argument (7.6.2): a class, by its number, or to be EQL to an object
 pub data Specializer : Type 0 where
@@ -31,17 +31,17 @@ specializers_of (Some m) = m.specializers
 
 -- what the numbers of classes, generic functions, methods and instances stand for
 pub record Names : Type 0 where
-  pub class : ℕ → Option Nam
+  pub class : ℕ → Option Name
   pub generic : ℕ → Option Called
   pub method : ℕ → Option MethodParts
   pub class_of : ℕ → Option ℕ
 
 -- a symbol (22.1.3.3): its characters, a keyword's after a colon
-abbrev pub name_text : Nam → List ℕ
+abbrev pub name_text : Name → List ℕ
 name_text n = (if n.keyword then codes ":" else []) ++ n.text
 
 -- a name, or a question mark where there is none
-abbrev pub known_text : Option Nam → List ℕ
+abbrev pub known_text : Option Name → List ℕ
 known_text None = codes "?"
 known_text (Some n) = name_text n
 

@@ -1,12 +1,12 @@
 -- The values of the language (HyperSpec 4.2, 14.1): what a form can give.
 use Rattle.std.specs.Prelude.{ℕ, ℤ, ◌+◌, ◌≤◌, nat_le, max, Bool, ◌&&◌, List, [], ◌∷◌}
-use Rattle.lisp_data.specs.Name.{Nam}
+use Rattle.lisp_data.specs.Name.{Name}
 use Rattle.lisp_data.specs.Limits.{most_elements, most_nesting}
 
 mutual
   pub data Val : Type 0 where
     integer : ℤ → Val
-    symbol : Nam → Val
+    symbol : Name → Val
     string : List ℕ → Val  -- its characters, in UTF-8
     list : Vals → Val  -- the empty list is NIL
     class : ℕ → Val  -- the number of a class, as of the others below

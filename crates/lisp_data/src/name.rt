@@ -38,10 +38,10 @@ impl Drop for Name {
 }
 
 impl Model for Name {
-    ghost use Rattle.lisp_data.specs.Name.{Nam};
+    ghost use Rattle.lisp_data.specs.Name.{Name};
     ghost use Rattle.lisp_data.specs.NameCode.{name_code};
 
-    ghost Value = { Nam };
+    ghost Value = { Name };
 
     ghost coded = { name_code };
 

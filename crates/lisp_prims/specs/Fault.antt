@@ -1,6 +1,6 @@
 -- The conditions that functions of values signal (HyperSpec 9.1), and the faults that stand for them.
 use Rattle.std.specs.Prelude.{◌≡◌, ℕ, Option, Some, None, Bool, true, false, not, codes, Result, Ok, Err, MatchResult, ⊤}
-use Rattle.lisp_data.specs.Name.{Nam, same_name}
+use Rattle.lisp_data.specs.Name.{Name, same_name}
 use Rattle.lisp_data.specs.Value.{Val, symbol, string, list, cons}
 use Rattle.lisp_data.specs.ValueView.{value_of}
 use Rattle.lisp_data.specs.declared.limits.ListFault.{ListFault}
@@ -49,7 +49,7 @@ abbrev pub Answers : {A : Type 0} → Result A PrimFault → Result A Condition 
 Answers r x = AnswersAs (λ a. a) r x
 
 -- the name of the value true
-abbrev pub truth_name : Nam
+abbrev pub truth_name : Name
 truth_name = record { text = codes "T"; keyword = false }
 
 -- whether a value takes memory to be made or copied. A number, an object, T and NIL take none

@@ -2,7 +2,7 @@
 use Rattle.std.specs.Prelude.{ℕ, Bool, true, false, if◌then◌else◌, List, [], ◌∷◌, Option, Some, None, Result, Ok, codes}
 use Rattle.std.specs.Borrow.{Bor}
 use Rattle.std.specs.Str.{bytes_eq}
-use Rattle.lisp_data.specs.Name.{Nam}
+use Rattle.lisp_data.specs.Name.{Name}
 use Rattle.lisp_data.specs.Value.{Val, integer, symbol, list, nil}
 use Rattle.lisp_prims.specs.Arithmetic.{number_of}
 use Rattle.lisp_prims.specs.Comparison.{order_of}
@@ -104,5 +104,5 @@ abbrev pub told : Bor (List ℕ) × Primitive → List ℕ × Primitive
 told e = (e.0.now, e.1)
 
 -- the function of a name, which is no keyword
-abbrev pub primitive_of : Nam → Option Primitive
+abbrev pub primitive_of : Name → Option Primitive
 primitive_of name = if name.keyword then None else entry_of names name.text

@@ -5,7 +5,7 @@ use Rattle.std.specs.Cmp.Lexicographic.{bytes_decides}
 use Rattle.std.specs.List.{prefix_len}
 use Rattle.std.proofs.lemmas.Bool.{and_parts, false≢true}
 use Rattle.std.proofs.lemmas.Bool.Decides.{nat_tests}
-use Rattle.lisp_data.specs.Name.{Nam, same_kind}
+use Rattle.lisp_data.specs.Name.{Name, same_kind}
 use Rattle.lisp_data.specs.Datum.{Dat, integer, symbol, string, list, dotted, method, Dats, nil, cons, elements, nesting_of, nesting_in}
 use Rattle.lisp_data.specs.Print.{Names, name_text, text_of, text_with, texts_with, method_text, spaced}
 use Rattle.lisp_reader.specs.Answers.{next, most_open}
@@ -23,13 +23,13 @@ nil-text : (text : List ℕ) (keyword : Bool) → same_kind keyword false ≡ tr
 nil-text text true kind is = absurd (false≢true kind)
 nil-text text false kind is = sym is
 
-symbol-text-by : (names : Names) (methods : ℕ → List ℕ) (s : Nam) (b : Bool) → is_nil s ≡ b → text_with true names methods (quoted_value (symbol s)) ≡ name_text s
+symbol-text-by : (names : Names) (methods : ℕ → List ℕ) (s : Name) (b : Bool) → is_nil s ≡ b → text_with true names methods (quoted_value (symbol s)) ≡ name_text s
 symbol-text-by names methods s true is =
     let both : (same_kind s.keyword false ≡ true) × (bytes_eq s.text (codes "NIL") ≡ true) = and_parts (same_kind s.keyword false) (bytes_eq s.text (codes "NIL")) is in
     rw is (nil-text s.text s.keyword both.0 ((bytes_decides s.text (codes "NIL")).0 both.1))
 symbol-text-by names methods s false is = rw is refl
 
-symbol-text : (names : Names) (methods : ℕ → List ℕ) (s : Nam) → text_with true names methods (quoted_value (symbol s)) ≡ name_text s
+symbol-text : (names : Names) (methods : ℕ → List ℕ) (s : Name) → text_with true names methods (quoted_value (symbol s)) ≡ name_text s
 symbol-text names methods s = symbol-text-by names methods s (is_nil s) refl
 
 -- ---- a text that begins with no gap, and spells the datum before what ends a token

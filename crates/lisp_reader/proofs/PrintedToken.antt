@@ -10,7 +10,7 @@ use Rattle.std.proofs.lemmas.List.{take_all, drop_all}
 use Rattle.std.proofs.lemmas.Bool.{and_parts, and_left, and_right}
 use Rattle.std.proofs.lemmas.Bool.Decides.{nat_tests}
 use Rattle.std.proofs.lemmas.Fmt.{decimal_is_IsNumeral}
-use Rattle.lisp_data.specs.Name.{Nam}
+use Rattle.lisp_data.specs.Name.{Name}
 use Rattle.lisp_data.specs.Datum.{Dat, integer, symbol}
 use Rattle.lisp_data.specs.Print.{name_text}
 use Rattle.lisp_tokens.specs.Characters.{is_token_char, begins_token}
@@ -234,7 +234,7 @@ word-kind : (text : List ℕ) (keyword : Bool) → 0 < length text → list_all 
 word-kind text true some all is = word-keyword text some all is
 word-kind text false some all is = word-symbol text some all is
 
-pub word-name : (name : Nam) → IsPlainName name → Word (name_text name) (symbol name)
+pub word-name : (name : Name) → IsPlainName name → Word (name_text name) (symbol name)
 word-name name plain = word-kind name.text name.keyword plain.0 plain.1 plain.2
 
 -- such a word spells its datum before what ends it

@@ -3,7 +3,7 @@ use Rattle.std.specs.Prelude.{◌≡◌, ◌≢◌, ℕ, ◌<◌, ◌≤◌, Boo
 use Rattle.std.specs.Int.{w64}
 use Rattle.std.specs.Char.{is_ascii_lowercase}
 use Rattle.std.specs.List.{list_any, list_all}
-use Rattle.lisp_data.specs.Name.{Nam}
+use Rattle.lisp_data.specs.Name.{Name}
 use Rattle.lisp_data.specs.Datum.{Dat, integer, symbol, string, list, dotted, method, Dats, nil, cons, length_of, nesting_of}
 use Rattle.lisp_data.specs.Value.{Val, integer as integer_value, symbol as symbol_value, string as string_value, list as list_value, method as method_value, Vals, nil as no_values, cons as values}
 use Rattle.lisp_data.specs.Print.{Names, text_of}
@@ -38,7 +38,7 @@ IsNameOf true text = list_any is_colon text ≡ false
 IsNameOf false text = (slice_index text 0 ≢ 35) × (class_of text ≡ Symbol)
 
 -- a name that is read as it is printed
-abbrev pub IsPlainName : Nam → Type 0
+abbrev pub IsPlainName : Name → Type 0
 IsPlainName name =
     (0 < length name.text) × (list_all is_plain_char name.text ≡ true) × IsNameOf name.keyword name.text
 

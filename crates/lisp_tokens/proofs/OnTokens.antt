@@ -14,7 +14,7 @@ use Rattle.std.proofs.lemmas.List.Folds.{length-prefix_len}
 use Rattle.std.proofs.lemmas.List.Sums.{prefix_len_passes, prefix_len-le-length, prefix_len-drop_yes}
 use Rattle.std.proofs.lemmas.Str.Ascii.{IsAscii-from_reads}
 use Rattle.lisp_data.specs.Datum.{Dat, symbol}
-use Rattle.lisp_data.specs.Name.{Nam}
+use Rattle.lisp_data.specs.Name.{Name}
 use Rattle.lisp_tokens.specs.Characters.{is_token_char, begins_token}
 use Rattle.lisp_tokens.specs.Fault.{Kind}
 use Rattle.lisp_tokens.specs.Memory.{Takes, a_name}
@@ -66,7 +66,7 @@ Reads-token bytes room at word k d within begins is class means =
     (omega arith, omega arith, subst (λ (t : List ℕ). Spells room (drop at bytes) d t) after there)
 
 -- and takes memory if that is a symbol
-pub Takes-token : (bytes : List ℕ) (room at : ℕ) (word : List ℕ) (k : Class) (name : Nam) → at < length bytes → begins_token (get_or bytes at 0) ≡ true → word ≡ run (drop at bytes) → k ≡ class_of word → Means k word (symbol name) → Takes room (drop at bytes)
+pub Takes-token : (bytes : List ℕ) (room at : ℕ) (word : List ℕ) (k : Class) (name : Name) → at < length bytes → begins_token (get_or bytes at 0) ≡ true → word ≡ run (drop at bytes) → k ≡ class_of word → Means k word (symbol name) → Takes room (drop at bytes)
 Takes-token bytes room at word k name within begins is class means =
     let b = get_or bytes at 0 in
     let rest = drop (at + 1) bytes in

@@ -2,7 +2,7 @@
 use Rattle.std.specs.Prelude.{◌≡◌, ℕ, ◌-◌, ◌<◌, Bool, true, false, ◌&&◌, not, if◌then◌else◌, List, [], ◌∷◌, ◌++◌, drop, IsUtf8}
 use Rattle.std.specs.Str.{IsValidUpTo}
 use Rattle.lisp_data.specs.Datum.{Dat, integer, symbol, string, list, dotted, method, list_from, elements}
-use Rattle.lisp_data.specs.Name.{Nam, same_name}
+use Rattle.lisp_data.specs.Name.{Name, same_name}
 use Rattle.lisp_tokens.specs.Characters.{begins_token, begins_something, begins_with, goes_on}
 use Rattle.lisp_tokens.specs.Fault.{Kind, end_inside, stray_close, bad_token, bad_dot, bad_hash, too_deep, not_text}
 use Rattle.lisp_tokens.specs.Gaps.{Gaps, GapFails}
@@ -22,7 +22,7 @@ list_of (d ∷ ds) = list (list_from (d ∷ ds))
 abbrev pub prefixed_by : List ℕ → Dat → Dat
 prefixed_by operator d = list (list_from (named operator ∷ d ∷ []))
 
-abbrev pub is_nil : Nam → Bool
+abbrev pub is_nil : Name → Bool
 is_nil name = same_name name (record { text = 78 ∷ 73 ∷ 76 ∷ []; keyword = false })
 
 -- the list of these data, of which there are some, whose last cell ends in that datum: a list goes on with its

@@ -1,8 +1,8 @@
 use Rattle.std.proofs.Common.{◌∷◌, ap, not, slice_get, subst, sym, ◌∙◌}
 use Rattle.lisp_data.specs.Value.{generic}
 use Rattle.clos_machine.specs.clos_world.clos_generic.TableView.{function_of}
-use Rattle.clos_generic_core.specs.System.{system_number}
-use Rattle.clos_generic_core.specs.declared.system.SystemFunction.TheVariants.{NoApplicableMethod}
+use Rattle.clos_method.specs.System.{system_number}
+use Rattle.clos_method.specs.declared.system.SystemFunction.TheVariants.{NoApplicableMethod}
 use Rattle.clos_machine.specs.clos_world.Dispatch.{ordered}
 use Rattle.clos_machine.specs.clos_world.World.{seen}
 use Rattle.clos_machine.specs.clos_meaning.GenericCalls.{matched}

@@ -1,6 +1,6 @@
 use Rattle.std.proofs.Common.{◌≡◌, length, map}
 use Rattle.lisp_data.specs.ValueView.{value_of}
-use Rattle.clos_generic_core.specs.MethodIds.{method_numbers}
+use Rattle.clos_method.specs.MethodIds.{method_numbers}
 use Rattle.clos_machine.specs.clos_world.World.{seen}
 use Rattle.clos_machine.specs.clos_meaning.GenericCalls.{are_accepted}
 use Rattle.clos_calls.proofs.keywords.are_accepted.Given as goal

@@ -1,7 +1,7 @@
 use Rattle.std.proofs.Common.{Option, List, arith, map, ap, sym, ◌∙◌}
 use Rattle.std.specs.HashMap.{get}
-use Rattle.lisp_data.specs.Name.{Nam, same_name}
-use Rattle.clos_forms.specs.Form.{Frm}
+use Rattle.lisp_data.specs.Name.{Name, same_name}
+use Rattle.clos_forms.specs.Form.{Form}
 use Rattle.clos_class.specs.declared.direct.SlotAllocation.{SlotAllocation}
 use Rattle.clos_class.specs.declared.effective_slots.Specified.{Specified}
 use Rattle.clos_class.specs.Building.{no_slots, or_no_names, slot_by, with_slots}
@@ -9,13 +9,13 @@ use Rattle.clos_class.specs.SlotsView.{defaults_in, slots_in}
 use Rattle.clos_class.proofs.Combined.{is_effective, own_names}
 use Rattle.clos_class.proofs.effective.find_effective.Goals as goal
 
-abbrev allocations : Specified → Nam → Option SlotAllocation
+abbrev allocations : Specified → Name → Option SlotAllocation
 allocations s n = get same_name s.allocations n
 
-abbrev initargs : Specified → Nam → List Nam
+abbrev initargs : Specified → Name → List Name
 initargs s n = or_no_names (get same_name s.initargs n)
 
-abbrev initforms : Specified → Nam → Option Frm
+abbrev initforms : Specified → Name → Option Form
 initforms s n = get same_name s.initforms n
 
 pub invariant_of-effective : goal.invariant_of-effective

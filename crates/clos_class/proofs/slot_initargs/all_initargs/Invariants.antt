@@ -1,7 +1,7 @@
 use Rattle.std.proofs.Common.{◌≡◌, length}
 use Rattle.std.specs.HashMap.{get}
 use Rattle.std.specs.List.{flat_map}
-use Rattle.lisp_data.specs.Name.{Nam, same_name}
+use Rattle.lisp_data.specs.Name.{Name, same_name}
 use Rattle.clos_precedence.specs.PrecedenceView.{numbers}
 use Rattle.clos_class.specs.Slots.{initargs, specifiers}
 use Rattle.clos_class.specs.SlotsView.{slots_in}
@@ -10,7 +10,7 @@ use Rattle.clos_class.proofs.slot_initargs.all_initargs.Given as goal
 
 abbrev pub invariant-loop-class : goal.invariant-loop-class
 invariant-loop-class l =
-    (n : Nam)
+    (n : Name)
     → with_names (or_no_names (get same_name l.found n)) (flat_map (λ s. s.initargs) (specifiers (slots_in l.fn.classes) (numbers l.left) n))
     ≡ initargs (slots_in l.fn.classes) (numbers l.fn.list) n
 

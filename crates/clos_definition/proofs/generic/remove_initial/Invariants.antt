@@ -1,5 +1,5 @@
 use Rattle.std.proofs.Common.{◌≡◌, length}
-use Rattle.clos_generic_core.specs.MethodIds.{method_numbers}
+use Rattle.clos_method.specs.MethodIds.{method_numbers}
 use Rattle.clos_definition.specs.Generic.{initial_among, removing}
 use Rattle.clos_definition.proofs.generic.remove_initial.Given as goal
 

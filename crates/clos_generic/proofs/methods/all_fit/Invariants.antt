@@ -1,6 +1,6 @@
 use Rattle.std.proofs.Common.{◌≡◌, length}
 use Rattle.clos_generic.specs.Fault.{all_fit}
-use Rattle.clos_generic_core.specs.MethodIds.{method_numbers}
+use Rattle.clos_method.specs.MethodIds.{method_numbers}
 use Rattle.clos_generic.proofs.methods.all_fit.Given as goal
 
 abbrev pub invariant-loop-id : goal.invariant-loop-id

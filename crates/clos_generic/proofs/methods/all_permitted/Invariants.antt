@@ -1,6 +1,6 @@
 use Rattle.std.proofs.Common.{◌≡◌, length}
 use Rattle.std.specs.List.{list_all}
-use Rattle.clos_generic_core.specs.Specializer.{specializers_in}
+use Rattle.clos_method.specs.Specializer.{specializers_in}
 use Rattle.clos_generic.specs.Fault.{is_permitted_one}
 use Rattle.clos_generic.proofs.methods.all_permitted.Given as goal
 

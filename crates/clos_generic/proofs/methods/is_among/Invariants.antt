@@ -1,7 +1,7 @@
 use Rattle.std.proofs.Common.{◌≡◌, length}
 use Rattle.std.specs.Prelude.{◌==◌}
 use Rattle.std.specs.List.{list_any}
-use Rattle.clos_generic_core.specs.MethodIds.{method_numbers}
+use Rattle.clos_method.specs.MethodIds.{method_numbers}
 use Rattle.clos_generic.proofs.methods.is_among.Given as goal
 
 abbrev pub invariant-loop-other : goal.invariant-loop-other

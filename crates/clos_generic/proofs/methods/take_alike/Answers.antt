@@ -1,7 +1,7 @@
 use Rattle.std.proofs.Common.{ap, ◌∙◌}
 use Rattle.std.specs.Prelude.{position}
 use Rattle.clos_generic.specs.Table.{is_alike_at}
-use Rattle.clos_generic_core.specs.MethodIds.{method_numbers}
+use Rattle.clos_method.specs.MethodIds.{method_numbers}
 use Rattle.clos_generic.proofs.Places.{found_there, nothing_there, none_there, removed_there}
 use Rattle.clos_generic.proofs.methods.take_alike.Goals as goal
 

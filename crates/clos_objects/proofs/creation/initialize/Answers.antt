@@ -2,7 +2,7 @@ use Rattle.std.proofs.Common.{◌∷◌, ap, refl, ◌∙◌}
 use Rattle.lisp_data.specs.Value.{instance}
 use Rattle.lisp_data.specs.ValueView.{value_of}
 use Rattle.clos_machine.specs.clos_world.World.{seen}
-use Rattle.clos_generic_core.specs.declared.system.SystemFunction.TheVariants.{InitializeInstance}
+use Rattle.clos_method.specs.declared.system.SystemFunction.TheVariants.{InitializeInstance}
 use Rattle.clos_machine.specs.clos_meaning.Control.{keeping}
 use Rattle.clos_machine.specs.clos_meaning.GenericCalls.{invoked}
 use Rattle.clos_machine.specs.Machine.{at}

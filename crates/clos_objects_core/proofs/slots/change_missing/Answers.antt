@@ -1,10 +1,10 @@
 use Rattle.std.proofs.Common.{◌≡◌, ap, refl, ℕ, List, Option, None, Some, ◌∙◌}
 use Rattle.std.specs.Prelude.{option_map}
-use Rattle.lisp_data.specs.Name.{Nam}
+use Rattle.lisp_data.specs.Name.{Name}
 use Rattle.lisp_data.specs.Value.{Val}
 use Rattle.lisp_data.specs.ValueView.{value_of}
 use Rattle.clos_machine.specs.clos_world.World.{Local, State, bound_as, seen}
-use Rattle.clos_generic_core.specs.declared.system.SystemFunction.TheVariants.{SlotMissing}
+use Rattle.clos_method.specs.declared.system.SystemFunction.TheVariants.{SlotMissing}
 use Rattle.clos_machine.specs.Machine.{at}
 use Rattle.clos_machine.specs.clos_meaning.Control.{keeping}
 use Rattle.clos_machine.specs.clos_meaning.GenericCalls.{invoked}
@@ -15,7 +15,7 @@ use Rattle.clos_objects_core.specs.Slots.{changed_arguments}
 use Rattle.clos_objects_core.proofs.slots.change_missing.Goals as goal
 
 -- what is called, by whether there is a new value
-called : (ev : Eval) (i : ℕ) (name : Nam) (x : Option Val) (w : State) (ls : List Local) (t : ℕ)
+called : (ev : Eval) (i : ℕ) (name : Name) (x : Option Val) (w : State) (ls : List Local) (t : ℕ)
     → invoked ev SlotMissing (changed_arguments w i name x) (bound_as ls w) t ≡ missing_changed ev i name x (bound_as ls w) t
 called ev i name None w ls t = refl
 called ev i name (Some v) w ls t = refl

@@ -1,6 +1,6 @@
 use Rattle.std.proofs.Common.{ap, ◌∙◌}
 use Rattle.clos_machine.specs.clos_world.World.{seen}
-use Rattle.clos_generic_core.specs.declared.system.SystemFunction.TheVariants.{SlotMissing}
+use Rattle.clos_method.specs.declared.system.SystemFunction.TheVariants.{SlotMissing}
 use Rattle.clos_machine.specs.clos_meaning.GenericCalls.{invoked}
 use Rattle.clos_machine.specs.Machine.{inside}
 use Rattle.clos_machine.specs.clos_meaning.Meaning.{meaning}

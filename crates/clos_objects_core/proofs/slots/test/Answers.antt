@@ -2,7 +2,7 @@ use Rattle.std.proofs.Common.{ap, refl, ◌∙◌}
 use Rattle.lisp_prims.specs.Primitive.{truth}
 use Rattle.clos_machine.specs.clos_world.clos_store.Store.{slot_found}
 use Rattle.clos_machine.specs.clos_world.World.{seen}
-use Rattle.clos_generic_core.specs.declared.system.SystemFunction.TheVariants.{SlotMissing}
+use Rattle.clos_method.specs.declared.system.SystemFunction.TheVariants.{SlotMissing}
 use Rattle.clos_machine.specs.clos_meaning.GenericCalls.{invoked}
 use Rattle.clos_machine.specs.Machine.{at}
 use Rattle.clos_machine.specs.clos_meaning.Meaning.{meaning}

@@ -3,7 +3,7 @@ use Rattle.std.specs.Prelude.{FitsSigned}
 use Rattle.std.specs.Int.{w64}
 use Rattle.std.specs.Char.{to_ascii_uppercase}
 use Rattle.std.proofs.lemmas.Int.{to_z-of_z}
-use Rattle.lisp_data.specs.Name.{Nam}
+use Rattle.lisp_data.specs.Name.{Name}
 use Rattle.lisp_data.specs.Datum.{integer, symbol}
 use Rattle.std.specs.Str.{IsAscii}
 use Rattle.std.proofs.lemmas.Result.{err_from_is_err_and}
@@ -12,7 +12,7 @@ use Rattle.lisp_tokens.specs.declared.token.Class.TheVariants.{Integer, Dot, Key
 use Rattle.lisp_tokens.proofs.OnTokens.{run-ascii, Reads-token, Fails-token, Takes-token, keyword-length}
 use Rattle.lisp_tokens.proofs.token.read_token.Goals as goal
 
-abbrev named_by : List ℕ → Bool → Nam
+abbrev named_by : List ℕ → Bool → Name
 named_by text keyword = record { text = map to_ascii_uppercase text; keyword = keyword }
 
 pub unreachable-requires : goal.unreachable-requires

@@ -1,6 +1,6 @@
 use Rattle.std.proofs.Common.{Some, None, ap, sym, ◌∙◌}
 use Rattle.std.specs.Prelude.{option_copied}
-use Rattle.clos_class_core.specs.Classes.{list_in, listing}
+use Rattle.clos_hierarchy.specs.Classes.{list_in, listing}
 use Rattle.clos_class.specs.SlotsView.{direct_slots}
 use Rattle.clos_class.proofs.Looked.{found_initform}
 use Rattle.clos_class.proofs.table.Classes.initform.Goals as goal

@@ -1,5 +1,5 @@
 use Rattle.std.proofs.Common.{◌↔◌, IsTrue, subst}
-use Rattle.clos_class_core.specs.Ways.{IsSelfOrAbove, IsComplete}
+use Rattle.clos_hierarchy.specs.Ways.{IsSelfOrAbove, IsComplete}
 use Rattle.clos_class.proofs.table.Classes.is_sub.Goals as goal
 
 pub returns-clause-law : goal.returns-clause-law

@@ -1,7 +1,7 @@
 use Rattle.std.proofs.Common.{◌≡◌, ◌↔◌, ℕ, true, IfSome, IsNone, subst}
 use Rattle.clos_precedence.specs.Precedence.{has}
 use Rattle.clos_precedence.specs.PrecedenceView.{numbers}
-use Rattle.clos_class_core.specs.Ways.{IsIncomplete, IsSelfOrAbove}
+use Rattle.clos_hierarchy.specs.Ways.{IsIncomplete, IsSelfOrAbove}
 use Rattle.clos_class.proofs.table.Classes.precedence.Goals as goal
 
 pub returns-clause-members : goal.returns-clause-members

@@ -1,5 +1,5 @@
 use Rattle.std.proofs.Common.{ap, ◌∙◌}
-use Rattle.clos_generic_core.specs.System.{system_functions}
+use Rattle.clos_method.specs.System.{system_functions}
 use Rattle.clos_generic.specs.Initial.{with_systems}
 use Rattle.clos_generic.proofs.table.Generics.new.Goals as goal
 

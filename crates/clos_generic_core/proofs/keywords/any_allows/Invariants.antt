@@ -1,9 +1,0 @@
-use Rattle.std.proofs.Common.{◌≡◌, drop}
-use Rattle.std.specs.List.{list_any}
-use Rattle.clos_generic_core.specs.Keywords.{method_allows}
-use Rattle.clos_generic_core.specs.MethodIds.{method_numbers}
-use Rattle.clos_generic_core.proofs.keywords.any_allows.Given as goal
-
--- none of those so far
-abbrev pub invariant-loop-id : goal.invariant-loop-id
-invariant-loop-id l = list_any (method_allows l.methods) (method_numbers (drop l.id-index l.applicable)) ≡ list_any (method_allows l.methods) (method_numbers l.applicable)

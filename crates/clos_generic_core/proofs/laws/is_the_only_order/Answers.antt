@@ -1,5 +1,0 @@
-use Rattle.clos_generic_core.proofs.InOrder.{is_the_only_order}
-use Rattle.clos_generic_core.proofs.laws.is_the_only_order.Goals as goal
-
-pub returns : goal.returns
-returns c = is_the_only_order

@@ -1,5 +1,0 @@
-use Rattle.clos_generic_core.proofs.OnSystem.{system_is_congruent}
-use Rattle.clos_generic_core.proofs.laws.system_is_congruent.Goals as goal
-
-pub returns : goal.returns
-returns c = system_is_congruent

@@ -1,6 +1,0 @@
-use Rattle.std.proofs.Common.{◌≡◌, take, map}
-use Rattle.clos_generic_core.specs.Specializer.{specializer_of}
-use Rattle.clos_generic_core.proofs.specializer.Specializers.copy.Given as goal
-
-abbrev pub invariant-loop-item : goal.invariant-loop-item
-invariant-loop-item l = map specializer_of l.items.items ≡ map specializer_of (take l.item-index l.item-items)
