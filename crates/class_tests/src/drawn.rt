@@ -1,7 +1,7 @@
 //! Definitions that are drawn, against the slow search.
 use crate::model::{Model, name};
 use crate::script::{PREDEFINED, is_same, lists, told};
-use clos_hierarchy::Classes;
+use clos_hierarchy::Hierarchy;
 use lisp_data::Name;
 use std::alloc::{AllocError, Global};
 use std::process::Abort;
@@ -68,7 +68,7 @@ fn names(alloc: Global, above: &[u8]) -> Result<Vec<Name>, AllocError> {
 fn agrees(
     alloc: Global,
     draw: &mut Draw,
-    classes: &mut Classes,
+    classes: &mut Hierarchy,
     model: &mut Model,
 ) -> Result<bool, AllocError> {
     let class = draw.class();
@@ -93,7 +93,7 @@ fn agrees(
 fn table_agrees(alloc: Global, table: u64) -> Result<bool, AllocError> {
     let mut draw = Draw { state: table };
     let limit = 3 + draw.next() % 3;
-    let mut classes = Classes::new(alloc, limit)?;
+    let mut classes = Hierarchy::new(alloc, limit)?;
     let mut model = Model::new(alloc, limit as usize)?;
     for _ in 0..STEPS {
         if !agrees(alloc, &mut draw, &mut classes, &mut model)? {

@@ -1,5 +1,5 @@
 //! Many classes.
-use clos_hierarchy::{ClassFault, Classes};
+use clos_hierarchy::{ClassFault, Hierarchy};
 use lisp_data::{ClassId, Name};
 use std::alloc::{AllocError, Global};
 use std::ops::Range;
@@ -50,7 +50,7 @@ fn names(alloc: Global, places: Range<u64>) -> Result<Vec<Name>, AllocError> {
 /// Defines so many classes, and then the first one again, below another. Answers how many that changed.
 fn define(
     alloc: Global,
-    classes: &mut Classes,
+    classes: &mut Hierarchy,
     shape: Shape,
     count: u64,
 ) -> Result<usize, ClassFault> {
@@ -66,7 +66,7 @@ fn define(
 }
 
 /// How long the class precedence list of the class of this place is.
-fn length(alloc: Global, classes: &Classes, place: u64) -> Result<usize, AllocError> {
+fn length(alloc: Global, classes: &Hierarchy, place: u64) -> Result<usize, AllocError> {
     let length = match classes.named(&name(alloc, place)?) {
         Some(class) => classes.precedence(class).map_or(0, |list| list.len()),
         None => 0,
@@ -76,7 +76,7 @@ fn length(alloc: Global, classes: &Classes, place: u64) -> Result<usize, AllocEr
 
 /// So many classes of a shape: how many change with the first, and how long the last one's list is.
 fn figures(alloc: Global, shape: Shape, count: u64) -> Result<(usize, usize), ClassFault> {
-    let mut classes = Classes::new(alloc, count.saturating_add(1))?;
+    let mut classes = Hierarchy::new(alloc, count.saturating_add(1))?;
     let changed = define(alloc, &mut classes, shape, count)?;
     Ok((changed, length(alloc, &classes, count.saturating_sub(1))?))
 }

@@ -1,5 +1,5 @@
 //! The numbers of predefined classes.
-use clos_hierarchy::Classes;
+use clos_hierarchy::Hierarchy;
 use clos_hierarchy::numbers::{
     BUILT_IN_CLASS, CONS, INTEGER, NULL, STANDARD_CLASS, STANDARD_GENERIC_FUNCTION,
     STANDARD_METHOD, STANDARD_OBJECT, STRING, SYMBOL,
@@ -23,7 +23,7 @@ const NUMBERS: &[(ClassId, &str)] = &[
 
 #[test]
 fn numbers_are_those_of_their_names(rt: HostRuntime) -> Result<(), Fail> {
-    let classes = Classes::new(rt.alloc(), 0)?;
+    let classes = Hierarchy::new(rt.alloc(), 0)?;
     for (class, name) in NUMBERS {
         let own = classes.name(*class).map_or("", |name| name.as_str());
         assert_eq!(rt; own, *name);

@@ -1,5 +1,5 @@
 //! Tables of classes as texts: what a definition answers, and class precedence lists.
-use clos_hierarchy::{Changed, ClassFault, Classes};
+use clos_hierarchy::{Changed, ClassFault, Hierarchy};
 use lisp_data::{ClassId, Name};
 use std::alloc::{AllocError, Global};
 
@@ -7,7 +7,7 @@ use std::alloc::{AllocError, Global};
 pub const PREDEFINED: u64 = 22;
 
 /// The names of these classes, each after a blank.
-fn names(alloc: Global, classes: &Classes, list: &[ClassId]) -> Result<String, AllocError> {
+fn names(alloc: Global, classes: &Hierarchy, list: &[ClassId]) -> Result<String, AllocError> {
     let mut line = String::new(alloc);
     for class in list {
         line.push(' ')?;
@@ -35,7 +35,7 @@ fn told_fault(alloc: Global, fault: &ClassFault) -> Result<String, AllocError> {
 /// What a definition answered: the names of the classes, or the fault.
 pub fn told(
     alloc: Global,
-    classes: &Classes,
+    classes: &Hierarchy,
     answer: &Result<Changed, ClassFault>,
 ) -> Result<String, AllocError> {
     match answer {
@@ -60,7 +60,7 @@ pub fn is_same(
 }
 
 /// The class precedence list of the class of this name.
-fn list_of(alloc: Global, classes: &Classes, name: &Name) -> Result<String, AllocError> {
+fn list_of(alloc: Global, classes: &Hierarchy, name: &Name) -> Result<String, AllocError> {
     let Some(class) = classes.named(name) else {
         return String::from_str(alloc, " undefined");
     };
@@ -76,7 +76,7 @@ fn list_of(alloc: Global, classes: &Classes, name: &Name) -> Result<String, Allo
 }
 
 /// Of each class from this number on its name and its list, in a line.
-pub fn lists(alloc: Global, classes: &Classes, first: u64) -> Result<String, AllocError> {
+pub fn lists(alloc: Global, classes: &Hierarchy, first: u64) -> Result<String, AllocError> {
     let mut lines = String::new(alloc);
     for number in first..first.saturating_add(64) {
         let Some(name) = classes.name(ClassId(number)) else {
@@ -119,7 +119,7 @@ fn read_form(alloc: Global, text: &'static str) -> Result<Form, AllocError> {
 /// What stands against defining a class.
 fn check(
     alloc: Global,
-    classes: &mut Classes,
+    classes: &mut Hierarchy,
     text: &'static str,
 ) -> Result<Result<(), ClassFault>, AllocError> {
     let Form {
@@ -136,7 +136,7 @@ fn check(
 }
 
 /// Whether a definition that was let pass answered the class of this name.
-fn is_named(classes: &Classes, answer: &Result<Changed, ClassFault>, name: &Name) -> bool {
+fn is_named(classes: &Hierarchy, answer: &Result<Changed, ClassFault>, name: &Name) -> bool {
     match answer {
         Ok(changed) => match classes.name(changed.class) {
             Some(own) => own.is(name),
@@ -148,7 +148,11 @@ fn is_named(classes: &Classes, answer: &Result<Changed, ClassFault>, name: &Name
 
 /// Asks what stands against defining a class, and defines it. Tells what that answers, whether asking or a fault left another
 /// table, and whether asking answered otherwise.
-fn define(alloc: Global, classes: &mut Classes, text: &'static str) -> Result<String, AllocError> {
+fn define(
+    alloc: Global,
+    classes: &mut Hierarchy,
+    text: &'static str,
+) -> Result<String, AllocError> {
     let before = lists(alloc, classes, 0)?;
     let asked = check(alloc, classes, text)?;
     let between = lists(alloc, classes, 0)?;
@@ -175,7 +179,7 @@ fn define(alloc: Global, classes: &mut Classes, text: &'static str) -> Result<St
 }
 
 /// The name of a class's class, and whether it is a standard class.
-fn class_of(alloc: Global, classes: &Classes, name: &Name) -> Result<String, AllocError> {
+fn class_of(alloc: Global, classes: &Hierarchy, name: &Name) -> Result<String, AllocError> {
     let Some(class) = classes.named(name) else {
         return String::from_str(alloc, " undefined");
     };
@@ -187,7 +191,7 @@ fn class_of(alloc: Global, classes: &Classes, name: &Name) -> Result<String, All
 }
 
 /// Whether the class of the first of two names is that of the second, or below it.
-fn is_sub(alloc: Global, classes: &Classes, text: &'static str) -> Result<String, AllocError> {
+fn is_sub(alloc: Global, classes: &Hierarchy, text: &'static str) -> Result<String, AllocError> {
     let (name, above) = text.split_once(' ').unwrap_or((text, ""));
     let line = match (
         classes.named(&Name::new(alloc, name, false)?),
@@ -202,7 +206,11 @@ fn is_sub(alloc: Global, classes: &Classes, text: &'static str) -> Result<String
 
 /// What a line comes to: a definition's answer; or after `?` a class's list, after `@` its class, and after `<` whether it
 /// is another class or below it.
-fn outcome(alloc: Global, classes: &mut Classes, form: &'static str) -> Result<String, AllocError> {
+fn outcome(
+    alloc: Global,
+    classes: &mut Hierarchy,
+    form: &'static str,
+) -> Result<String, AllocError> {
     if let Some(name) = form.strip_prefix("? ") {
         return list_of(alloc, classes, &Name::new(alloc, name, false)?);
     }
@@ -217,7 +225,7 @@ fn outcome(alloc: Global, classes: &mut Classes, form: &'static str) -> Result<S
 
 /// The lines again, each with what stands behind its arrow as it is in a new table with room for so many classes.
 pub fn transcript(alloc: Global, limit: u64, script: &'static str) -> Result<String, AllocError> {
-    let mut classes = Classes::new(alloc, limit)?;
+    let mut classes = Hierarchy::new(alloc, limit)?;
     let mut lines = String::new(alloc);
     for line in script.lines() {
         let (form, _) = line.split_once(" =>").unwrap_or((line, ""));

@@ -1,7 +1,7 @@
 -- Next methods that are called.
 use Rattle.std.proofs.Common.{◌≡◌, ℕ, List, [], ◌∷◌, Bool, true, false, Option, Some, None, Result, Err, length, slice_get, refl, ap, sym, ◌∙◌}
 use Rattle.std.specs.Prelude.{if◌then◌else◌}
-use Rattle.std.specs.Str.{bytes_eq}
+use Rattle.lisp_data.specs.Numbers.{same_numbers}
 use Rattle.lisp_data.specs.Value.{Val, method}
 use Rattle.clos_forms.specs.Form.{Form, Forms, cons, nil}
 use Rattle.clos_forms.specs.Operator.{Callable, the_method, made}
@@ -42,12 +42,12 @@ module _ (ev : Eval) (env : Context) (vs : List Val) (w : State) (t : ℕ) where
   by_order r false = refl
 
   abbrev in_order : Running → Dispatch → Option Condition
-  in_order r d = if bytes_eq (ordered w d.generic vs) d.methods then None else Some (record { kind = NextArguments; items = method r.method.0 ∷ [] })
+  in_order r d = if same_numbers (ordered w d.generic vs) d.methods then None else Some (record { kind = NextArguments; items = method r.method.0 ∷ [] })
 
   by_count : (r : Running) (d : Dispatch) (f : Function) (b : Bool) → bare (unless r (if b then in_order r d else Some (record { kind = ProgramError; items = [] })) w t)
-      ≡ bare (if b then Noted (used (pair w d.generic vs)) (if bytes_eq (ordered w d.generic vs) d.methods then next_run ev env r r.next vs w t else stopped NextArguments (method r.method.0 ∷ []) w t)
+      ≡ bare (if b then Noted (used (pair w d.generic vs)) (if same_numbers (ordered w d.generic vs) d.methods then next_run ev env r r.next vs w t else stopped NextArguments (method r.method.0 ∷ []) w t)
       else stopped ProgramError [] w t)
-  by_count r d f true = by_order r (bytes_eq (ordered w d.generic vs) d.methods)
+  by_count r d f true = by_order r (same_numbers (ordered w d.generic vs) d.methods)
   by_count r d f false = refl
 
   by_function : (r : Running) (d : Dispatch) (o : Option Function)

@@ -1,6 +1,6 @@
 -- Whether a next method may be called with other arguments.
 use Rattle.std.specs.Prelude.{◌≡◌, ℕ, List, [], ◌∷◌, Option, Some, None, Result, Ok, Err, if◌then◌else◌, length, slice_get}
-use Rattle.std.specs.Str.{bytes_eq}
+use Rattle.lisp_data.specs.Numbers.{same_numbers}
 use Rattle.lisp_data.specs.Value.{Val, method}
 use Rattle.clos_machine.specs.clos_world.Dispatch.{ordered}
 use Rattle.clos_machine.specs.clos_world.World.{State}
@@ -19,7 +19,7 @@ wrong = Some (record { kind = ProgramError; items = [] })
 abbrev pub refusal_for : State → ℕ → Dispatch → List Val → Option Condition
 refusal_for w m d vs =
     if takes_in (slice_get w.generics.functions d.generic) (length vs)
-    then (if bytes_eq (ordered w d.generic vs) d.methods then None else Some (record { kind = NextArguments; items = method m ∷ [] }))
+    then (if same_numbers (ordered w d.generic vs) d.methods then None else Some (record { kind = NextArguments; items = method m ∷ [] }))
     else wrong
 
 abbrev pub refusal_in : State → Running → Option Dispatch → List Val → Option Condition

@@ -1,6 +1,6 @@
 //! What a method does with its next methods (HyperSpec 7.6.6.2, 7.7 `call-next-method`, `next-method-p`).
 ghost use Rattle.std.specs.Prelude.{◌≡◌, ◌∷◌, IfOk, map};
-ghost use Rattle.std.specs.Str.{bytes_eq};
+ghost use Rattle.lisp_data.specs.Numbers.{same_numbers};
 ghost use Rattle.lisp_data.specs.Value.{generic, method};
 ghost use Rattle.lisp_data.specs.ValueView.{value_of};
 ghost use Rattle.clos_method.specs.MethodIds.{method_numbers};
@@ -109,7 +109,7 @@ fn permit_in(
 
 /// Whether both are the same methods in the same order.
 fn same_methods(a: &[MethodId], b: &[MethodId]) -> bool
-    ensures { result ≡ bytes_eq (method_numbers a.now) (method_numbers b.now) }
+    ensures { result ≡ same_numbers (method_numbers a.now) (method_numbers b.now) }
 {
     let mut left = a;
     let mut right = b;

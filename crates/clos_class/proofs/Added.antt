@@ -6,7 +6,7 @@ use Rattle.std.proofs.lemmas.Grind.{flat_map-append}
 use Rattle.lisp_data.specs.Name.{Name, same_name}
 use Rattle.clos_class.specs.declared.direct.DirectSlot.{DirectSlot}
 use Rattle.clos_class.specs.Slots.{called, distinct}
-use Rattle.clos_class.specs.Building.{with_name, with_names}
+use Rattle.clos_class.specs.inner.Building.{with_name, with_names}
 use Rattle.clos_class.proofs.Each.{added, filter_all, none_after}
 
 pub one_name : (ks : List Name) (n : Name) (ns : List Name) → with_names (with_name ks n) ns ≡ with_names ks (n ∷ ns)

@@ -13,7 +13,7 @@ use Rattle.clos_precedence.specs.PrecedenceView.{latest_first}
 use Rattle.clos_class.specs.declared.direct.SlotAllocation.{SlotAllocation}
 use Rattle.clos_class.specs.declared.direct.SlotAllocation.TheVariants.{Local, Shared}
 use Rattle.clos_class.specs.Slots.{DirectSlots, Layout, distinct, first_of_each, is_local, names, shared_in}
-use Rattle.clos_class.specs.Building.{new_of, no_slots, with_cell, with_slot, with_slots}
+use Rattle.clos_class.specs.inner.Building.{new_of, no_slots, with_cell, with_slot, with_slots}
 use Rattle.clos_class.proofs.Each.{added, each, filter_all, none_after}
 
 -- ---- one slot

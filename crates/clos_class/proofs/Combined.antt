@@ -9,8 +9,8 @@ use Rattle.clos_forms.specs.Form.{Form}
 use Rattle.clos_precedence.specs.PrecedenceView.{latest_first, numbers}
 use Rattle.clos_precedence.proofs.Lists.{latest}
 use Rattle.clos_class.specs.declared.direct.SlotAllocation.{SlotAllocation}
-use Rattle.clos_class.specs.Building.{no_slots, slot_by, with_names, with_slots}
-use Rattle.clos_class.specs.Keeping.{effective_if}
+use Rattle.clos_class.specs.inner.Building.{no_slots, slot_by, with_names, with_slots}
+use Rattle.clos_class.specs.inner.Keeping.{effective_if}
 use Rattle.clos_class.specs.Slots.{Defaults, DirectSlots, Effective, accessible, allocation, default_initargs, effective_of, effective_slots, initargs, initform, layout_of, names}
 use Rattle.clos_class.proofs.Added.{all_names as all_added, more_names}
 use Rattle.clos_class.proofs.Built.{all_names, are_built, layout_by}

@@ -5,7 +5,7 @@ use Rattle.std.specs.List.{list_any}
 use Rattle.lisp_data.specs.Name.{Name, same_name}
 use Rattle.clos_syntax.specs.declared.class.DefaultInitarg.{DefaultInitarg}
 use Rattle.clos_class.specs.Slots.{first_of_each}
-use Rattle.clos_class.specs.Building.{completed, with_name}
+use Rattle.clos_class.specs.inner.Building.{completed, with_name}
 use Rattle.clos_class.proofs.Each.{added, filter_all, none_after}
 
 pub known_one : (known : List Name) (found : List DefaultInitarg) (d : DefaultInitarg) (ds : List DefaultInitarg) (b : Bool) → b ≡ list_any (same_name d.name) known → b ≡ true

@@ -6,7 +6,7 @@ use Rattle.std.proofs.lemmas.List.Folds.{list_any-append}
 use Rattle.lisp_data.specs.Name.{Name, same_name}
 use Rattle.lisp_data.specs.KeyLaws.{same_name-Decides}
 use Rattle.clos_class.specs.Slots.{first_of_each, distinct}
-use Rattle.clos_class.specs.Building.{new_of}
+use Rattle.clos_class.specs.inner.Building.{new_of}
 
 -- ---- names
 

@@ -5,7 +5,7 @@ use Rattle.std.specs.List.{flat_map}
 use Rattle.lisp_data.specs.Name.{Name, same_name}
 use Rattle.clos_class.specs.declared.direct.DirectSlot.{DirectSlot}
 use Rattle.clos_class.specs.Slots.{called, distinct}
-use Rattle.clos_class.specs.Building.{or_no_names, with_names}
+use Rattle.clos_class.specs.inner.Building.{or_no_names, with_names}
 use Rattle.clos_class.proofs.Added.{all_names, same_names}
 use Rattle.clos_class.proofs.Each.{is_same, none_after, turned}
 

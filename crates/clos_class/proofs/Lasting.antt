@@ -7,7 +7,7 @@ use Rattle.std.proofs.lemmas.Bool.{eqb-true, eqb-false, le-ltb, ltb-false, ltb-t
 use Rattle.std.proofs.lemmas.Option.{slice_get_past}
 use Rattle.clos_hierarchy.specs.Classes.{Classes, lacking, list_in, listing_within}
 use Rattle.clos_class.specs.declared.direct.ClassSlots.{ClassSlots}
-use Rattle.clos_class.specs.Keeping.{Kept, Tells, TellsAll, kept_at, lists_of}
+use Rattle.clos_class.specs.inner.Keeping.{Kept, Tells, TellsAll, kept_at, lists_of}
 use Rattle.clos_class.specs.Slots.{Defaults, DirectSlots, Effective}
 use Rattle.clos_class.specs.SlotsView.{defaults, direct_slots}
 use Rattle.clos_class.proofs.Rowed.{end_here, end_other}

@@ -19,7 +19,7 @@ use Rattle.clos_class.specs.declared.reserve.NewCell.{NewCell}
 use Rattle.clos_class.specs.declared.rows.Rows.{Rows}
 use Rattle.clos_class.specs.Slots.{DirectSlots, accessible, allocation, cell_in, distinct, initform, names}
 use Rattle.clos_class.specs.SlotsView.{direct_slots, or_said, row_of, slots_in}
-use Rattle.clos_class.specs.Building.{with_name, with_names}
+use Rattle.clos_class.specs.inner.Building.{with_name, with_names}
 use Rattle.clos_class.specs.Table.{cell_at, cell_for, cells_to_make, is_shared, no_cell, needs_cell, new_cells, own_cell, rows_with, said, with_row}
 use Rattle.clos_class.proofs.Added.{all_names as all_added, one_name, some_names}
 use Rattle.clos_class.proofs.Built.{all_names}

@@ -2,7 +2,7 @@
 use Rattle.std.proofs.Common.{◌≡◌, ℕ, zero, suc, ◌==◌, ◌+◌, Bool, true, false, ◌||◌, true≢false, List, [], ◌∷◌, ◌++◌, length, length-append, ◌<◌, ◌≤◌, arith, refl, ap, sym, subst, ◌∙◌}
 use Rattle.std.specs.Prelude.{nat_lt, not, if◌then◌else◌}
 use Rattle.std.specs.List.{list_any, position_or_len}
-use Rattle.std.specs.Str.{bytes_eq}
+use Rattle.lisp_data.specs.Numbers.{same_numbers}
 use Rattle.std.proofs.lemmas.Bool.{eq-eqb, eqb-true, eqb-false, le-ltb, lt-ltb}
 use Rattle.std.proofs.lemmas.List.Folds.{list_any-append}
 use Rattle.std.proofs.lemmas.Slice.Eq.{bytes_eq-Decides}
@@ -13,7 +13,7 @@ use Rattle.clos_hierarchy.specs.Outlook.{Outlook, listing_then}
 use Rattle.clos_precedence.specs.Precedence.{has}
 use Rattle.clos_hierarchy.specs.Table.{Table as NameTable, changed, changed_among, is_other, or_standard}
 use Rattle.clos_class.specs.declared.direct.ClassSlots.{ClassSlots}
-use Rattle.clos_class.specs.Keeping.{Kept, Stays, Tells, TellsAll, kept_at, len_with, lists_of, lists_then}
+use Rattle.clos_class.specs.inner.Keeping.{Kept, Stays, Tells, TellsAll, kept_at, len_with, lists_of, lists_then}
 use Rattle.clos_class.specs.SlotsView.{defaults, direct_slots}
 use Rattle.clos_class.specs.Table.{classes_with, number, with_row}
 use Rattle.clos_class.proofs.Alike.{neither}
@@ -44,9 +44,9 @@ module _ (of to : ℕ → Listing) where
   same_among zero n h f = absurd (omega (arith, h))
   same_among (suc k) n h f = same_by k n (n == k) refl h f (λ g i. same_among k n g i)
 
-same_by_bytes : (l m : List ℕ) (b : Bool) → bytes_eq l m ≡ b → not b ≡ false → m ≡ l
-same_by_bytes l m true e h = sym ((bytes_eq-Decides l m).0 e)
-same_by_bytes l m false e h = absurd (true≢false h)
+same_by_numbers : (l m : List ℕ) (b : Bool) → same_numbers l m ≡ b → not b ≡ false → m ≡ l
+same_by_numbers l m true e h = sym ((bytes_eq-Decides l m).0 e)
+same_by_numbers l m false e h = absurd (true≢false h)
 
 same_list : (a b : Listing) → is_other a b ≡ false → list_in b ≡ list_in a
 same_list lacking lacking h = refl
@@ -57,7 +57,7 @@ same_list broken broken h = refl
 same_list broken (listed m) h = absurd (true≢false h)
 same_list (listed l) lacking h = absurd (true≢false h)
 same_list (listed l) broken h = absurd (true≢false h)
-same_list (listed l) (listed m) h = same_by_bytes l m (bytes_eq l m) refl h
+same_list (listed l) (listed m) h = same_by_numbers l m (same_numbers l m) refl h
 
 pub stay : (cs to : Classes) (o : Outlook) → ((n : ℕ) → listing_then o n ≡ listing to n) → o.changed ≡ changed cs to → (n : ℕ) → n < length to.names → Stays cs o n
 stay cs to o e c n h f =

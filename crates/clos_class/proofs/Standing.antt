@@ -9,7 +9,7 @@ use Rattle.clos_syntax.specs.declared.class.ClassDefinition.{ClassDefinition}
 use Rattle.clos_hierarchy.specs.Classes.{Classes}
 use Rattle.clos_hierarchy.specs.Table.{Table as NameTable}
 use Rattle.clos_class.specs.declared.direct.ClassSlots.{ClassSlots}
-use Rattle.clos_class.specs.Keeping.{Kept, Tells, TellsAll, kept_at, len_with, lists_of}
+use Rattle.clos_class.specs.inner.Keeping.{Kept, Tells, TellsAll, kept_at, len_with, lists_of}
 use Rattle.clos_class.specs.SlotsView.{defaults, direct_slots}
 use Rattle.clos_class.specs.Table.{Table, cell_for, classes_with, list_with, new_cells, number, own_cell, said, with_definition, with_row}
 use Rattle.clos_class.proofs.Lasting.{all_kept}

@@ -1,8 +1,7 @@
 pub mod Slots
 pub mod SlotsView
-pub mod Building
+pub mod inner
 pub mod Laws
 pub mod Table
-pub mod Keeping
 pub mod Examples
 pub use Rattle.clos_syntax.specs as clos_syntax

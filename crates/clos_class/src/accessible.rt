@@ -1,7 +1,7 @@
 //! The accessible slots of a class (HyperSpec 7.5.3).
 ghost use Rattle.std.specs.Prelude.{◌≡◌, IfOk, OnOk};
 ghost use Rattle.clos_precedence.specs.PrecedenceView.{numbers};
-ghost use Rattle.clos_class.specs.Building.{with_names};
+ghost use Rattle.clos_class.specs.inner.Building.{with_names};
 ghost use Rattle.clos_class.specs.Slots.{accessible, names};
 ghost use Rattle.clos_class.specs.SlotsView.{slots_in};
 

@@ -4,7 +4,7 @@ ghost use Rattle.std.specs.HashMap.{get};
 ghost use Rattle.std.specs.List.{filter, list_any};
 ghost use Rattle.lisp_data.specs.Name.{Name, same_name};
 ghost use Rattle.clos_precedence.specs.PrecedenceView.{numbers};
-ghost use Rattle.clos_class.specs.Building.{with_names};
+ghost use Rattle.clos_class.specs.inner.Building.{with_names};
 ghost use Rattle.clos_class.specs.Slots.{accessible, cell_in, names};
 ghost use Rattle.clos_class.specs.SlotsView.{direct_slot, direct_slots, slots_in};
 ghost use Rattle.clos_class.specs.Table.{cell_for, is_shared, needs_cell, new_cells, own_cell, said, with_row};

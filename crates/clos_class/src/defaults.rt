@@ -4,7 +4,7 @@ ghost use Rattle.clos_syntax.specs.declared.class.DefaultInitarg.{DefaultInitarg
 ghost use Rattle.clos_precedence.specs.PrecedenceView.{numbers};
 ghost use Rattle.clos_class.specs.Slots.{default_initargs};
 ghost use Rattle.clos_class.specs.SlotsView.{defaults_in};
-ghost use Rattle.clos_class.specs.Building.{completed};
+ghost use Rattle.clos_class.specs.inner.Building.{completed};
 
 use crate::names::NameSet;
 use crate::rows::Rows;

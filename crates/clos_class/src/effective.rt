@@ -3,7 +3,7 @@ ghost use Rattle.std.specs.Prelude.{◌≡◌, IfOk, option_copied};
 ghost use Rattle.std.specs.List.{find};
 ghost use Rattle.lisp_data.specs.Name.{same_name};
 ghost use Rattle.clos_precedence.specs.PrecedenceView.{numbers};
-ghost use Rattle.clos_class.specs.Keeping.{Tells};
+ghost use Rattle.clos_class.specs.inner.Keeping.{Tells};
 ghost use Rattle.clos_class.specs.SlotsView.{defaults_in, slots_in};
 
 use crate::accessible::accessible;

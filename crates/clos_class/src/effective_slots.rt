@@ -3,7 +3,7 @@ ghost use Rattle.std.specs.Prelude.{◌≡◌, IfOk, map};
 ghost use Rattle.std.specs.HashMap.{get};
 ghost use Rattle.lisp_data.specs.Name.{Name, same_name};
 ghost use Rattle.clos_precedence.specs.PrecedenceView.{numbers};
-ghost use Rattle.clos_class.specs.Building.{or_no_names, slot_by};
+ghost use Rattle.clos_class.specs.inner.Building.{or_no_names, slot_by};
 ghost use Rattle.clos_class.specs.Slots.{allocation, initargs, initform};
 ghost use Rattle.clos_class.specs.SlotsView.{slots_in};
 

@@ -1,21 +1,21 @@
 //! What is kept of all classes: what each has by its class precedence list.
 ghost use Rattle.std.specs.Prelude.{◌≡◌, ◌<◌, ◌≤◌, ◌||◌, ℕ, IfOk, length, option_copied};
 ghost use Rattle.clos_precedence.specs.Precedence.{has};
-ghost use Rattle.clos_class.specs.Keeping.{Stays, Tells, len_with, TellsAll, kept_at, lists_of, lists_then};
+ghost use Rattle.clos_class.specs.inner.Keeping.{Stays, Tells, len_with, TellsAll, kept_at, lists_of, lists_then};
 ghost use Rattle.clos_class.specs.SlotsView.{defaults, direct_slots};
 ghost use Rattle.clos_class.specs.Table.{with_row};
 
 use crate::direct::ClassSlots;
 use crate::effective::{Effective, find_effective};
 use crate::rows::Rows;
-use clos_hierarchy::{Classes, Preview};
+use clos_hierarchy::{Hierarchy, Preview};
 use clos_precedence::contains;
 use lisp_data::ClassId;
 use std::alloc::{AllocError, Global};
 use std::rc::Rc;
 
 /// Whether a class has another one in its class precedence list. A new one is in none.
-fn is_below(table: &Classes, class: ClassId, above: ClassId) -> bool
+fn is_below(table: &Hierarchy, class: ClassId, above: ClassId) -> bool
     ensures { result ≡ has (lists_of table.now.classes class.0) above.0 }
 {
     match table.precedence(class) {
@@ -25,7 +25,7 @@ fn is_below(table: &Classes, class: ClassId, above: ClassId) -> bool
 }
 
 /// Whether a class has another class precedence list then, or the one that is defined in its list.
-fn is_touched(table: &Classes, preview: &Preview, class: ClassId) -> bool
+fn is_touched(table: &Hierarchy, preview: &Preview, class: ClassId) -> bool
     ensures { result ≡ (has preview.now.changed class.0 || has (lists_of table.now.classes class.0) preview.now.class) }
 {
     contains(preview.changed(), class) || is_below(table, class, preview.class())
@@ -44,7 +44,7 @@ pub fn kept_at(kept: &[Option<Rc<Effective>>], place: usize) -> Option<&Rc<Effec
 /// What is to be kept of the class at this place after one was defined.
 fn keep_at(
     alloc: Global,
-    table: &Classes,
+    table: &Hierarchy,
     rows: &[ClassSlots],
     kept: &[Option<Rc<Effective>>],
     preview: &Preview,
@@ -81,7 +81,7 @@ fn len_with(rows: &[ClassSlots], class: ClassId) -> usize
 /// What is to be kept of all classes after one was defined, which says this of slots.
 pub fn keep_then(
     alloc: Global,
-    table: &Classes,
+    table: &Hierarchy,
     rows: &[ClassSlots],
     kept: &[Option<Rc<Effective>>],
     preview: &Preview,
@@ -106,7 +106,7 @@ pub fn keep_then(
 /// What is kept of all classes from the start.
 pub fn keep_first(
     alloc: Global,
-    table: &Classes,
+    table: &Hierarchy,
     rows: &[ClassSlots],
 ) -> Result<Vec<Option<Rc<Effective>>>, AllocError>
     ensures each { IfOk result (λ r. (n : ℕ) → n < length rows.now → Tells (direct_slots rows.now) (defaults rows.now) (lists_of table.now.classes n) (kept_at r.items n)) }

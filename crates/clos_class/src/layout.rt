@@ -3,7 +3,7 @@ ghost use Rattle.std.specs.Prelude.{◌≡◌, IfOk, OnOk, length, option_copied
 ghost use Rattle.std.specs.Map.{lookup};
 ghost use Rattle.std.specs.HashMap.{get};
 ghost use Rattle.lisp_data.specs.Name.{same_name};
-ghost use Rattle.clos_class.specs.Building.{no_slots, with_slot, with_slots};
+ghost use Rattle.clos_class.specs.inner.Building.{no_slots, with_slot, with_slots};
 
 use crate::direct::SlotAllocation;
 use crate::names::NameSet;

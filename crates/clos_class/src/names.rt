@@ -2,7 +2,7 @@
 ghost use Rattle.std.specs.Prelude.{◌≡◌, [], IfOk, OnOk, length, option_copied, position, slice_get};
 ghost use Rattle.std.specs.List.{list_any};
 ghost use Rattle.lisp_data.specs.Name.{same_name};
-ghost use Rattle.clos_class.specs.Building.{with_name, with_names};
+ghost use Rattle.clos_class.specs.inner.Building.{with_name, with_names};
 
 use clos_syntax::Sequence;
 use indexmap::IndexSet;
@@ -68,7 +68,7 @@ impl Model for NameSet {
     ghost use Rattle.std.specs.Prelude.{List};
     ghost use Rattle.std.specs.Coded.{coded_list};
     ghost use Rattle.lisp_data.specs.Name.{Name};
-    ghost use Rattle.lisp_data.specs.NameCode.{name_code};
+    ghost use Rattle.lisp_data.specs.inner.NameCode.{name_code};
 
     ghost Value = { List Name };
 

@@ -6,7 +6,7 @@ ghost use Rattle.clos_hierarchy.specs.Outlook.{listing_then};
 ghost use Rattle.clos_precedence.specs.PrecedenceView.{numbers};
 ghost use Rattle.clos_hierarchy.specs.Table.{changed};
 ghost use Rattle.clos_hierarchy.specs.TableView.{Refuses};
-ghost use Rattle.clos_class.specs.Keeping.{TellsAll, lists_of};
+ghost use Rattle.clos_class.specs.inner.Keeping.{TellsAll, lists_of};
 ghost use Rattle.clos_class.specs.Slots.{initform};
 ghost use Rattle.clos_class.specs.SlotsView.{slots_in};
 ghost use Rattle.clos_class.specs.Table.{cell_for, cells_to_make, classes_with, list_with, new_cells, number, own_cell, refusal, said, with_row};
@@ -20,7 +20,7 @@ use crate::keep::keep_then;
 use crate::names::{NameSet, copy_names};
 use crate::rows::Rows;
 use clos_forms::Form;
-use clos_hierarchy::{ClassFault, Classes, Preview};
+use clos_hierarchy::{ClassFault, Hierarchy, Preview};
 use clos_syntax::{ClassDefinition, Sequence};
 use lisp_data::{CellId, ClassId, Name};
 use std::alloc::{AllocError, Global};
@@ -43,7 +43,7 @@ pub struct Reserved {
 /// The fault that a definition meets, or what there would be to say of all classes after it.
 pub fn check(
     alloc: Global,
-    table: &mut Classes,
+    table: &mut Hierarchy,
     definition: &ClassDefinition,
 ) -> Result<Preview, ClassFault>
     ensures ok { OnOk result (refusal table.old definition.now ≡ None) }
@@ -132,7 +132,7 @@ pub struct Prepared {
 /// What stands in the table once a class is defined, or the fault that its definition meets.
 pub fn prepare(
     alloc: Global,
-    table: &mut Classes,
+    table: &mut Hierarchy,
     rows: &[ClassSlots],
     kept: &[Option<Rc<Effective>>],
     definition: &ClassDefinition,

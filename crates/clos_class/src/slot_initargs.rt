@@ -6,7 +6,7 @@ ghost use Rattle.lisp_data.specs.Name.{Name, same_name};
 ghost use Rattle.clos_precedence.specs.PrecedenceView.{numbers};
 ghost use Rattle.clos_class.specs.Slots.{called, initargs};
 ghost use Rattle.clos_class.specs.SlotsView.{slots_in};
-ghost use Rattle.clos_class.specs.Building.{or_no_names, with_names};
+ghost use Rattle.clos_class.specs.inner.Building.{or_no_names, with_names};
 
 use crate::direct::DirectSlot;
 use crate::names::add_names;

@@ -1,14 +1,12 @@
 //! A session's table of classes, with the slots that each has (HyperSpec 4.3, 7.5.3).
-ghost use Rattle.std.specs.Prelude.{◌≡◌, ◌↔◌, ◌<◌, ℕ, true, None, IfOk, IfErr, IfSome, IsNone, IsTrue, OnOk, OnErr, length, option_map, option_copied, slice_get, replicate, vec_len, vec_capacity};
+ghost use Rattle.std.specs.Prelude.{◌≡◌, ◌<◌, true, None, IfOk, IfErr, OnOk, OnErr, length, option_map, option_copied, replicate, vec_len, vec_capacity};
 ghost use Rattle.std.specs.List.{find, list_any};
 ghost use Rattle.lisp_data.specs.Name.{same_name};
-ghost use Rattle.clos_hierarchy.specs.Classes.{named, listing, list_in};
-ghost use Rattle.clos_hierarchy.specs.Initial.{is_standard, class_of_class};
+ghost use Rattle.clos_hierarchy.specs.Classes.{listing, list_in};
 ghost use Rattle.clos_precedence.specs.Precedence.{has};
 ghost use Rattle.clos_precedence.specs.PrecedenceView.{numbers};
 ghost use Rattle.clos_hierarchy.specs.Table.{changed, list_if};
-ghost use Rattle.clos_hierarchy.specs.TableView.{Refuses, IsListOf};
-ghost use Rattle.clos_hierarchy.specs.Ways.{IsSuperclass, IsSelfOrAbove, IsComplete, IsIncomplete};
+ghost use Rattle.clos_hierarchy.specs.TableView.{Refuses};
 ghost use Rattle.clos_class.specs.Slots.{default_initargs, effective_of, effective_slots, initargs, initform, layout_of};
 ghost use Rattle.clos_class.specs.SlotsView.{defaults, direct_slots, says_nothing};
 ghost use Rattle.clos_class.specs.Table.{cells_to_make, classes_with, initial, is_unambiguous, list_with, number, refusal, with_definition, with_row};
@@ -22,7 +20,7 @@ use crate::layout::Layout;
 use crate::names::{copy_names, is_among};
 use crate::reserve::{Reserved, cells_to_make, check, prepare};
 use clos_forms::Form;
-use clos_hierarchy::{Changed, ClassFault};
+use clos_hierarchy::{Changed, ClassFault, Hierarchy};
 use clos_syntax::{ClassDefinition, DefaultInitarg};
 use lisp_data::{CellId, ClassId, Name};
 use std::alloc::{AllocError, Global};
@@ -33,14 +31,14 @@ use std::rc::Rc;
 /// precedence list is kept.
 #[derive(Drop)]
 pub struct Classes {
-    table: clos_hierarchy::Classes,
+    table: Hierarchy,
     rows: Vec<ClassSlots>,
     kept: Vec<Option<Rc<Effective>>>,
 }
 
 impl Model for Classes {
     ghost use Rattle.std.specs.Prelude.{◌≡◌, length};
-    ghost use Rattle.clos_class.specs.Keeping.{TellsAll, lists_of};
+    ghost use Rattle.clos_class.specs.inner.Keeping.{TellsAll, lists_of};
     ghost use Rattle.std.specs.Coded.{codes};
     ghost use Rattle.clos_class.specs.Table.{Table};
     ghost use Rattle.clos_class.specs.contracts.direct.ClassSlots as class_slots;
@@ -55,7 +53,7 @@ impl Model for Classes {
 }
 
 /// Nothing, of each class.
-fn no_rows(alloc: Global, table: &clos_hierarchy::Classes) -> Result<Vec<ClassSlots>, AllocError>
+fn no_rows(alloc: Global, table: &Hierarchy) -> Result<Vec<ClassSlots>, AllocError>
     ensures { IfOk result (λ r. r.items ≡ replicate (length table.now.classes.names) says_nothing) }
 {
     let mut rows = Vec::new(alloc);
@@ -81,7 +79,7 @@ fn put(rows: &mut Vec<ClassSlots>, class: ClassId, said: ClassSlots)
 
 fn define_name(
     alloc: Global,
-    table: &mut clos_hierarchy::Classes,
+    table: &mut Hierarchy,
     definition: &ClassDefinition,
 ) -> Result<Changed, ClassFault>
     ensures ok { OnOk result (table.new ≡ record table.old { classes = classes_with table.old definition.now }) }
@@ -104,7 +102,7 @@ impl Classes {
     pub fn new(alloc: Global, limit: u64) -> Result<Classes, AllocError>
         ensures { IfOk result (λ r. r ≡ initial limit) }
     {
-        let table = clos_hierarchy::Classes::new(alloc, limit)?;
+        let table = Hierarchy::new(alloc, limit)?;
         let rows = no_rows(alloc, &table)?;
         let kept = keep_first(alloc, &table, &rows)?;
         Ok(Classes { table, rows, kept })
@@ -159,58 +157,11 @@ impl Classes {
         Ok(changed)
     }
 
-    /// The class of this name.
-    pub fn named(&self, name: &Name) -> Option<ClassId>
-        ensures { option_map (λ c. c.0) result ≡ named self.now.table.classes name.now }
+    /// The classes by themselves: their names, their superclasses and their class precedence lists (HyperSpec 4.3).
+    pub fn hierarchy(&self) -> &Hierarchy
+        ensures { result.now ≡ self.now.table }
     {
-        self.table.named(name)
-    }
-
-    /// The name of a class.
-    pub fn name(&self, class: ClassId) -> Option<&Name>
-        ensures { option_copied result ≡ slice_get self.now.table.classes.names class.0 }
-    {
-        self.table.name(class)
-    }
-
-    /// The class precedence list of a class (HyperSpec 4.3.5), if all its superclasses are defined.
-    pub fn precedence(&self, class: ClassId) -> Option<&[ClassId]>
-        ensures found { option_map (λ l. numbers l.now) result ≡ list_if (listing self.now.table.classes class.0) }
-        ensures law { IfSome result (λ l. IsListOf self.now.table.classes class.0 (numbers l.now)) }
-        ensures members { IfSome result (λ l. (m : ℕ) → (has (numbers l.now) m ≡ true) ↔ IsSelfOrAbove self.now.table.classes class.0 m) }
-        ensures none { IsNone result ↔ IsIncomplete self.now.table.classes class.0 }
-        ensures no_circle { IsSuperclass self.now.table.classes class.0 class.0 → ⊥ }
-    {
-        self.table.precedence(class)
-    }
-
-    /// The class precedence list of a class, or no classes where there is none.
-    pub fn precedence_or_none(&self, class: ClassId) -> &[ClassId]
-        ensures { numbers result.now ≡ list_in (listing self.now.table.classes class.0) }
-    {
-        self.table.precedence_or_none(class)
-    }
-
-    /// Whether a class that has a class precedence list is this other one, or below it.
-    pub fn is_sub(&self, class: ClassId, above: ClassId) -> bool
-        ensures found { result ≡ has (list_in (listing self.now.table.classes class.0)) above.0 }
-        ensures law { IsTrue result ↔ (IsComplete self.now.table.classes class.0 × IsSelfOrAbove self.now.table.classes class.0 above.0) }
-    {
-        self.table.is_sub(class, above)
-    }
-
-    /// Whether `defclass` makes classes like this one, of which programs may make instances, or it is STANDARD-OBJECT.
-    pub fn is_standard(&self, class: ClassId) -> bool
-        ensures { result ≡ is_standard self.now.table class.0 }
-    {
-        self.table.is_standard(class)
-    }
-
-    /// The class of classes that are like this one (HyperSpec 4.3.7).
-    pub fn class_of_class(&self, class: ClassId) -> ClassId
-        ensures { result.0 ≡ class_of_class self.now.table class.0 }
-    {
-        self.table.class_of_class(class)
+        &self.table
     }
 
     /// What a class has by its class precedence list, if it has one (AMOP 5.4). Who goes on with it while classes are

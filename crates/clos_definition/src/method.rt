@@ -151,7 +151,7 @@ fn refuse_specializer(
 {
     match specializer {
         ParameterSpecializer::Eql(_) => Ok(()),
-        ParameterSpecializer::Class(name) => match world.classes.named(name) {
+        ParameterSpecializer::Class(name) => match world.classes.hierarchy().named(name) {
             Some(_) => Ok(()),
             None => {
                 let condition = about_name(alloc, ConditionKind::UndefinedClass, name)?;
@@ -276,7 +276,7 @@ fn specializer_with(
     ensures { IfOk result (λ r. specializer_of r ≡ specializer_with classes.now specializer.now (option_map (λ v. value_of v.now) value.entry)) }
 {
     match specializer {
-        ParameterSpecializer::Class(name) => match classes.named(name) {
+        ParameterSpecializer::Class(name) => match classes.hierarchy().named(name) {
             Some(class) => Ok(Specializer::Class(class)),
             None => Ok(Specializer::Class(ClassId(0))),
         },

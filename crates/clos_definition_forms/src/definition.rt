@@ -166,7 +166,7 @@ pub fn defclass(
 ) -> Result<Value, Stop>
     ensures { Answers (λ w k. define_class definition.now (named w.classes definition.now.name) w k) (seen world.old) steps.old result (seen world.new) steps.new }
 {
-    if world.classes.named(&definition.name).is_some() {
+    if world.classes.hierarchy().named(&definition.name).is_some() {
         return Err(Stop::Refused(plain(alloc, ConditionKind::Unsupported)));
     }
     define_new_class(alloc, world, definition, steps)

@@ -1,12 +1,11 @@
 pub mod Names
 pub mod Special
 pub mod Operator
-pub mod OperatorCode
+pub mod inner
 pub mod CallMethodView
 pub mod BoundView
 pub mod OperatorView
 pub mod Form
-pub mod FormCode
 pub mod FormView
 pub mod Fault
 pub mod Part

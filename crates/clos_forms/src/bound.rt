@@ -42,7 +42,7 @@ impl Model for Names {
     ghost use Rattle.std.specs.Prelude.{List};
     ghost use Rattle.std.specs.Coded.{coded_list};
     ghost use Rattle.lisp_data.specs.Name.{Name};
-    ghost use Rattle.lisp_data.specs.NameCode.{name_code};
+    ghost use Rattle.lisp_data.specs.inner.NameCode.{name_code};
 
     ghost Value = { List Name };
 
@@ -54,7 +54,7 @@ impl Model for Names {
 impl Model for Bindings {
     ghost use Rattle.std.specs.Prelude.{List, map};
     ghost use Rattle.clos_forms.specs.Operator.{Bound};
-    ghost use Rattle.clos_forms.specs.OperatorCode.{bounds_code};
+    ghost use Rattle.clos_forms.specs.inner.OperatorCode.{bounds_code};
 
     ghost Value = { List Bound };
 
@@ -68,7 +68,7 @@ impl Model for Bindings {
 impl Model for SlotBindings {
     ghost use Rattle.std.specs.Prelude.{List, map};
     ghost use Rattle.clos_forms.specs.Operator.{BoundSlot};
-    ghost use Rattle.clos_forms.specs.OperatorCode.{bound_slots_code};
+    ghost use Rattle.clos_forms.specs.inner.OperatorCode.{bound_slots_code};
 
     ghost Value = { List BoundSlot };
 

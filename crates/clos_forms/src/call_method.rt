@@ -27,7 +27,7 @@ pub struct NextMethods {
 impl Model for NextMethods {
     ghost use Rattle.std.specs.Prelude.{List};
     ghost use Rattle.clos_forms.specs.Operator.{Callable};
-    ghost use Rattle.clos_forms.specs.OperatorCode.{callables_code};
+    ghost use Rattle.clos_forms.specs.inner.OperatorCode.{callables_code};
 
     ghost Value = { List Callable };
 

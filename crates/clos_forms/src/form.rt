@@ -51,7 +51,7 @@ struct Pair {
 
 impl Model for Form {
     ghost use Rattle.clos_forms.specs.Form.{Form, size_of_form};
-    ghost use Rattle.clos_forms.specs.FormCode.{form_code};
+    ghost use Rattle.clos_forms.specs.inner.FormCode.{form_code};
 
     ghost Value = { Form };
 
@@ -66,7 +66,7 @@ impl Model for Form {
 
 impl Model for Forms {
     ghost use Rattle.clos_forms.specs.Form.{Forms, size_of_forms};
-    ghost use Rattle.clos_forms.specs.FormCode.{forms_code};
+    ghost use Rattle.clos_forms.specs.inner.FormCode.{forms_code};
 
     ghost Value = { Forms };
 

@@ -3,7 +3,7 @@ use Rattle.std.proofs.Common.{◌≡◌, ℕ, zero, suc, ◌+◌, ◌<◌, ◌�
 use Rattle.std.specs.Prelude.{◌==◌, ◌||◌, slice_get, slice_set, slice_index_or}
 use Rattle.std.proofs.lemmas.List.Folds.{list_any_more}
 use Rattle.lisp_data.specs.declared.ids.GenericId.{GenericId}
-use Rattle.clos_generic.specs.Reserved.{HasRoom, HasSpare, is_added}
+use Rattle.clos_generic.specs.inner.Reserved.{HasRoom, HasSpare, is_added}
 use Rattle.clos_generic.specs.declared.function.Function.{Function}
 use Rattle.clos_generic.specs.declared.spare.Spare.{Spare}
 

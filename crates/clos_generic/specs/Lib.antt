@@ -2,9 +2,8 @@ pub mod Table
 pub mod Fault
 pub mod FaultView
 pub mod Initial
-pub mod TableCode
+pub mod inner
 pub mod TableView
-pub mod Reserved
 pub mod Calls
 pub mod Changes
 pub mod Examples

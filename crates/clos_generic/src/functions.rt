@@ -1,7 +1,7 @@
 //! One of the functions in their list.
 ghost use Rattle.std.specs.Prelude.{◌≡◌, ◌==◌, ◌<◌, ◌+◌, ℕ, true, IfOk, IsOk, OnOk, OnErr, option_map, slice_get, vec_len, vec_capacity};
 ghost use Rattle.std.specs.List.{find};
-ghost use Rattle.clos_generic.specs.Reserved.{HasRoom, is_added};
+ghost use Rattle.clos_generic.specs.inner.Reserved.{HasRoom, is_added};
 ghost use Rattle.clos_generic.specs.Table.{added, is_alike_at, methods_in, redefined, with_changed, with_methods, without};
 ghost use Rattle.clos_generic.specs.TableView.{functions_in};
 

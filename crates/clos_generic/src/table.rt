@@ -49,12 +49,12 @@ impl Model for Generics {
 
     ghost Value = { Table };
 
-    ghost use Rattle.clos_generic.specs.TableCode.{table_code};
+    ghost use Rattle.clos_generic.specs.inner.TableCode.{table_code};
 
     ghost coded = { table_code };
 
     ghost use Rattle.std.specs.HashMap.{get, spare};
-    ghost use Rattle.clos_generic.specs.Reserved.{IsReady, ids_of, keys_of};
+    ghost use Rattle.clos_generic.specs.inner.Reserved.{IsReady, ids_of, keys_of};
     ghost use Rattle.lisp_data.specs.Name.{same_name};
     ghost use Rattle.clos_forms.specs.declared.operator.FunctionName.TheVariants.{Symbol, Setf};
     ghost use Rattle.clos_generic.specs.TableView.{IsIndexed, functions_in};

@@ -5,8 +5,8 @@ use Rattle.std.specs.List.{list_any}
 use Rattle.lisp_data.specs.Name.{Name, same_name}
 use Rattle.clos_hierarchy.specs.Classes.{Classes, number_of, with_class, is_lacking, listing}
 use Rattle.clos_hierarchy.specs.declared.kept.Kept.{Kept}
-use Rattle.clos_hierarchy.specs.KeptView.{listing_at}
-use Rattle.clos_hierarchy.specs.Kept.{Changes, Knows}
+use Rattle.clos_hierarchy.specs.inner.KeptView.{listing_at}
+use Rattle.clos_hierarchy.specs.inner.Kept.{Changes, Knows}
 use Rattle.clos_hierarchy.specs.declared.fault.ClassFault.{ClassFault}
 use Rattle.clos_hierarchy.specs.Table.{misplaced, changed}
 use Rattle.clos_hierarchy.specs.TableView.{Refuses}

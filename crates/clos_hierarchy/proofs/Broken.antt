@@ -4,8 +4,8 @@ use Rattle.std.specs.Prelude.{slice_get, if◌then◌else◌}
 use Rattle.lisp_data.specs.Name.{Name}
 use Rattle.clos_hierarchy.specs.Classes.{Classes, is_broken, listing}
 use Rattle.clos_hierarchy.specs.declared.kept.Kept.{Kept}
-use Rattle.clos_hierarchy.specs.KeptView.{listing_at}
-use Rattle.clos_hierarchy.specs.Kept.{Knows}
+use Rattle.clos_hierarchy.specs.inner.KeptView.{listing_at}
+use Rattle.clos_hierarchy.specs.inner.Kept.{Knows}
 use Rattle.clos_hierarchy.specs.Table.{inconsistent_precedence, broken_from}
 
 some_is : (y x : Name) → Some y ≡ Some x → y ≡ x

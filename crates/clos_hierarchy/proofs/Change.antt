@@ -9,7 +9,7 @@ use Rattle.clos_precedence.proofs.Truth.{and_left, and_right, both}
 use Rattle.clos_precedence.proofs.InTurn.{found_is_one}
 use Rattle.clos_precedence.proofs.Members.{has_later, differs}
 use Rattle.clos_hierarchy.proofs.Rounds.{Holds}
-use Rattle.clos_hierarchy.specs.Kept.{Changes, without, More, Sound, AreWhole, Within, ListWithin}
+use Rattle.clos_hierarchy.specs.inner.Kept.{Changes, without, More, Sound, AreWhole, Within, ListWithin}
 use Rattle.clos_hierarchy.specs.Ways.{IsWhole}
 use Rattle.clos_hierarchy.proofs.Families.{each_above, Base, base_of, Under, over, listed_same}
 use Rattle.clos_hierarchy.proofs.Enough.{same_above}

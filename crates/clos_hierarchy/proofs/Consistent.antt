@@ -7,8 +7,8 @@ use Rattle.lisp_data.specs.Name.{Name}
 use Rattle.clos_precedence.specs.Precedence.{has}
 use Rattle.clos_hierarchy.specs.Classes.{Classes, Listing, lacking, broken, listed, named, number_of, with_class, defined, names_above, superclasses, is_based, is_circular, is_lacking, is_broken, list_in, listing}
 use Rattle.clos_hierarchy.specs.declared.kept.Kept.{Kept}
-use Rattle.clos_hierarchy.specs.KeptView.{listing_at}
-use Rattle.clos_hierarchy.specs.Kept.{Changes, Knows, IsConsistent}
+use Rattle.clos_hierarchy.specs.inner.KeptView.{listing_at}
+use Rattle.clos_hierarchy.specs.inner.Kept.{Changes, Knows, IsConsistent}
 use Rattle.clos_hierarchy.specs.Table.{Refusal, superclass_cycle, incomplete_class, inconsistent_precedence, when, or_else, broken_from, out_of_order, misplaced, list_if}
 use Rattle.clos_hierarchy.specs.Initial.{predefined}
 use Rattle.clos_hierarchy.specs.Ways.{Series, IsSuperclass, IsSelfOrAbove, IsComplete, IsIncomplete, HasNoBase}

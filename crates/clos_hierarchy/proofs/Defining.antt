@@ -7,8 +7,8 @@ use Rattle.lisp_data.specs.Name.{Name, same_name}
 use Rattle.clos_precedence.specs.Precedence.{has}
 use Rattle.clos_hierarchy.specs.Classes.{Classes, Listing, lacking, broken, listed, number_of, with_class, found, is_lacking}
 use Rattle.clos_hierarchy.specs.declared.kept.Kept.{Kept}
-use Rattle.clos_hierarchy.specs.KeptView.{listing_of, listing_at}
-use Rattle.clos_hierarchy.specs.Kept.{Adds, Changes, More, Sound, AreWhole, AreNested, ListWithin, Knows, Progress, lacking_in, without, Restarts}
+use Rattle.clos_hierarchy.specs.inner.KeptView.{listing_of, listing_at}
+use Rattle.clos_hierarchy.specs.inner.Kept.{Adds, Changes, More, Sound, AreWhole, AreNested, ListWithin, Knows, Progress, lacking_in, without, Restarts}
 use Rattle.clos_hierarchy.specs.Ways.{IsWhole}
 use Rattle.clos_precedence.proofs.Members.{apart}
 use Rattle.clos_hierarchy.proofs.Rounds.{Holds, sound_holds}

@@ -11,7 +11,7 @@ use Rattle.clos_precedence.proofs.Circle.{no_member}
 use Rattle.clos_precedence.proofs.Members.{Once, has_first, has_later, it_is, first_or_later, no_more, below, length_below, is_below}
 use Rattle.clos_hierarchy.proofs.Rounds.{Holds}
 use Rattle.clos_precedence.proofs.Depth.{each_once}
-use Rattle.clos_hierarchy.specs.Kept.{AreWhole, Within, ListWithin}
+use Rattle.clos_hierarchy.specs.inner.Kept.{AreWhole, Within, ListWithin}
 use Rattle.clos_hierarchy.proofs.Families.{each_above, Base, base_of, Under, over, listed_same}
 
 -- ---- no superclass has the class above it

@@ -3,7 +3,7 @@ use Rattle.std.proofs.Common.{◌≡◌, ℕ, Bool, true, false, List, [], ◌�
 use Rattle.std.specs.Prelude.{◌⊎◌, if◌then◌else◌}
 use Rattle.clos_precedence.specs.Precedence.{Supers, has, IsPrecedenceList, precedence_list, IsFamily}
 use Rattle.clos_hierarchy.specs.Classes.{Classes, Listing, lacking, broken, listed, joined, all_above, listed_if, in_order, found, superclasses, is_based}
-use Rattle.clos_hierarchy.specs.Kept.{AreWhole, Within, ListWithin}
+use Rattle.clos_hierarchy.specs.inner.Kept.{AreWhole, Within, ListWithin}
 use Rattle.clos_hierarchy.specs.Ways.{IsWhole}
 use Rattle.clos_precedence.proofs.Truth.{nothing}
 use Rattle.clos_precedence.proofs.InTurn.{found_is_one}

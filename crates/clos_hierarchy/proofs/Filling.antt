@@ -5,8 +5,8 @@ use Rattle.std.proofs.lemmas.Bool.{eqb-true, eqb-false, ltb-true}
 use Rattle.clos_precedence.specs.Precedence.{has, IsPrecedenceList}
 use Rattle.clos_hierarchy.specs.Classes.{Classes, Listing, lacking, broken, listed, found, superclasses, is_lacking}
 use Rattle.clos_hierarchy.specs.declared.kept.Kept.{Kept}
-use Rattle.clos_hierarchy.specs.KeptView.{listing_of, listing_at, kept_at}
-use Rattle.clos_hierarchy.specs.Kept.{More, AreWhole, AreNested, IsAbove, AreAbove, Within, ListWithin, Keeps, lacking_in, Adds, Progress, Ends, Knows, Filled}
+use Rattle.clos_hierarchy.specs.inner.KeptView.{listing_of, listing_at, kept_at}
+use Rattle.clos_hierarchy.specs.inner.Kept.{More, AreWhole, AreNested, IsAbove, AreAbove, Within, ListWithin, Keeps, lacking_in, Adds, Progress, Ends, Knows, Filled}
 use Rattle.clos_precedence.proofs.Members.{has_later, first_or_later, apart}
 use Rattle.clos_hierarchy.proofs.Families.{Base, base_of, From, from_above, each_above, over, listed_same}
 use Rattle.clos_precedence.proofs.InTurn.{found_is_one}

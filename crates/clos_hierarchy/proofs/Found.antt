@@ -4,10 +4,10 @@ use Rattle.std.specs.Prelude.{◌||◌, ◌⊎◌}
 use Rattle.std.proofs.lemmas.Bool.{eqb-true, eq-eqb}
 use Rattle.clos_precedence.specs.Precedence.{has, IsFamily}
 use Rattle.clos_hierarchy.specs.Classes.{Classes, Listing, lacking, broken, listed, joined, all_above, listed_if, in_order, found, superclasses, is_based, is_lacking, is_broken, list_in}
-use Rattle.clos_hierarchy.specs.Finding.{any_lacking, any_broken, together}
+use Rattle.clos_hierarchy.specs.inner.Finding.{any_lacking, any_broken, together}
 use Rattle.clos_hierarchy.specs.declared.kept.Kept.{Kept}
-use Rattle.clos_hierarchy.specs.KeptView.{listing_at, kept_above, kept_at, above_by}
-use Rattle.clos_hierarchy.specs.Kept.{Keeps, ListWithin}
+use Rattle.clos_hierarchy.specs.inner.KeptView.{listing_at, kept_above, kept_at, above_by}
+use Rattle.clos_hierarchy.specs.inner.Kept.{Keeps, ListWithin}
 use Rattle.clos_precedence.proofs.Truth.{neither}
 use Rattle.clos_precedence.proofs.Members.{first_or_later}
 use Rattle.clos_hierarchy.proofs.Families.{From, from_above, over_all}

@@ -6,8 +6,8 @@ use Rattle.lisp_data.specs.Name.{Name}
 use Rattle.clos_precedence.specs.Precedence.{IsPrecedenceList}
 use Rattle.clos_hierarchy.specs.Classes.{Classes, Listing, lacking, broken, listed, number_of, with_class, found, superclasses, listing}
 use Rattle.clos_hierarchy.specs.declared.kept.Kept.{Kept}
-use Rattle.clos_hierarchy.specs.KeptView.{listing_at}
-use Rattle.clos_hierarchy.specs.Kept.{Changes, Knows}
+use Rattle.clos_hierarchy.specs.inner.KeptView.{listing_at}
+use Rattle.clos_hierarchy.specs.inner.Kept.{Changes, Knows}
 use Rattle.clos_hierarchy.specs.Table.{list_if}
 use Rattle.clos_hierarchy.specs.TableView.{IsListOf}
 use Rattle.clos_hierarchy.specs.Initial.{Row, fixed_name, fixed_names, all_defined}

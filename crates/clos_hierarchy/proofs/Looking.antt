@@ -1,11 +1,11 @@
 -- What there would be to say of the classes.
-use Rattle.std.proofs.Common.{◌≡◌, ℕ, List, Option, Some, None, refl, sym, ◌∙◌, ap, map, option_map}
+use Rattle.std.proofs.Common.{◌≡◌, ℕ, List, Option, Some, None, refl, ◌∙◌, ap, map, option_map}
 use Rattle.std.specs.Prelude.{slice_get, unwrap_or}
 use Rattle.std.proofs.lemmas.Option.{slice_get-map}
-use Rattle.clos_hierarchy.specs.Classes.{Classes, Listing, lacking, listing, list_in}
+use Rattle.clos_hierarchy.specs.Classes.{Classes, lacking, listing, list_in}
 use Rattle.clos_hierarchy.specs.declared.kept.Kept.{Kept}
-use Rattle.clos_hierarchy.specs.Kept.{Knows}
-use Rattle.clos_hierarchy.specs.KeptView.{listing_of, listing_at}
+use Rattle.clos_hierarchy.specs.inner.Kept.{Knows}
+use Rattle.clos_hierarchy.specs.inner.KeptView.{listing_of, listing_at}
 use Rattle.clos_hierarchy.specs.declared.kept.Kept.TheVariants.{Lacking}
 
 of_option : (o : Option Kept) → unwrap_or (option_map listing_of o) lacking ≡ listing_of (unwrap_or o Lacking)

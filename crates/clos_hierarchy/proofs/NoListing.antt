@@ -3,7 +3,7 @@ use Rattle.std.proofs.Common.{◌≡◌, ℕ, zero, suc, ◌+◌, Bool, true, fa
 use Rattle.std.specs.Prelude.{if◌then◌else◌}
 use Rattle.clos_precedence.specs.Precedence.{Supers, has, precedence_list, IsFamily, Circle, Tells}
 use Rattle.clos_hierarchy.specs.Classes.{Classes, Listing, lacking, broken, listed, joined, all_above, listed_if, in_order, superclasses, is_based, listing_within, listing}
-use Rattle.clos_hierarchy.specs.Kept.{AreWhole}
+use Rattle.clos_hierarchy.specs.inner.Kept.{AreWhole}
 use Rattle.clos_hierarchy.specs.TableView.{HasCircle}
 use Rattle.clos_precedence.proofs.Members.{has_first, has_later}
 use Rattle.clos_precedence.proofs.OnPrecedence.{tells}

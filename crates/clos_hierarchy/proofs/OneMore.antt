@@ -3,7 +3,7 @@ use Rattle.std.proofs.Common.{◌≡◌, ℕ, suc, ◌==◌, Bool, true, false, 
 use Rattle.std.proofs.lemmas.Bool.{eqb-true}
 use Rattle.clos_hierarchy.specs.Classes.{Classes, Listing, lacking, broken, listed, found, listing_within}
 use Rattle.clos_hierarchy.proofs.Rounds.{more_through, more_found, more_rounds, Settled, more_settled, Holds}
-use Rattle.clos_hierarchy.specs.Kept.{More, Sound, AreWhole}
+use Rattle.clos_hierarchy.specs.inner.Kept.{More, Sound, AreWhole}
 use Rattle.clos_hierarchy.specs.Ways.{IsWhole}
 use Rattle.clos_hierarchy.proofs.Families.{whole_found}
 use Rattle.clos_hierarchy.proofs.Enough.{listed_within, length_listed}

@@ -1,16 +1,16 @@
 -- A class that was just defined is placed.
 use Rattle.std.proofs.Common.{◌≡◌, ℕ, zero, suc, ◌==◌, ◌+◌, Bool, true, false, List, [], ◌∷◌, ◌++◌, Some, inl, inr, length, arith, refl, sym, subst, ap, ◌∙◌}
 use Rattle.std.specs.Prelude.{not, nat_le, if◌then◌else◌}
-use Rattle.std.specs.Str.{bytes_eq}
+use Rattle.lisp_data.specs.Numbers.{same_numbers}
 use Rattle.std.proofs.lemmas.Bool.{eq-eqb, leb-true}
 use Rattle.lisp_data.specs.Name.{Name}
 use Rattle.clos_precedence.specs.Precedence.{has}
 use Rattle.clos_hierarchy.specs.Classes.{Classes, Listing, lacking, broken, listed, list_in, is_circular, listing}
 use Rattle.clos_hierarchy.specs.declared.kept.Kept.{Kept}
-use Rattle.clos_hierarchy.specs.KeptView.{listing_at}
-use Rattle.clos_hierarchy.specs.Kept.{Knows, More, without}
+use Rattle.clos_hierarchy.specs.inner.KeptView.{listing_at}
+use Rattle.clos_hierarchy.specs.inner.Kept.{Knows, More, without}
 use Rattle.clos_hierarchy.specs.Table.{superclass_cycle, misplaced, out_of_order, changed, changed_among, is_other}
-use Rattle.clos_hierarchy.specs.Finding.{is_other_if, changed_if}
+use Rattle.clos_hierarchy.specs.inner.Finding.{is_other_if, changed_if}
 use Rattle.clos_hierarchy.proofs.Families.{listed_same}
 use Rattle.clos_hierarchy.proofs.Change.{is_kept}
 use Rattle.clos_hierarchy.proofs.Relisted.{new_is_above_none}
@@ -28,9 +28,9 @@ same_changes (suc n) of to was now a b =
     let q : of n ≡ was n = a n in
     let r : to n ≡ now n = b n in cc
 
-same_list : (l : List ℕ) → bytes_eq l l ≡ true
+same_list : (l : List ℕ) → same_numbers l l ≡ true
 same_list [] = refl
-same_list (x ∷ xs) = let p : (x == x) ≡ true = eq-eqb x x refl in let q : bytes_eq xs xs ≡ true = same_list xs in cc
+same_list (x ∷ xs) = let p : (x == x) ≡ true = eq-eqb x x refl in let q : same_numbers xs xs ≡ true = same_list xs in cc
 
 stays_listed : (l m : List ℕ) (c : ℕ) → has l c ≡ false → More (without c (listed l)) (listed m) → l ≡ m
 stays_listed l m c h (inl e) = let p : without c (listed l) ≡ listed l = is_kept c l h in cc
@@ -43,8 +43,8 @@ other_by (listed l) lacking c h m = refl
 other_by (listed l) broken c h m = refl
 other_by (listed l) (listed k) c h m =
     let p : l ≡ k = stays_listed l k c h m in
-    let q : bytes_eq l l ≡ true = same_list l in
-    let r : bytes_eq l k ≡ true = subst (λ v. bytes_eq l v ≡ true) p q in
+    let q : same_numbers l l ≡ true = same_list l in
+    let r : same_numbers l k ≡ true = subst (λ v. same_numbers l v ≡ true) p q in
     let s : not true ≡ false = refl in cc
 
 other_false : (a b : Listing) → is_other_if false a b ≡ is_other a b

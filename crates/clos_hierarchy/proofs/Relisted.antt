@@ -6,8 +6,8 @@ use Rattle.clos_precedence.specs.Precedence.{has}
 use Rattle.clos_hierarchy.specs.Classes.{Classes, Listing, lacking, broken, listed, list_in, names_above, are_defined, is_based}
 use Rattle.clos_hierarchy.specs.declared.kept.Kept.{Kept}
 use Rattle.clos_hierarchy.specs.declared.kept.Kept.TheVariants.{Lacking}
-use Rattle.clos_hierarchy.specs.KeptView.{listing_of, listing_at, kept_above, kept_at}
-use Rattle.clos_hierarchy.specs.Kept.{without, without_broken, Knows, Restarts, RestartsBelow}
+use Rattle.clos_hierarchy.specs.inner.KeptView.{listing_of, listing_at, kept_above, kept_at}
+use Rattle.clos_hierarchy.specs.inner.Kept.{without, without_broken, Knows, Restarts, RestartsBelow}
 use Rattle.clos_precedence.proofs.Truth.{and_left}
 
 pub restarts_none : (c : ℕ) (old : List Kept) → RestartsBelow c old [] 0

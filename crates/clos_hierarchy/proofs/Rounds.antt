@@ -3,7 +3,7 @@ use Rattle.std.proofs.Common.{◌≡◌, ℕ, zero, suc, Bool, true, false, List
 use Rattle.std.specs.Prelude.{if◌then◌else◌}
 use Rattle.clos_precedence.specs.Precedence.{Supers}
 use Rattle.clos_hierarchy.specs.Classes.{Classes, Listing, lacking, broken, listed, joined, all_above, in_order, found, superclasses, is_based, listing_within}
-use Rattle.clos_hierarchy.specs.Kept.{More, Sound}
+use Rattle.clos_hierarchy.specs.inner.Kept.{More, Sound}
 
 pub more_through : (a b c : Listing) → More a b → More b c → More a c
 more_through a b c (inl e) h = inl e

@@ -4,11 +4,11 @@ use Rattle.std.specs.Prelude.{◌||◌}
 use Rattle.lisp_data.specs.declared.ids.ClassId.{ClassId}
 use Rattle.clos_precedence.specs.Precedence.{has, precedence_list, IsFamily}
 use Rattle.clos_hierarchy.specs.Classes.{Classes, Listing, lacking, broken, listed, all_above, listed_if, in_order, found, superclasses, is_based}
-use Rattle.clos_hierarchy.specs.Finding.{any_lacking, any_broken, together}
+use Rattle.clos_hierarchy.specs.inner.Finding.{any_lacking, any_broken, together}
 use Rattle.clos_hierarchy.specs.declared.kept.Kept.{Kept}
 use Rattle.clos_precedence.specs.PrecedenceView.{numbers}
-use Rattle.clos_hierarchy.specs.KeptView.{listing_at, above_by}
-use Rattle.clos_hierarchy.specs.Kept.{Keeps}
+use Rattle.clos_hierarchy.specs.inner.KeptView.{listing_at, above_by}
+use Rattle.clos_hierarchy.specs.inner.Kept.{Keeps}
 use Rattle.clos_precedence.proofs.Lists.{or_false, reversed}
 use Rattle.clos_precedence.proofs.Members.{first_or_later}
 use Rattle.clos_precedence.proofs.SameOrder.{same_order}

@@ -6,8 +6,8 @@ use Rattle.std.proofs.lemmas.List.{append-nil}
 use Rattle.clos_precedence.specs.Precedence.{Supers, precedence_list, IsPrecedenceList, IsFamily, Tells}
 use Rattle.clos_hierarchy.specs.Classes.{Classes, Listing, listed, joined, all_above, listed_if, in_order, found, names_above, are_defined, superclasses, is_based}
 use Rattle.clos_hierarchy.specs.declared.kept.Kept.{Kept}
-use Rattle.clos_hierarchy.specs.KeptView.{listing_at, above_by}
-use Rattle.clos_hierarchy.specs.Kept.{Keeps, IsSingle}
+use Rattle.clos_hierarchy.specs.inner.KeptView.{listing_at, above_by}
+use Rattle.clos_hierarchy.specs.inner.Kept.{Keeps, IsSingle}
 use Rattle.clos_precedence.proofs.Truth.{both}
 use Rattle.clos_precedence.proofs.OneSuperclass.{one_superclass}
 use Rattle.clos_precedence.proofs.OnPrecedence.{tells}

@@ -2,7 +2,7 @@
 use Rattle.std.proofs.Common.{◌≡◌, ℕ, true, List, [], ◌∷◌, refl}
 use Rattle.clos_precedence.specs.Precedence.{Supers, are_before_done, is_free, Next, InTurn, IsPrecedenceList, IsFamily}
 use Rattle.clos_hierarchy.specs.Classes.{Classes, Listing, listed, superclasses}
-use Rattle.clos_hierarchy.specs.Kept.{Within, AreWhole}
+use Rattle.clos_hierarchy.specs.inner.Kept.{Within, AreWhole}
 use Rattle.clos_precedence.proofs.Truth.{both}
 use Rattle.clos_precedence.proofs.Next.{free_at}
 use Rattle.clos_precedence.proofs.InTurn.{found_is_one}

@@ -1,10 +1,8 @@
-pub mod KeptView
+pub mod inner
 pub mod Examples
 pub mod Classes
 pub mod Ways
-pub mod Kept
 pub mod Table
 pub mod TableView
 pub mod Initial
-pub mod Finding
 pub mod Outlook

@@ -1,7 +1,7 @@
 -- A session's classes, and how one more is defined (HyperSpec 4.3, defclass).
 use Rattle.std.specs.Prelude.{ℕ, zero, suc, ◌-◌, Bool, true, false, not, ◌&&◌, ◌||◌, nat_lt, nat_le, List, [], ◌∷◌, ◌++◌, Option, Some, None, codes, length, if◌then◌else◌}
 use Rattle.std.specs.List.{list_any}
-use Rattle.std.specs.Str.{bytes_eq}
+use Rattle.lisp_data.specs.Numbers.{same_numbers}
 use Rattle.lisp_data.specs.Name.{Name, same_name}
 use Rattle.clos_hierarchy.specs.Classes.{Classes, Listing, lacking, broken, listed, number_of, with_class, is_circular, is_lacking, is_broken, listing}
 
@@ -87,7 +87,7 @@ list_if broken = None
 list_if (listed l) = Some l
 
 abbrev pub is_other : Listing → Listing → Bool
-is_other (listed l) (listed m) = not (bytes_eq l m)
+is_other (listed l) (listed m) = not (same_numbers l m)
 is_other (listed l) o = true
 is_other lacking (listed m) = true
 is_other lacking o = false

@@ -1,10 +1,10 @@
 //! One more class among the others.
-ghost use Rattle.std.specs.Prelude.{◌≡◌, ◌<◌, ℕ, ◌≤◌, ◌&&◌, ◌||◌, not, None, IfOk, IfErr, OnOk, OnErr, length};
+ghost use Rattle.std.specs.Prelude.{◌≡◌, ◌<◌, ℕ, ◌||◌, not, None, IfOk, IfErr, OnOk, OnErr, length};
 ghost use Rattle.clos_hierarchy.specs.Classes.{number_of, with_class, is_lacking, listing};
-ghost use Rattle.clos_hierarchy.specs.Kept.{IsConsistent, Knows, WasBefore};
+ghost use Rattle.clos_hierarchy.specs.inner.Kept.{IsConsistent, Knows, WasBefore};
 ghost use Rattle.clos_hierarchy.specs.Outlook.{listing_then};
 ghost use Rattle.clos_precedence.specs.PrecedenceView.{numbers};
-ghost use Rattle.clos_hierarchy.specs.KeptView.{listing_at};
+ghost use Rattle.clos_hierarchy.specs.inner.KeptView.{listing_at};
 ghost use Rattle.clos_hierarchy.specs.Table.{misplaced, changed};
 ghost use Rattle.clos_hierarchy.specs.TableView.{Refuses};
 

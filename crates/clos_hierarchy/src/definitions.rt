@@ -1,9 +1,9 @@
 //! Definitions of classes (HyperSpec 4.3.2), of which some may name superclasses that are not defined yet.
-ghost use Rattle.std.specs.Prelude.{◌≡◌, ◌++◌, ◌∷◌, [], IfOk, OnOk, OnErr, List, length, option_map, map, if◌then◌else◌, Some, None, slice_set, slice_get, option_copied, ◌<◌};
+ghost use Rattle.std.specs.Prelude.{◌≡◌, [], IfOk, OnOk, OnErr, List, length, option_map, map, if◌then◌else◌, Some, None, slice_get, option_copied, ◌<◌};
 ghost use Rattle.std.specs.List.{list_any};
 ghost use Rattle.lisp_data.specs.Name.{Name, same_name};
 ghost use Rattle.clos_hierarchy.specs.Classes.{Classes, named, number_of, with_class, names_above, defined, are_defined};
-ghost use Rattle.clos_hierarchy.specs.Kept.{WasBefore};
+ghost use Rattle.clos_hierarchy.specs.inner.Kept.{WasBefore};
 ghost use Rattle.clos_precedence.specs.PrecedenceView.{numbers};
 
 use indexmap::IndexSet;

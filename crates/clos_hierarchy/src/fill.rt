@@ -1,7 +1,7 @@
 //! What is kept of the classes, found for one after another until no more is found.
 ghost use Rattle.std.specs.Prelude.{◌≡◌, ◌<◌, ℕ, IfOk, OnOk, length};
-ghost use Rattle.clos_hierarchy.specs.Kept.{Adds, Ends, Filled, Progress, Knows};
-ghost use Rattle.clos_hierarchy.specs.KeptView.{listing_of};
+ghost use Rattle.clos_hierarchy.specs.inner.Kept.{Adds, Ends, Filled, Progress, Knows};
+ghost use Rattle.clos_hierarchy.specs.inner.KeptView.{listing_of};
 ghost use Rattle.clos_hierarchy.specs.Classes.{is_lacking};
 
 use crate::definitions::Definitions;

@@ -1,13 +1,13 @@
 //! How what is kept of a class is found from what is kept of its superclasses.
-ghost use Rattle.std.specs.Prelude.{◌≡◌, ◌||◌, ◌∷◌, ℕ, [], IfOk, IfSome, OnOk, option_map, true};
+ghost use Rattle.std.specs.Prelude.{◌≡◌, ◌∷◌, ℕ, [], IfOk, IfSome, OnOk, option_map, true};
 ghost use Rattle.clos_hierarchy.specs.Classes.{Classes, found, is_based, superclasses, is_lacking, is_broken, list_in, listed_if, listed};
-ghost use Rattle.clos_hierarchy.specs.Finding.{any_lacking, any_broken, together};
+ghost use Rattle.clos_hierarchy.specs.inner.Finding.{any_lacking, any_broken, together};
 ghost use Rattle.clos_precedence.specs.Precedence.{has, precedence_list};
-ghost use Rattle.clos_hierarchy.specs.Kept.{Keeps, IsAbove, IsSingle};
+ghost use Rattle.clos_hierarchy.specs.inner.Kept.{Keeps, IsAbove, IsSingle};
 ghost use Rattle.clos_hierarchy.specs.Table.{list_if};
 ghost use Rattle.clos_precedence.specs.PrecedenceView.{numbers};
 ghost use Rattle.clos_precedence.specs.OrderView.{with_all_seen};
-ghost use Rattle.clos_hierarchy.specs.KeptView.{listing_of, listing_at, above_by};
+ghost use Rattle.clos_hierarchy.specs.inner.KeptView.{listing_of, listing_at, above_by};
 
 use crate::definitions::Definitions;
 use crate::kept::{Above, Kept, Line};

@@ -29,7 +29,7 @@ pub struct Above<'a> {
 }
 
 impl Superclasses for Above<'_> {
-    ghost use Rattle.clos_hierarchy.specs.KeptView.{above_in};
+    ghost use Rattle.clos_hierarchy.specs.inner.KeptView.{above_in};
 
     ghost above = { above_in };
 

@@ -20,4 +20,4 @@ mod table;
 pub use admit::Changed;
 pub use fault::ClassFault;
 pub use preview::Preview;
-pub use table::Classes;
+pub use table::Hierarchy;

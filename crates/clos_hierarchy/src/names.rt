@@ -1,9 +1,9 @@
 //! What is wrong with a definition of a class by its names alone.
-ghost use Rattle.std.specs.Prelude.{◌≡◌, ◌≤◌, ◌-◌, ◌&&◌, ◌||◌, ℕ, not, None, IfOk, IfErr, OnOk, length, nat_lt, nat_le};
+ghost use Rattle.std.specs.Prelude.{◌≡◌, ◌-◌, ◌&&◌, ◌||◌, ℕ, not, None, IfOk, IfErr, OnOk, length, nat_lt, nat_le};
 ghost use Rattle.std.specs.List.{list_any};
 ghost use Rattle.lisp_data.specs.Name.{same_name};
-ghost use Rattle.clos_hierarchy.specs.Classes.{Classes, number_of};
-ghost use Rattle.clos_hierarchy.specs.Table.{Table, misnamed, or_standard, standard_object, is_predefined, has_twice, is_full, invalid_in};
+ghost use Rattle.clos_hierarchy.specs.Classes.{number_of};
+ghost use Rattle.clos_hierarchy.specs.Table.{misnamed, or_standard, standard_object, is_predefined, has_twice, is_full, invalid_in};
 ghost use Rattle.clos_hierarchy.specs.TableView.{Refuses};
 
 use crate::definitions::Definitions;

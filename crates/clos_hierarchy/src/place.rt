@@ -1,13 +1,13 @@
 //! What is wrong with the classes after one was defined, and which lists changed.
-ghost use Rattle.std.specs.Prelude.{◌≡◌, ◌≤◌, nat_le, ◌&&◌, ◌++◌, ◌∷◌, [], None, IfOk, IfErr, OnOk, length, option_copied, slice_get, if◌then◌else◌};
+ghost use Rattle.std.specs.Prelude.{◌≡◌, ◌≤◌, nat_le, ◌&&◌, None, IfOk, IfErr, OnOk, length, option_copied, slice_get, if◌then◌else◌};
 ghost use Rattle.lisp_data.specs.Name.{Name};
-ghost use Rattle.clos_hierarchy.specs.Classes.{Classes, is_lacking, is_broken, is_circular, listing};
-ghost use Rattle.clos_hierarchy.specs.Kept.{Changes, Knows};
+ghost use Rattle.clos_hierarchy.specs.Classes.{Classes, is_lacking, is_broken, is_circular};
+ghost use Rattle.clos_hierarchy.specs.inner.Kept.{Changes, Knows};
 ghost use Rattle.clos_precedence.specs.PrecedenceView.{numbers};
-ghost use Rattle.clos_hierarchy.specs.KeptView.{listing_at};
+ghost use Rattle.clos_hierarchy.specs.inner.KeptView.{listing_at};
 ghost use Rattle.clos_hierarchy.specs.Table.{misplaced, out_of_order, broken_from, changed};
-ghost use Rattle.clos_hierarchy.specs.Finding.{is_other_if, changed_if};
-ghost use Rattle.std.specs.Str.{bytes_eq};
+ghost use Rattle.clos_hierarchy.specs.inner.Finding.{is_other_if, changed_if};
+ghost use Rattle.lisp_data.specs.Numbers.{same_numbers};
 ghost use Rattle.clos_hierarchy.specs.TableView.{Refuses};
 
 use crate::cycle::is_circular;
@@ -67,7 +67,7 @@ fn check(
 }
 
 fn same_ids(a: &[ClassId], b: &[ClassId]) -> bool
-    ensures { result ≡ bytes_eq (numbers a.now) (numbers b.now) }
+    ensures { result ≡ same_numbers (numbers a.now) (numbers b.now) }
 {
     let mut place = 0;
     while place < a.len() && place < b.len() {

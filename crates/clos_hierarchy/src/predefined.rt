@@ -1,8 +1,8 @@
 //! The predefined classes (HyperSpec 4.3.7), each with the rest of its class precedence list.
-ghost use Rattle.std.specs.Prelude.{◌≡◌, ◌≤◌, [], ◌++◌, OnOk, IfOk, length, map};
+ghost use Rattle.std.specs.Prelude.{◌≡◌, [], OnOk, IfOk, map};
 ghost use Rattle.clos_hierarchy.specs.Classes.{with_class};
 ghost use Rattle.clos_hierarchy.specs.Initial.{fixed_name, fixed_names, all_defined, objects_and_numbers, symbols_and_sequences, functions_and_metaobjects, predefined};
-ghost use Rattle.clos_hierarchy.specs.Kept.{Knows};
+ghost use Rattle.clos_hierarchy.specs.inner.Kept.{Knows};
 
 use crate::definitions::Definitions;
 use crate::kept::Kept;

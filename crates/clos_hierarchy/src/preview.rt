@@ -19,7 +19,7 @@ pub struct Preview {
 
 impl Model for Preview {
     ghost use Rattle.clos_precedence.specs.PrecedenceView.{numbers};
-    ghost use Rattle.clos_hierarchy.specs.KeptView.{listing_of};
+    ghost use Rattle.clos_hierarchy.specs.inner.KeptView.{listing_of};
     ghost use Rattle.std.specs.Prelude.{map};
     ghost use Rattle.clos_hierarchy.specs.Outlook.{Outlook};
 

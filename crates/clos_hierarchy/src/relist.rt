@@ -2,8 +2,8 @@
 ghost use Rattle.std.specs.Prelude.{◌≡◌, ◌≤◌, ℕ, List, IfOk, length};
 ghost use Rattle.clos_precedence.specs.Precedence.{has};
 ghost use Rattle.clos_hierarchy.specs.Classes.{Classes, listed, list_in};
-ghost use Rattle.clos_hierarchy.specs.Kept.{Changes, More, Restarts, Knows, without, without_broken};
-ghost use Rattle.clos_hierarchy.specs.KeptView.{listing_of, listing_at, kept_above, kept_at};
+ghost use Rattle.clos_hierarchy.specs.inner.Kept.{Changes, More, Restarts, Knows, without, without_broken};
+ghost use Rattle.clos_hierarchy.specs.inner.KeptView.{listing_of, listing_at, kept_above, kept_at};
 
 use crate::definitions::Definitions;
 use crate::fill::fill;

@@ -1,5 +1,5 @@
 //! A session's table of classes (HyperSpec 4.3).
-ghost use Rattle.std.specs.Prelude.{◌≡◌, ◌↔◌, ℕ, None, true, IfOk, IfErr, IfSome, IsNone, IsTrue, OnOk, OnErr, length, option_map, option_copied, slice_get};
+ghost use Rattle.std.specs.Prelude.{◌≡◌, ◌↔◌, ℕ, None, true, IfOk, IfErr, IfSome, IsNone, IsTrue, OnOk, OnErr, option_map, option_copied, slice_get};
 ghost use Rattle.clos_hierarchy.specs.Classes.{named, number_of, with_class, listing, broken, list_in};
 ghost use Rattle.clos_precedence.specs.Precedence.{has};
 ghost use Rattle.clos_hierarchy.specs.Initial.{initial, is_standard, class_of_class};
@@ -26,7 +26,7 @@ use std::marker::Model;
 /// Classes by their numbers, in the order of first definition, the predefined ones first. A class may name superclasses
 /// that are defined later, and may be defined again.
 #[derive(Drop)]
-pub struct Classes {
+pub struct Hierarchy {
     definitions: Definitions,
     kept: Vec<Kept>,
     /// So many stand first.
@@ -35,10 +35,9 @@ pub struct Classes {
     limit: u64,
 }
 
-impl Model for Classes {
-    ghost use Rattle.std.specs.Prelude.{length};
+impl Model for Hierarchy {
     ghost use Rattle.clos_hierarchy.specs.Table.{Table};
-    ghost use Rattle.clos_hierarchy.specs.Kept.{IsConsistent, Knows};
+    ghost use Rattle.clos_hierarchy.specs.inner.Kept.{IsConsistent, Knows};
 
     ghost Value = { Table };
 
@@ -47,17 +46,17 @@ impl Model for Classes {
     ghost invariant = { λ a. Knows a.definitions a.kept.items × IsConsistent a.definitions };
 }
 
-impl Classes {
+impl Hierarchy {
     /// The predefined classes (HyperSpec 4.3.7), and room for so many more.
     #[tactic(auto, using(crate::proofs::Consistent::begins_consistent))]
-    pub fn new(alloc: Global, limit: u64) -> Result<Classes, AllocError>
+    pub fn new(alloc: Global, limit: u64) -> Result<Hierarchy, AllocError>
         ensures { IfOk result (λ r. r ≡ initial limit) }
     {
         let mut definitions = Definitions::new(alloc);
         let mut kept = Vec::new(alloc);
         define_predefined(alloc, &mut definitions, &mut kept)?;
         let predefined = definitions.len() as u64;
-        Ok(Classes {
+        Ok(Hierarchy {
             definitions,
             kept,
             predefined,

@@ -1,7 +1,6 @@
-pub mod LocalsCode
+pub mod inner
 pub mod LocalsView
 pub mod Fault
-pub mod ParametersCode
 pub mod ParametersView
 pub mod Machine
 pub use Rattle.clos_meaning.specs as clos_meaning

@@ -44,7 +44,7 @@ pub struct Locals {
 impl Model for Locals {
     ghost use Rattle.std.specs.Prelude.{List, map, reverse};
     ghost use Rattle.clos_meaning.specs.clos_world.World as world;
-    ghost use Rattle.clos_machine.specs.LocalsCode.{locals_code};
+    ghost use Rattle.clos_machine.specs.inner.LocalsCode.{locals_code};
 
     ghost Value = { List world.Local };
 
@@ -230,7 +230,7 @@ pub struct Plan {
 impl Model for Plan {
     ghost use Rattle.std.specs.Prelude.{List, map, reverse};
     ghost use Rattle.clos_forms.specs.Operator.{Bound};
-    ghost use Rattle.clos_forms.specs.OperatorCode.{bounds_code};
+    ghost use Rattle.clos_forms.specs.inner.OperatorCode.{bounds_code};
 
     ghost Value = { List Bound };
 

@@ -49,7 +49,7 @@ pub struct ParameterPlan {
 impl Model for ParameterPlan {
     ghost use Rattle.std.specs.Prelude.{map};
     ghost use Rattle.clos_meaning.specs.Parameters.{Sources};
-    ghost use Rattle.clos_machine.specs.ParametersCode.{sources_code};
+    ghost use Rattle.clos_machine.specs.inner.ParametersCode.{sources_code};
     ghost use Rattle.clos_machine.specs.ParametersView.{parameter_of};
 
     ghost Value = { Sources };

@@ -27,7 +27,7 @@ use Rattle.clos_world.specs.clos_method.declared.method.MethodBody.TheVariants.{
 use Rattle.clos_world.specs.clos_comb.Effective as comb
 use Rattle.clos_world.specs.clos_comb.Outcome.{Combined}
 use Rattle.clos_world.specs.clos_comb.Outcome as outcome
-use Rattle.std.specs.Str.{bytes_eq}
+use Rattle.lisp_data.specs.Numbers.{same_numbers}
 use Rattle.clos_world.specs.Dispatch.{ordered}
 use Rattle.clos_world.specs.Globals.{is_global, any_global}
 use Rattle.clos_world.specs.clos_method.System.{system_number}
@@ -629,7 +629,7 @@ next_by_kept : (ev : Eval) → Keeps ev → (env : Context) (r : Running) (d : D
 next_by_kept ev h env r d None vs w k = same w
 next_by_kept ev h env r d (Some f) vs w k =
     choice_kept (takes_count f.shape (length vs)) w _ _
-    (choice_kept (bytes_eq (ordered w d.generic vs) d.methods) w (next_run ev env r r.next vs w k) _ (next_run_kept ev h env r r.next vs w k) (same w)) (same w)
+    (choice_kept (same_numbers (ordered w d.generic vs) d.methods) w (next_run ev env r r.next vs w k) _ (next_run_kept ev h env r r.next vs w k) (same w)) (same w)
 
 next_in_kept : (ev : Eval) → Keeps ev → (env : Context) (r : Running) (o : Option Dispatch) (vs : List Val) (w : State) (k : ℕ) → Kept w (next_in ev env r o vs w k)
 next_in_kept ev h env r None vs w k = same w

@@ -43,7 +43,7 @@ use Rattle.clos_meaning.specs.NextMethods.{next_by, next_given, next_in, next_ru
 use Rattle.clos_meaning.specs.FindMethod.{method_answer}
 use Rattle.clos_meaning.specs.SystemMethods.{class_in, filled_as, if_valid, initialize, initialize_slots, reinitialize, reinitialize_as, shared_initialized, system_method_run}
 use Rattle.clos_meaning.specs.Dispatch.{Dispatch}
-use Rattle.std.specs.Str.{bytes_eq}
+use Rattle.lisp_data.specs.Numbers.{same_numbers}
 use Rattle.clos_meaning.specs.Contexts.{in_call, known, running, with_arguments}
 use Rattle.clos_meaning.specs.GenericCalls.{after_positional, called_generic, combined_run, invoked, keywords_fit, matched_or, unmatched, unmatched_by}
 use Rattle.clos_meaning.specs.Control.{keeping, sequence, while_true, until_true, branch, where_true, where_false, and_then, or_then, tested, clause, clauses}
@@ -486,7 +486,7 @@ pub next_by_quiet : (n : ℕ) (env : Context) (r : Running) (d : Dispatch) (o : 
 next_by_quiet n env r d None vs w = (refl, refl)
 next_by_quiet n env r d (Some f) vs w =
     choice_quiet (takes_count f.shape (length vs)) _ _ w
-    (choice_quiet (bytes_eq (ordered w d.generic vs) d.methods) (next_run (meaning n) env r r.next vs w 0) _ w (next_run_quiet n env r r.next vs w) (refl, refl)) (refl, refl)
+    (choice_quiet (same_numbers (ordered w d.generic vs) d.methods) (next_run (meaning n) env r r.next vs w 0) _ w (next_run_quiet n env r r.next vs w) (refl, refl)) (refl, refl)
 
 pub next_in_quiet : (n : ℕ) (env : Context) (r : Running) (o : Option Dispatch) (vs : List Val) (w : State) → Quiet (next_in (meaning n) env r o vs w 0) w
 next_in_quiet n env r None vs w = (refl, refl)

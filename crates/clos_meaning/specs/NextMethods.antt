@@ -1,6 +1,6 @@
 -- What a method does with its next methods (HyperSpec 7.6.6.2, 7.7 call-next-method, next-method-p).
 use Rattle.std.specs.Prelude.{ℕ, Bool, false, List, [], ◌∷◌, Option, Some, None, if◌then◌else◌, length, not, slice_get}
-use Rattle.std.specs.Str.{bytes_eq}
+use Rattle.lisp_data.specs.Numbers.{same_numbers}
 use Rattle.lisp_data.specs.Value.{Val, generic, method}
 use Rattle.clos_forms.specs.Operator.{Callable}
 use Rattle.clos_world.specs.clos_generic.Table.{Function}
@@ -48,7 +48,7 @@ next_by ev env r d None vs w s = stopped ProgramError [] w s
 next_by ev env r d (Some f) vs w s =
     if takes_count f.shape (length vs)
     then Noted (used (pair w d.generic vs))
-    (if bytes_eq (ordered w d.generic vs) d.methods then next_run ev env r r.next vs w s else stopped NextArguments (method r.method.0 ∷ []) w s)
+    (if same_numbers (ordered w d.generic vs) d.methods then next_run ev env r r.next vs w s else stopped NextArguments (method r.method.0 ∷ []) w s)
     else stopped ProgramError [] w s
 
 -- by the call of a generic function for which the method runs; where there is none, PROGRAM-ERROR

@@ -21,7 +21,7 @@ impl Model for Arguments {
     ghost use Rattle.std.specs.Prelude.{List};
     ghost use Rattle.std.specs.Coded.{coded_list};
     ghost use Rattle.lisp_data.specs.Value.{Val};
-    ghost use Rattle.lisp_data.specs.ValueCode.{value_code};
+    ghost use Rattle.lisp_data.specs.inner.ValueCode.{value_code};
 
     ghost Value = { List Val };
 

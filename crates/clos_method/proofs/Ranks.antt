@@ -7,7 +7,7 @@ use Rattle.lisp_data.specs.Keys.{same_value}
 use Rattle.lisp_data.specs.Print.{Specializer, on_class, on_eql}
 use Rattle.lisp_data.specs.Same.{same-Decides}
 use Rattle.lisp_data.specs.Value.{Val}
-use Rattle.lisp_data.specs.ValueCode.{value_code}
+use Rattle.lisp_data.specs.inner.ValueCode.{value_code}
 use Rattle.clos_precedence.specs.Precedence.{has}
 use Rattle.clos_method.specs.Applicable.{all_fit, fits}
 use Rattle.clos_method.specs.Arguments.{Argument}

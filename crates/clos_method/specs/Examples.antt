@@ -5,7 +5,7 @@ use Rattle.lisp_data.specs.Name.{Name}
 use Rattle.lisp_data.specs.Print.{Specializer, on_class, on_eql}
 use Rattle.lisp_data.specs.Same.{same-Decides}
 use Rattle.lisp_data.specs.Value.{integer}
-use Rattle.lisp_data.specs.ValueCode.{value_code}
+use Rattle.lisp_data.specs.inner.ValueCode.{value_code}
 use Rattle.clos_method.specs.Arguments.{Argument}
 use Rattle.clos_method.specs.Keywords.{accepts_keyword, checks_keywords}
 use Rattle.clos_method.specs.Order.{ordered, placed}

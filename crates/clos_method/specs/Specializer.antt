@@ -6,7 +6,7 @@ use Rattle.std.proofs.Common.{◌⊎◌, inl, inr}
 use Rattle.lisp_data.specs.Keys.{same_value}
 use Rattle.lisp_data.specs.Print.{Specializer, on_class, on_eql}
 use Rattle.lisp_data.specs.Value.{Val, string, list, cons}
-use Rattle.lisp_data.specs.ValueCode.{value_code}
+use Rattle.lisp_data.specs.inner.ValueCode.{value_code}
 use Rattle.lisp_data.specs.ValueView.{value_of}
 use Rattle.clos_method.specs.declared.specializer.Specializer as code
 use Rattle.clos_method.specs.declared.specializer.Specializer.TheVariants.{Class, Eql}

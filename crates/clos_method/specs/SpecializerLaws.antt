@@ -6,7 +6,7 @@ use Rattle.std.specs.Cmp.Lexicographic.{pointwise_decides}
 use Rattle.lisp_data.specs.Print.{Specializer, on_class, on_eql}
 use Rattle.lisp_data.specs.Same.{same-Decides}
 use Rattle.lisp_data.specs.Value.{Val}
-use Rattle.lisp_data.specs.ValueCode.{value_code}
+use Rattle.lisp_data.specs.inner.ValueCode.{value_code}
 use Rattle.clos_method.specs.Specializer.{same_specializer, same_specializers}
 use Rattle.clos_method.specs.Qualifiers.{same_qualifiers}
 

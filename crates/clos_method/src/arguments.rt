@@ -70,7 +70,7 @@ impl<'a> Arguments<'a> {
         let class = class_at(self.class_ids, place)?;
         let value = value_at(self.values, place)?;
         Some(Argument {
-            list: self.classes.precedence_or_none(class),
+            list: self.classes.hierarchy().precedence_or_none(class),
             value,
         })
     }

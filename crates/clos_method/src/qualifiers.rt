@@ -17,7 +17,7 @@ impl Model for Qualifiers {
     ghost use Rattle.std.specs.Prelude.{List};
     ghost use Rattle.std.specs.Coded.{coded_list};
     ghost use Rattle.lisp_data.specs.Value.{Val};
-    ghost use Rattle.lisp_data.specs.ValueCode.{value_code};
+    ghost use Rattle.lisp_data.specs.inner.ValueCode.{value_code};
     ghost use Rattle.clos_method.specs.Qualifiers.{values_in};
 
     ghost Value = { List Val };

@@ -20,7 +20,7 @@ impl Model for SharedNames {
     ghost use Rattle.std.specs.Prelude.{List};
     ghost use Rattle.std.specs.Coded.{coded_list};
     ghost use Rattle.lisp_data.specs.Name.{Name};
-    ghost use Rattle.lisp_data.specs.NameCode.{name_code};
+    ghost use Rattle.lisp_data.specs.inner.NameCode.{name_code};
 
     ghost Value = { List Name };
 

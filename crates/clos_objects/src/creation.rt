@@ -280,7 +280,7 @@ fn invalid(
     ensures { IfOk result (λ c. c ≡ invalid_for (value_of name.now) (class_name (seen world.now).classes class.0)) }
 {
     let name = name.copy()?;
-    match world.classes.name(class) {
+    match world.classes.hierarchy().name(class) {
         None => about(alloc, ConditionKind::InvalidInitarg, name),
         Some(class) => {
             let Ok(class) = value_named(class) else {

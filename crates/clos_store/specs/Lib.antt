@@ -1,3 +1,3 @@
 pub mod Store
-pub mod StoreView
+pub mod inner
 pub mod StoreFault

@@ -25,7 +25,7 @@ impl Model for Instance {
     ghost use Rattle.std.specs.Prelude.{◌≡◌, length};
     ghost use Rattle.std.specs.List.{zip};
     ghost use Rattle.clos_store.specs.Store.{Object};
-    ghost use Rattle.clos_store.specs.StoreView.{object_code};
+    ghost use Rattle.clos_store.specs.inner.StoreCode.{object_code};
 
     ghost Value = { Object };
 

@@ -15,7 +15,7 @@ impl Model for Slot {
     ghost use Rattle.std.specs.Prelude.{Option, option_map};
     ghost use Rattle.std.specs.Coded.{coded_option};
     ghost use Rattle.lisp_data.specs.Value.{Val};
-    ghost use Rattle.lisp_data.specs.ValueCode.{value_code};
+    ghost use Rattle.lisp_data.specs.inner.ValueCode.{value_code};
 
     ghost Value = { Option Val };
 

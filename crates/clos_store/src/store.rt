@@ -30,7 +30,7 @@ pub struct Store {
 impl Model for Store {
     ghost use Rattle.std.specs.Prelude.{◌≤◌, ◌+◌, vec_len, vec_capacity};
     ghost use Rattle.clos_store.specs.Store.{Contents};
-    ghost use Rattle.clos_store.specs.StoreView.{contents_code};
+    ghost use Rattle.clos_store.specs.inner.StoreCode.{contents_code};
 
     ghost Value = { Contents };
 

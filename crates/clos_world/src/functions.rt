@@ -26,7 +26,7 @@ impl Model for Functions {
     ghost use Rattle.std.specs.Prelude.{List};
     ghost use Rattle.std.specs.Coded.{coded_list, coded×};
     ghost use Rattle.lisp_data.specs.Name.{Name};
-    ghost use Rattle.lisp_data.specs.NameCode.{name_code};
+    ghost use Rattle.lisp_data.specs.inner.NameCode.{name_code};
     ghost use Rattle.clos_world.specs.declared.functions.Function.{Function};
     ghost use Rattle.clos_world.specs.contracts.functions.Function as function;
 

@@ -18,9 +18,9 @@ impl Model for Globals {
     ghost use Rattle.std.specs.Prelude.{List, Option, map};
     ghost use Rattle.std.specs.Coded.{coded_list, coded×, coded_option};
     ghost use Rattle.lisp_data.specs.Name.{Name};
-    ghost use Rattle.lisp_data.specs.NameCode.{name_code};
+    ghost use Rattle.lisp_data.specs.inner.NameCode.{name_code};
     ghost use Rattle.lisp_data.specs.Value.{Val};
-    ghost use Rattle.lisp_data.specs.ValueCode.{value_code};
+    ghost use Rattle.lisp_data.specs.inner.ValueCode.{value_code};
 
     ghost Value = { List (Name × Option Val) };
 

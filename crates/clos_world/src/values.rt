@@ -22,7 +22,7 @@ impl Model for Values {
     ghost use Rattle.std.specs.Prelude.{List, map};
     ghost use Rattle.std.specs.Coded.{coded_list};
     ghost use Rattle.lisp_data.specs.Value.{Val};
-    ghost use Rattle.lisp_data.specs.ValueCode.{value_code};
+    ghost use Rattle.lisp_data.specs.inner.ValueCode.{value_code};
 
     ghost Value = { List Val };
 

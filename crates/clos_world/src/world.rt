@@ -75,7 +75,7 @@ impl World {
                 None => numbers::NULL,
                 Some(_) => numbers::CONS,
             },
-            Value::Class(id) => self.classes.class_of_class(*id),
+            Value::Class(id) => self.classes.hierarchy().class_of_class(*id),
             Value::Generic(_) => numbers::STANDARD_GENERIC_FUNCTION,
             Value::Method(_) => numbers::STANDARD_METHOD,
             Value::Instance(id) => match self.instance_class(*id) {
@@ -108,7 +108,7 @@ impl Naming for World {
     ghost names = { λ w. names_of (seen w) };
 
     fn class_name(&self, id: ClassId) -> Option<&Name> {
-        self.classes.name(id)
+        self.classes.hierarchy().name(id)
     }
 
     fn generic_name(&self, id: GenericId) -> Option<FunctionName<'_>> {

@@ -3,9 +3,9 @@ use Rattle.std.proofs.Common.{◌≡◌, ◌↔◌, Bool}
 use Rattle.std.specs.Prelude.{IsTrue}
 use Rattle.std.specs.Bool.{one_answer}
 use Rattle.lisp_data.specs.Value.{Val}
-use Rattle.lisp_data.specs.ValueCode.{value_code}
+use Rattle.lisp_data.specs.inner.ValueCode.{value_code}
 use Rattle.lisp_data.specs.Datum.{Dat}
-use Rattle.lisp_data.specs.DatumCode.{datum_code}
+use Rattle.lisp_data.specs.inner.DatumCode.{datum_code}
 use Rattle.lisp_data.specs.Keys.{same_value, same_datum}
 use Rattle.lisp_data.specs.Same.{same-Decides}
 

@@ -7,9 +7,9 @@ use Rattle.std.specs.Str.{bytes_eq}
 use Rattle.std.proofs.lemmas.Slice.Eq.{bytes_eq-Decides}
 use Rattle.lisp_data.specs.Name.{Name, same_kind, same_name}
 use Rattle.lisp_data.specs.Value.{Val}
-use Rattle.lisp_data.specs.ValueCode.{value_code}
+use Rattle.lisp_data.specs.inner.ValueCode.{value_code}
 use Rattle.lisp_data.specs.Datum.{Dat}
-use Rattle.lisp_data.specs.DatumCode.{datum_code}
+use Rattle.lisp_data.specs.inner.DatumCode.{datum_code}
 use Rattle.lisp_data.specs.Keys.{same_value, same_datum, value_writes, datum_writes, name_writes}
 use Rattle.lisp_data.specs.Same.{both_so, same-Decides}
 

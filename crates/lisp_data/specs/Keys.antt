@@ -6,10 +6,10 @@ use Rattle.std.specs.Hash.FoldHasher as folding
 use Rattle.lisp_data.specs.Name.{Name}
 use Rattle.lisp_data.specs.Value as of_value
 use Rattle.lisp_data.specs.Value.{Val}
-use Rattle.lisp_data.specs.ValueCode.{value_code}
+use Rattle.lisp_data.specs.inner.ValueCode.{value_code}
 use Rattle.lisp_data.specs.Datum as of_datum
 use Rattle.lisp_data.specs.Datum.{Dat}
-use Rattle.lisp_data.specs.DatumCode.{datum_code}
+use Rattle.lisp_data.specs.inner.DatumCode.{datum_code}
 use Rattle.lisp_data.specs.Same.{same}
 
 -- whether both are one value

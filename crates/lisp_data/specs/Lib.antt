@@ -1,12 +1,11 @@
 pub mod Limits
 pub mod Name
-pub mod NameCode
+pub mod Numbers
+pub mod inner
 pub mod NameView
 pub mod Value
-pub mod ValueCode
 pub mod ValueView
 pub mod Datum
-pub mod DatumCode
 pub mod DatumView
 pub mod Same
 pub mod Keys

@@ -87,7 +87,7 @@ struct Pair {
 impl Model for Data {
     ghost use Rattle.std.specs.Prelude.{◌≡◌, ◌≤◌};
     ghost use Rattle.lisp_data.specs.Datum.{Dats, size_of_data, length_of, nesting_in};
-    ghost use Rattle.lisp_data.specs.DatumCode.{data_code};
+    ghost use Rattle.lisp_data.specs.inner.DatumCode.{data_code};
     ghost use Rattle.lisp_data.specs.Limits.{most_nesting};
 
     ghost Value = { Dats };
@@ -107,7 +107,7 @@ impl Model for Data {
 impl Model for Dot {
     ghost use Rattle.std.specs.Prelude.{◌≡◌, ◌≤◌, ◌+◌, max};
     ghost use Rattle.lisp_data.specs.Datum.{size_of_dot, nesting_of, nesting_in};
-    ghost use Rattle.lisp_data.specs.DatumCode.{dot_code};
+    ghost use Rattle.lisp_data.specs.inner.DatumCode.{dot_code};
     ghost use Rattle.lisp_data.specs.Limits.{most_nesting};
     ghost use Rattle.lisp_data.specs.Datum as of;
 

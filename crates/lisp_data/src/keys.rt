@@ -1,5 +1,4 @@
 //! Names, values and data compared by `==`, and as keys of maps.
-ghost use Rattle.std.specs.Prelude.{◌≡◌};
 ghost use Rattle.std.specs.Cmp.{on_equiv, partial_equiv_from_equiv};
 ghost use Rattle.lisp_data.specs.DatumView.{datum_of};
 ghost use Rattle.lisp_data.specs.Keys.{same_value, same_datum, name_writes, value_writes, datum_writes};

@@ -39,7 +39,7 @@ impl Drop for Name {
 
 impl Model for Name {
     ghost use Rattle.lisp_data.specs.Name.{Name};
-    ghost use Rattle.lisp_data.specs.NameCode.{name_code};
+    ghost use Rattle.lisp_data.specs.inner.NameCode.{name_code};
 
     ghost Value = { Name };
 

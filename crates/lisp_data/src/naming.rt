@@ -1,6 +1,6 @@
 //! What a session tells of its classes, generic functions, methods and instances, so that they print.
 ghost use Rattle.std.specs.Prelude.{◌≡◌, option_copied, option_map, slice_get};
-ghost use Rattle.lisp_data.specs.Print.{Names, MethodParts, qualifiers_of, specializers_of};
+ghost use Rattle.lisp_data.specs.Print.{Names, qualifiers_of, specializers_of};
 ghost use Rattle.lisp_data.specs.PrintView.{called, specializer_told, number_of_class, number_of_generic};
 ghost use Rattle.lisp_data.specs.ValueView.{value_of};
 

@@ -1,5 +1,5 @@
 //! How values print (HyperSpec 22.1.3).
-ghost use Rattle.std.specs.Prelude.{◌≡◌, ◌++◌, ◌+◌, Bool, true, false, IfOk, OnOk, map, option_copied, option_map, codes, MatchOption, length};
+ghost use Rattle.std.specs.Prelude.{◌≡◌, ◌++◌, ◌+◌, Bool, true, false, IfOk, OnOk, option_copied, option_map, codes, MatchOption, length};
 ghost use Rattle.lisp_data.specs.ValueView.{value_of};
 ghost use Rattle.lisp_data.specs.Print.{Names, name_text, known_text, called_text, string_text, list_text, spaced, text_of, text_with, texts_with};
 ghost use Rattle.lisp_data.specs.Print.{instance_text, specializer_text, methods_within};

@@ -80,7 +80,7 @@ struct Pair {
 
 impl Model for Items {
     ghost use Rattle.lisp_data.specs.Value.{Vals, size_of_values, IsWithinLimits};
-    ghost use Rattle.lisp_data.specs.ValueCode.{values_code};
+    ghost use Rattle.lisp_data.specs.inner.ValueCode.{values_code};
 
     ghost Value = { Vals };
 

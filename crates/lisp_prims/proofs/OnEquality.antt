@@ -6,7 +6,7 @@ use Rattle.lisp_data.specs.Equality.{is_by_object}
 use Rattle.lisp_data.specs.Keys.{same_value}
 use Rattle.lisp_data.specs.Same.{same-Decides}
 use Rattle.lisp_data.specs.Value.{Val}
-use Rattle.lisp_data.specs.ValueCode.{value_code}
+use Rattle.lisp_data.specs.inner.ValueCode.{value_code}
 use Rattle.lisp_prims.specs.Predicates.{eql_of}
 
 pub eql_found : (v w : Val) (r : Bool) → false ≡ is_by_object v w → (IsTrue r ↔ (v ≡ w)) → eql_of (v, w) ≡ Ok r

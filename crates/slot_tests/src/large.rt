@@ -69,7 +69,7 @@ fn slots_of_last(alloc: Global, shape: Shape, count: u64) -> Result<Option<usize
     }
     classes.define(alloc, &definition(alloc, shape, 0)?, &[])?;
     let last = name(alloc, count.saturating_sub(1))?;
-    let layout = match classes.named(&last) {
+    let layout = match classes.hierarchy().named(&last) {
         Some(class) => classes.layout(class),
         None => None,
     };

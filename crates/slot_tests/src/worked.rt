@@ -146,7 +146,7 @@ fn write_form(
 fn write_names(line: &mut String, classes: &Classes, list: &[ClassId]) -> Result<(), AllocError> {
     for class in list {
         line.push(' ')?;
-        if let Some(name) = classes.name(*class) {
+        if let Some(name) = classes.hierarchy().name(*class) {
             line.push_str(name.as_str())?;
         }
     }
@@ -247,7 +247,7 @@ fn write_slots(
     classes: &Classes,
     name: &Name,
 ) -> Result<(), AllocError> {
-    let Some(class) = classes.named(name) else {
+    let Some(class) = classes.hierarchy().named(name) else {
         return line.push_str(" undefined");
     };
     match classes.effective(class) {
@@ -263,7 +263,7 @@ fn write_class(
     classes: &Classes,
     name: &Name,
 ) -> Result<(), AllocError> {
-    let Some(class) = classes.named(name) else {
+    let Some(class) = classes.hierarchy().named(name) else {
         return line.push_str(" undefined");
     };
     match classes.layout(class) {
@@ -413,7 +413,7 @@ fn held_slots_stay(rt: HostRuntime) -> Result<(), Fail> {
     if let Some(first) = definition(alloc, first)? {
         define(alloc, &mut line, &mut classes, &first, &mut made)?;
     }
-    let held = match classes.named(&Name::fixed(&"A")) {
+    let held = match classes.hierarchy().named(&Name::fixed(&"A")) {
         None => None,
         Some(class) => match classes.effective(class) {
             None => None,

@@ -1,6 +1,6 @@
 use Rattle.std.proofs.Common.{◌≡◌, length}
 use Rattle.clos_precedence.specs.PrecedenceView.{numbers}
-use Rattle.clos_class.specs.Building.{with_names}
+use Rattle.clos_class.specs.inner.Building.{with_names}
 use Rattle.clos_class.specs.Slots.{accessible}
 use Rattle.clos_class.specs.SlotsView.{slots_in}
 use Rattle.clos_class.proofs.Built.{all_names}

@@ -1,7 +1,7 @@
 use Rattle.std.proofs.Common.{◌≡◌, length}
 use Rattle.std.specs.List.{filter, list_any}
 use Rattle.lisp_data.specs.Name.{same_name}
-use Rattle.clos_class.specs.Building.{with_names}
+use Rattle.clos_class.specs.inner.Building.{with_names}
 use Rattle.clos_class.specs.Slots.{names}
 use Rattle.clos_class.proofs.cells.add_among.Given as goal
 

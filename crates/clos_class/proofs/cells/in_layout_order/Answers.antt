@@ -2,7 +2,7 @@ use Rattle.std.proofs.Common.{refl, ap, sym, ◌∙◌}
 use Rattle.std.specs.List.{filter, list_any}
 use Rattle.lisp_data.specs.Name.{same_name}
 use Rattle.clos_precedence.specs.PrecedenceView.{latest_first}
-use Rattle.clos_class.specs.Building.{with_names}
+use Rattle.clos_class.specs.inner.Building.{with_names}
 use Rattle.clos_class.specs.Slots.{names}
 use Rattle.clos_class.specs.SlotsView.{slots_in}
 use Rattle.clos_class.proofs.Built.{all_names}

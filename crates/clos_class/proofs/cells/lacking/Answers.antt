@@ -2,7 +2,7 @@ use Rattle.std.proofs.Common.{◌||◌, ap, sym, ◌∙◌}
 use Rattle.std.specs.HashMap.{get}
 use Rattle.std.specs.List.{list_any}
 use Rattle.lisp_data.specs.Name.{same_name}
-use Rattle.clos_class.specs.Building.{with_name}
+use Rattle.clos_class.specs.inner.Building.{with_name}
 use Rattle.clos_class.specs.Slots.{cell_in}
 use Rattle.clos_class.specs.Table.{needs_cell}
 use Rattle.clos_class.proofs.Needed.{one_lacking}

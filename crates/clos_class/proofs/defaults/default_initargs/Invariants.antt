@@ -3,7 +3,7 @@ use Rattle.std.specs.List.{flat_map}
 use Rattle.clos_precedence.specs.PrecedenceView.{numbers}
 use Rattle.clos_class.specs.Slots.{default_initargs}
 use Rattle.clos_class.specs.SlotsView.{defaults_in}
-use Rattle.clos_class.specs.Building.{completed}
+use Rattle.clos_class.specs.inner.Building.{completed}
 use Rattle.clos_class.proofs.defaults.default_initargs.Given as goal
 
 abbrev pub invariant-loop-class : goal.invariant-loop-class

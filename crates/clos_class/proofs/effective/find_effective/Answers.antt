@@ -4,7 +4,7 @@ use Rattle.lisp_data.specs.Name.{Name, same_name}
 use Rattle.clos_forms.specs.Form.{Form}
 use Rattle.clos_class.specs.declared.direct.SlotAllocation.{SlotAllocation}
 use Rattle.clos_class.specs.declared.effective_slots.Specified.{Specified}
-use Rattle.clos_class.specs.Building.{no_slots, or_no_names, slot_by, with_slots}
+use Rattle.clos_class.specs.inner.Building.{no_slots, or_no_names, slot_by, with_slots}
 use Rattle.clos_class.specs.SlotsView.{defaults_in, slots_in}
 use Rattle.clos_class.proofs.Combined.{is_effective, own_names}
 use Rattle.clos_class.proofs.effective.find_effective.Goals as goal

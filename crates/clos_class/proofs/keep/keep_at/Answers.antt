@@ -2,7 +2,7 @@ use Rattle.std.proofs.Common.{◌≡◌, false, ◌==◌, Some, ap, sym, subst, 
 use Rattle.std.specs.Prelude.{option_copied, slice_get}
 use Rattle.clos_precedence.specs.Precedence.{has}
 use Rattle.clos_precedence.specs.PrecedenceView.{numbers}
-use Rattle.clos_class.specs.Keeping.{Tells, lists_of, lists_then}
+use Rattle.clos_class.specs.inner.Keeping.{Tells, lists_of, lists_then}
 use Rattle.clos_class.specs.SlotsView.{defaults, direct_slots, or_said}
 use Rattle.clos_class.specs.Table.{with_row}
 use Rattle.clos_class.proofs.Alike.{neither, touched, untouched}

@@ -1,5 +1,5 @@
 use Rattle.std.proofs.Common.{arith}
-use Rattle.clos_class.specs.Keeping.{Tells, lists_of}
+use Rattle.clos_class.specs.inner.Keeping.{Tells, lists_of}
 use Rattle.clos_class.specs.SlotsView.{defaults, direct_slots}
 use Rattle.clos_precedence.specs.PrecedenceView.{numbers}
 use Rattle.clos_class.proofs.Alike.{seen}

@@ -1,5 +1,5 @@
 use Rattle.std.proofs.Common.{arith}
-use Rattle.clos_class.specs.Keeping.{Tells, lists_then}
+use Rattle.clos_class.specs.inner.Keeping.{Tells, lists_then}
 use Rattle.clos_class.specs.SlotsView.{defaults, direct_slots}
 use Rattle.clos_class.specs.Table.{with_row}
 use Rattle.clos_class.proofs.Lasting.{longer, one_kept}

@@ -1,5 +1,5 @@
 use Rattle.std.proofs.Common.{◌≡◌, ℕ, ◌<◌, ◌≤◌, ◌-◌, length}
-use Rattle.clos_class.specs.Keeping.{Tells, kept_at, lists_then}
+use Rattle.clos_class.specs.inner.Keeping.{Tells, kept_at, lists_then}
 use Rattle.clos_class.specs.SlotsView.{defaults, direct_slots}
 use Rattle.clos_class.specs.Table.{with_row}
 use Rattle.clos_class.proofs.keep.keep_then.Given as goal

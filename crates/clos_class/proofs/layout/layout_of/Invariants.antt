@@ -1,7 +1,7 @@
 use Rattle.std.proofs.Common.{◌≡◌, length}
 use Rattle.std.specs.HashMap.{get}
 use Rattle.lisp_data.specs.Name.{same_name}
-use Rattle.clos_class.specs.Building.{no_slots, with_slots}
+use Rattle.clos_class.specs.inner.Building.{no_slots, with_slots}
 use Rattle.clos_class.proofs.layout.layout_of.Given as goal
 
 abbrev pub invariant-loop-name : goal.invariant-loop-name

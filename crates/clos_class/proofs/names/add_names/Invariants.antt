@@ -1,5 +1,5 @@
 use Rattle.std.proofs.Common.{◌≡◌, length}
-use Rattle.clos_class.specs.Building.{with_names}
+use Rattle.clos_class.specs.inner.Building.{with_names}
 use Rattle.clos_class.proofs.names.add_names.Given as goal
 
 abbrev pub invariant-loop-name : goal.invariant-loop-name

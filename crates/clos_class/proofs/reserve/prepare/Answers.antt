@@ -1,7 +1,7 @@
 use Rattle.std.proofs.Common.{◌<◌, length, ap, sym, subst, ◌∙◌}
 use Rattle.clos_hierarchy.specs.Classes.{list_in, listing}
 use Rattle.clos_precedence.specs.PrecedenceView.{numbers}
-use Rattle.clos_class.specs.Keeping.{Stays}
+use Rattle.clos_class.specs.inner.Keeping.{Stays}
 use Rattle.clos_class.specs.Table.{cell_for, classes_with, new_cells, number, own_cell, said}
 use Rattle.clos_class.proofs.Preparing.{kept_then, known, so_many, stay}
 use Rattle.clos_class.proofs.reserve.prepare.Goals as goal

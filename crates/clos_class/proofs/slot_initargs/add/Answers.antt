@@ -1,7 +1,7 @@
 use Rattle.std.proofs.Common.{ap, ◌∙◌}
 use Rattle.std.specs.HashMap.{get}
 use Rattle.lisp_data.specs.Name.{same_name}
-use Rattle.clos_class.specs.Building.{with_names}
+use Rattle.clos_class.specs.inner.Building.{with_names}
 use Rattle.clos_class.proofs.Gathered.{one_slot}
 use Rattle.clos_class.proofs.slot_initargs.add.Goals as goal
 

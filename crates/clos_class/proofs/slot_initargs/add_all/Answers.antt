@@ -3,7 +3,7 @@ use Rattle.std.specs.HashMap.{get}
 use Rattle.std.specs.List.{flat_map}
 use Rattle.lisp_data.specs.Name.{same_name}
 use Rattle.clos_class.specs.Slots.{called}
-use Rattle.clos_class.specs.Building.{or_no_names, with_names}
+use Rattle.clos_class.specs.inner.Building.{or_no_names, with_names}
 use Rattle.clos_class.proofs.Added.{more_initargs}
 use Rattle.clos_class.proofs.slot_initargs.add_all.Goals as goal
 

@@ -3,7 +3,7 @@ use Rattle.std.specs.HashMap.{get}
 use Rattle.std.specs.List.{flat_map}
 use Rattle.lisp_data.specs.Name.{Name, same_name}
 use Rattle.clos_class.specs.Slots.{called}
-use Rattle.clos_class.specs.Building.{or_no_names, with_names}
+use Rattle.clos_class.specs.inner.Building.{or_no_names, with_names}
 use Rattle.clos_class.proofs.slot_initargs.add_all.Given as goal
 
 abbrev pub invariant-loop-slot : goal.invariant-loop-slot

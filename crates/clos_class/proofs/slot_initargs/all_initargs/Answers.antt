@@ -5,7 +5,7 @@ use Rattle.lisp_data.specs.Name.{same_name}
 use Rattle.clos_precedence.specs.PrecedenceView.{numbers}
 use Rattle.clos_class.specs.Slots.{called, specifiers}
 use Rattle.clos_class.specs.SlotsView.{slots_in}
-use Rattle.clos_class.specs.Building.{or_no_names, with_names}
+use Rattle.clos_class.specs.inner.Building.{or_no_names, with_names}
 use Rattle.clos_class.proofs.Added.{more_initargs}
 use Rattle.clos_class.proofs.Gathered.{from_none}
 use Rattle.clos_class.proofs.slot_initargs.all_initargs.Goals as goal

@@ -5,7 +5,7 @@ use Rattle.lisp_data.specs.Name.{Name, same_name}
 use Rattle.clos_precedence.specs.PrecedenceView.{numbers}
 use Rattle.clos_class.specs.Slots.{initargs, specifiers}
 use Rattle.clos_class.specs.SlotsView.{slots_in}
-use Rattle.clos_class.specs.Building.{or_no_names, with_names}
+use Rattle.clos_class.specs.inner.Building.{or_no_names, with_names}
 use Rattle.clos_class.proofs.slot_initargs.all_initargs.Given as goal
 
 abbrev pub invariant-loop-class : goal.invariant-loop-class

@@ -1,5 +1,5 @@
 use Rattle.std.proofs.Common.{◌≡◌, take, map}
-use Rattle.clos_generic.specs.Reserved.{ids_of}
+use Rattle.clos_generic.specs.inner.Reserved.{ids_of}
 use Rattle.clos_generic.proofs.spare.functions_of.Given as goal
 
 abbrev pub invariant-loop-addition : goal.invariant-loop-addition

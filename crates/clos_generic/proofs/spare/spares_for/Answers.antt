@@ -1,7 +1,7 @@
 use Rattle.std.proofs.Common.{rules, arith, subst, sym}
 use Rattle.std.specs.Prelude.{slice_get}
 use Rattle.std.proofs.lemmas.Grind.{common_steps}
-use Rattle.clos_generic.specs.Reserved.{HasSpare}
+use Rattle.clos_generic.specs.inner.Reserved.{HasSpare}
 use Rattle.clos_generic.proofs.Rooms.{spare_pushed}
 use Rattle.clos_generic.proofs.spare.spares_for.Goals as goal
 

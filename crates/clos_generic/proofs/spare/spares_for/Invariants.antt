@@ -1,6 +1,6 @@
 use Rattle.std.proofs.Common.{◌≡◌, ℕ, take, map}
 use Rattle.std.specs.Prelude.{slice_get}
-use Rattle.clos_generic.specs.Reserved.{HasSpare, keys_of}
+use Rattle.clos_generic.specs.inner.Reserved.{HasSpare, keys_of}
 use Rattle.clos_generic.proofs.spare.spares_for.Given as goal
 
 abbrev pub invariant-loop-definition : goal.invariant-loop-definition

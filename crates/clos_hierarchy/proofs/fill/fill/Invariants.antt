@@ -1,4 +1,4 @@
-use Rattle.clos_hierarchy.specs.Kept.{Adds, Progress, lacking_in}
+use Rattle.clos_hierarchy.specs.inner.Kept.{Adds, Progress, lacking_in}
 use Rattle.clos_hierarchy.proofs.fill.fill.Given as goal
 
 abbrev pub invariant-loop : goal.invariant-loop

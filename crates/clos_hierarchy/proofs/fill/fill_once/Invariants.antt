@@ -1,5 +1,5 @@
 use Rattle.std.proofs.Common.{◌≡◌, ◌<◌, ◌-◌, ℕ, length}
-use Rattle.clos_hierarchy.specs.Kept.{Ends, Filled}
+use Rattle.clos_hierarchy.specs.inner.Kept.{Ends, Filled}
 use Rattle.clos_hierarchy.proofs.fill.fill_once.Given as goal
 
 abbrev pub invariant-loop-place : goal.invariant-loop-place

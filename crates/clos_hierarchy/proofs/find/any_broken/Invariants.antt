@@ -1,7 +1,7 @@
 use Rattle.std.proofs.Common.{◌≡◌, length}
-use Rattle.clos_hierarchy.specs.Finding.{any_broken}
+use Rattle.clos_hierarchy.specs.inner.Finding.{any_broken}
 use Rattle.clos_precedence.specs.PrecedenceView.{numbers}
-use Rattle.clos_hierarchy.specs.KeptView.{listing_at}
+use Rattle.clos_hierarchy.specs.inner.KeptView.{listing_at}
 use Rattle.clos_hierarchy.proofs.find.any_broken.Given as goal
 
 abbrev pub invariant-loop-class : goal.invariant-loop-class

@@ -1,7 +1,7 @@
 use Rattle.std.proofs.Common.{◌∷◌}
-use Rattle.clos_hierarchy.specs.Finding.{together}
+use Rattle.clos_hierarchy.specs.inner.Finding.{together}
 use Rattle.clos_precedence.specs.PrecedenceView.{numbers}
-use Rattle.clos_hierarchy.specs.KeptView.{listing_at}
+use Rattle.clos_hierarchy.specs.inner.KeptView.{listing_at}
 use Rattle.clos_hierarchy.proofs.SameFamily.{family_end}
 use Rattle.clos_hierarchy.proofs.find.family.Goals as goal
 

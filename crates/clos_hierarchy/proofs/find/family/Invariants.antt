@@ -1,8 +1,8 @@
 use Rattle.std.proofs.Common.{◌≡◌, ◌||◌, ◌∷◌, ℕ, length}
 use Rattle.clos_precedence.specs.Precedence.{has}
-use Rattle.clos_hierarchy.specs.Finding.{together}
+use Rattle.clos_hierarchy.specs.inner.Finding.{together}
 use Rattle.clos_precedence.specs.PrecedenceView.{numbers}
-use Rattle.clos_hierarchy.specs.KeptView.{listing_at}
+use Rattle.clos_hierarchy.specs.inner.KeptView.{listing_at}
 use Rattle.clos_hierarchy.proofs.find.family.Given as goal
 
 abbrev pub invariant-loop-superclass : goal.invariant-loop-superclass

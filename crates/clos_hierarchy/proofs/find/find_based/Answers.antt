@@ -1,7 +1,7 @@
 use Rattle.std.proofs.Common.{subst}
-use Rattle.clos_hierarchy.specs.Kept.{IsSingle}
+use Rattle.clos_hierarchy.specs.inner.Kept.{IsSingle}
 use Rattle.clos_precedence.specs.PrecedenceView.{numbers}
-use Rattle.clos_hierarchy.specs.KeptView.{listing_of, listing_at}
+use Rattle.clos_hierarchy.specs.inner.KeptView.{listing_of, listing_at}
 use Rattle.clos_hierarchy.proofs.Single.{one_based}
 use Rattle.clos_hierarchy.proofs.find.find_based.Goals as goal
 

@@ -1,10 +1,10 @@
 use Rattle.std.proofs.Common.{◌≡◌, ◌∷◌, false, sym, subst, ◌∙◌}
 use Rattle.std.proofs.lemmas.Result.{IfOk-weaker}
-use Rattle.clos_hierarchy.specs.Finding.{any_lacking, any_broken, together}
+use Rattle.clos_hierarchy.specs.inner.Finding.{any_lacking, any_broken, together}
 use Rattle.clos_precedence.specs.Precedence.{precedence_list}
 use Rattle.clos_hierarchy.specs.Classes.{listed_if}
 use Rattle.clos_precedence.specs.PrecedenceView.{numbers}
-use Rattle.clos_hierarchy.specs.KeptView.{listing_of, listing_at, above_by}
+use Rattle.clos_hierarchy.specs.inner.KeptView.{listing_of, listing_at, above_by}
 use Rattle.clos_precedence.proofs.SameMembers.{Same}
 use Rattle.clos_hierarchy.proofs.SameFamily.{family_based}
 use Rattle.clos_hierarchy.proofs.find.find_over.Goals as goal

@@ -1,5 +1,5 @@
 use Rattle.std.proofs.Common.{◌≡◌, ◌-◌, ◌≤◌, length, drop}
-use Rattle.clos_hierarchy.specs.Kept.{Knows}
+use Rattle.clos_hierarchy.specs.inner.Kept.{Knows}
 use Rattle.clos_hierarchy.specs.Table.{broken_from}
 use Rattle.clos_hierarchy.proofs.place.find_broken.Given as goal
 

@@ -1,7 +1,7 @@
 use Rattle.std.proofs.Common.{◌≡◌, length, subst, ◌∙◌}
 use Rattle.clos_precedence.specs.PrecedenceView.{numbers}
-use Rattle.clos_hierarchy.specs.KeptView.{listing_at}
-use Rattle.clos_hierarchy.specs.Finding.{changed_if}
+use Rattle.clos_hierarchy.specs.inner.KeptView.{listing_at}
+use Rattle.clos_hierarchy.specs.inner.Finding.{changed_if}
 use Rattle.clos_hierarchy.proofs.Placing.{changed_is}
 use Rattle.clos_hierarchy.proofs.place.place.Goals as goal
 

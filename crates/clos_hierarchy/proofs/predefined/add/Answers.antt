@@ -1,6 +1,6 @@
 use Rattle.std.proofs.Common.{subst}
 use Rattle.clos_hierarchy.specs.Classes.{Classes}
-use Rattle.clos_hierarchy.specs.Kept.{Changes, Knows}
+use Rattle.clos_hierarchy.specs.inner.Kept.{Changes, Knows}
 use Rattle.clos_hierarchy.proofs.Listed.{added}
 use Rattle.clos_hierarchy.proofs.predefined.add.Goals as goal
 

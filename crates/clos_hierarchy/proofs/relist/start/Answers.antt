@@ -1,5 +1,5 @@
 use Rattle.std.proofs.Common.{◌≡◌, ◌+◌, [], ◌∷◌, ◌++◌, length, arith, sym, subst}
-use Rattle.clos_hierarchy.specs.Kept.{RestartsBelow}
+use Rattle.clos_hierarchy.specs.inner.Kept.{RestartsBelow}
 use Rattle.clos_hierarchy.proofs.Relisted.{IfKnown, restarts_on, restarts_last, longer_by_one}
 use Rattle.clos_hierarchy.proofs.relist.start.Goals as goal
 

@@ -1,5 +1,5 @@
 use Rattle.std.proofs.Common.{◌≡◌, ◌-◌, ◌≤◌, length}
-use Rattle.clos_hierarchy.specs.Kept.{Knows, RestartsBelow}
+use Rattle.clos_hierarchy.specs.inner.Kept.{Knows, RestartsBelow}
 use Rattle.clos_hierarchy.specs.Classes.{Classes}
 use Rattle.clos_hierarchy.proofs.relist.start.Given as goal
 

@@ -1,7 +1,7 @@
 use Rattle.std.proofs.Common.{◌≡◌, ◌++◌, length, map}
 use Rattle.std.specs.HashMap.{get}
 use Rattle.lisp_data.specs.Name.{same_name}
-use Rattle.clos_class.specs.Building.{or_no_names, slot_by}
+use Rattle.clos_class.specs.inner.Building.{or_no_names, slot_by}
 use Rattle.clos_class.proofs.effective_slots.Specified.slots.Given as goal
 
 abbrev pub invariant-loop-name : goal.invariant-loop-name

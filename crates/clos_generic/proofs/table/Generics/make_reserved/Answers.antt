@@ -5,7 +5,7 @@ use Rattle.std.specs.HashMap.{get, spare}
 use Rattle.std.proofs.lemmas.List.{length-map}
 use Rattle.lisp_data.specs.Name.{same_name}
 use Rattle.clos_forms.specs.declared.operator.FunctionName.TheVariants.{Symbol, Setf}
-use Rattle.clos_generic.specs.Reserved.{HasSpare}
+use Rattle.clos_generic.specs.inner.Reserved.{HasSpare}
 use Rattle.clos_generic.specs.Table.{after_first, same_function}
 use Rattle.clos_generic.specs.TableView.{function_of, functions_in, noted}
 use Rattle.clos_generic.specs.declared.spare.Spare.{Spare}

@@ -2,7 +2,7 @@ use Rattle.std.proofs.Common.{◌≡◌, ap, ◌∙◌, sym, length, subst, arit
 use Rattle.std.specs.Prelude.{option_map, slice_get}
 use Rattle.std.proofs.lemmas.List.{length-map}
 use Rattle.clos_forms.specs.declared.operator.FunctionName.TheVariants.{Symbol, Setf}
-use Rattle.clos_generic.specs.Reserved.{HasSpare}
+use Rattle.clos_generic.specs.inner.Reserved.{HasSpare}
 use Rattle.clos_generic.specs.Table.{named_in}
 use Rattle.clos_generic.specs.TableView.{functions_in}
 use Rattle.clos_generic.proofs.Rooms.{room_less}

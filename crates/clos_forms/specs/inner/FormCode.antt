@@ -5,7 +5,7 @@ use Rattle.std.proofs.Common.{inl, inr, ◌∙◌, ap}
 use base.Stored.{coded_unit}
 use Rattle.clos_forms.specs.Form.{Form, form, Forms, nil, cons}
 use Rattle.clos_forms.specs.Operator.{Operator, no_value}
-use Rattle.clos_forms.specs.OperatorCode.{operator_code}
+use Rattle.clos_forms.specs.inner.OperatorCode.{operator_code}
 
 abbrev pub Token : Type 0
 Token = Operator ⊎ (Unit {0} ⊎ Unit {0})

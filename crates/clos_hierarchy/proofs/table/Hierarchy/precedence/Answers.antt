@@ -1,11 +1,11 @@
 use Rattle.std.proofs.Common.{◌≡◌, ◌↔◌, ℕ, true, option_map, IfSome, IsNone, ap, subst, ◌∙◌}
 use Rattle.clos_precedence.specs.Precedence.{has}
 use Rattle.clos_precedence.specs.PrecedenceView.{numbers}
-use Rattle.clos_hierarchy.specs.KeptView.{listing_at}
+use Rattle.clos_hierarchy.specs.inner.KeptView.{listing_at}
 use Rattle.clos_hierarchy.specs.Table.{list_if}
 use Rattle.clos_hierarchy.specs.Ways.{IsSuperclass, IsSelfOrAbove, IsIncomplete}
 use Rattle.clos_hierarchy.proofs.Consistent.{no_list_told, members_told}
-use Rattle.clos_hierarchy.proofs.table.Classes.precedence.Goals as goal
+use Rattle.clos_hierarchy.proofs.table.Hierarchy.precedence.Goals as goal
 
 told : (c : goal.After-listed) → option_map (λ l. numbers l.now) c.listed.result ≡ list_if (listing_at c.self.inside.kept.items c.args.class.0)
 told c = c.listed.ensures ∙ ap (λ v. list_if (listing_at v c.args.class.0)) c.as_slice.ensures.value

@@ -4,10 +4,10 @@ use Rattle.std.specs.Coded.{Coded, code_by, coded×, coded⊎, coded_bool, coded
 use Rattle.std.proofs.Common.{inl, inr}
 use base.Stored.{coded_unit}
 use Rattle.lisp_data.specs.Name.{Name}
-use Rattle.lisp_data.specs.NameCode.{name_code}
+use Rattle.lisp_data.specs.inner.NameCode.{name_code}
 use Rattle.lisp_data.specs.Print.{Called, by_symbol, by_setf}
 use Rattle.lisp_data.specs.Value.{Val}
-use Rattle.lisp_data.specs.ValueCode.{value_code}
+use Rattle.lisp_data.specs.inner.ValueCode.{value_code}
 use Rattle.clos_forms.specs.Operator.{Bound, BoundSlot, Callable, the_method, made, Place, variable_place, slot_value_place, call_place, Operator, constant, no_value, variable, function, if_form, cond, clause, when, unless, and_form, or_form, progn, prog1, let_form, let_in_order, setq, setf, incf, decf, place, dotimes, with_slots, call_next_method, next_method_p, call, call_method}
 
 abbrev pub bounds_code : Coded (List Bound)

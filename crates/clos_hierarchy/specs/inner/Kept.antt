@@ -7,7 +7,7 @@ use Rattle.clos_hierarchy.specs.declared.kept.Kept.{Kept}
 use Rattle.clos_precedence.specs.Precedence.{has}
 use Rattle.clos_hierarchy.specs.Classes.{Classes, Listing, lacking, broken, listed, found, superclasses, is_lacking, is_broken, listing_within, listing, named, names_above}
 use Rattle.clos_hierarchy.specs.Ways.{IsSuperclass, IsWhole}
-use Rattle.clos_hierarchy.specs.KeptView.{listing_of, listing_at, kept_above, kept_at}
+use Rattle.clos_hierarchy.specs.inner.KeptView.{listing_of, listing_at, kept_above, kept_at}
 
 -- what the classes were before this one came last, or got these direct superclasses in place of others
 abbrev pub WasBefore : Option (Vec Name Global) → Classes → Classes → ℕ → Name → List Name → Type 0

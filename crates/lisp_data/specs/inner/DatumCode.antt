@@ -4,7 +4,7 @@ use Rattle.std.specs.Coded.{Coded, code_by, coded×, coded⊎, coded_list, coded
 use Rattle.std.proofs.Common.{inl, inr, ◌∙◌, ap}
 use base.Stored.{coded_unit}
 use Rattle.lisp_data.specs.Name.{Name}
-use Rattle.lisp_data.specs.NameCode.{name_code}
+use Rattle.lisp_data.specs.inner.NameCode.{name_code}
 use Rattle.lisp_data.specs.Datum.{Dat, integer, symbol, string, list, dotted, method, Dats, nil, cons, Dot}
 
 abbrev pub Token : Type 0

@@ -3,9 +3,9 @@ use Rattle.std.specs.Prelude.{◌≡◌, ◌⊎◌, List, refl}
 use Rattle.std.specs.Coded.{Coded, code_by, coded×, coded⊎, coded_list}
 use Rattle.std.proofs.Common.{inl, inr}
 use Rattle.lisp_data.specs.Name.{Name}
-use Rattle.lisp_data.specs.NameCode.{name_code}
+use Rattle.lisp_data.specs.inner.NameCode.{name_code}
 use Rattle.lisp_data.specs.Value.{Val}
-use Rattle.lisp_data.specs.ValueCode.{value_code}
+use Rattle.lisp_data.specs.inner.ValueCode.{value_code}
 use Rattle.clos_meaning.specs.clos_world.World.{Denoted, held, in_slot, Local}
 
 abbrev denoted_to : Denoted → Val ⊎ (Name × Val)

@@ -2,11 +2,11 @@
 use Rattle.std.specs.Prelude.{◌≡◌, ◌⊎◌, refl}
 use Rattle.std.specs.Coded.{Coded, code_by, coded×, coded⊎, coded_list}
 use Rattle.std.proofs.Common.{inl, inr}
-use Rattle.lisp_data.specs.NameCode.{name_code}
+use Rattle.lisp_data.specs.inner.NameCode.{name_code}
 use Rattle.lisp_data.specs.Value.{Val}
-use Rattle.lisp_data.specs.ValueCode.{value_code}
+use Rattle.lisp_data.specs.inner.ValueCode.{value_code}
 use Rattle.clos_forms.specs.Form.{Form}
-use Rattle.clos_forms.specs.FormCode.{form_code}
+use Rattle.clos_forms.specs.inner.FormCode.{form_code}
 use Rattle.clos_meaning.specs.clos_world.declared.condition.Condition.{Condition}
 use Rattle.clos_meaning.specs.clos_world.contracts.condition.Condition as condition
 use Rattle.clos_meaning.specs.Parameters.{Source, Sources, argument, refused, init}

@@ -1,10 +1,10 @@
 use Rattle.std.proofs.Common.{◌≡◌, ◌↔◌, IsTrue, ap, subst, ◌∙◌}
 use Rattle.clos_hierarchy.specs.Classes.{list_in}
 use Rattle.clos_precedence.specs.Precedence.{has}
-use Rattle.clos_hierarchy.specs.KeptView.{listing_at}
+use Rattle.clos_hierarchy.specs.inner.KeptView.{listing_at}
 use Rattle.clos_hierarchy.specs.Ways.{IsSelfOrAbove, IsComplete}
 use Rattle.clos_hierarchy.proofs.Consistent.{below_told}
-use Rattle.clos_hierarchy.proofs.table.Classes.is_sub.Goals as goal
+use Rattle.clos_hierarchy.proofs.table.Hierarchy.is_sub.Goals as goal
 
 told : (c : goal.After-contains) → c.contains.result ≡ has (list_in (listing_at c.self.inside.kept.items c.args.class.0)) c.args.above.0
 told c =

@@ -4,7 +4,7 @@ use Rattle.std.specs.Coded.{Coded, code_by, coded⊎, coded_list, coded_ℕ, cod
 use Rattle.std.proofs.Common.{inl, inr, ◌∙◌, ap}
 use base.Stored.{coded_unit}
 use Rattle.lisp_data.specs.Name.{Name}
-use Rattle.lisp_data.specs.NameCode.{name_code}
+use Rattle.lisp_data.specs.inner.NameCode.{name_code}
 use Rattle.lisp_data.specs.Value.{Val, integer, symbol, string, list, class, generic, method, instance, Vals, nil, cons}
 
 abbrev pub Token : Type 0

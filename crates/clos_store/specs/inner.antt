@@ -1,0 +1,2 @@
+-- What stands behind the contracts: how the logic stores values, what is kept, what private functions answer.
+pub mod StoreCode

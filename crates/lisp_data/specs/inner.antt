@@ -1,0 +1,4 @@
+-- What stands behind the contracts: how the logic stores values, what is kept, what private functions answer.
+pub mod NameCode
+pub mod ValueCode
+pub mod DatumCode
