@@ -17,7 +17,7 @@ ghost use Rattle.clos_machine.specs.declared.machine.Action.TheVariants.{Call};
 
 use crate::bodies::run_body;
 use crate::generic_calls::call_generic;
-use clos_forms::{Forms, FunctionName, is_function, value_named};
+use clos_forms::{CalledName, Forms, FunctionName, is_function, value_named};
 use clos_machine::fault::of_function;
 use clos_machine::machine::{Action, Doing, Machine};
 use clos_machine::moves::collect_next;
@@ -34,7 +34,7 @@ use std::alloc::{AllocError, Global};
 pub fn start_call(
     alloc: Global,
     machine: &mut Machine,
-    name: &Name,
+    name: &CalledName,
     arguments: &Forms,
 ) -> Result<Doing, Stop>
     ensures leads { Does (λ ev env. collected ev env arguments.now (Call name.now)) machine.old result machine.new }

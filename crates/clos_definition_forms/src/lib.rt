@@ -7,9 +7,7 @@ mod function;
 mod variable;
 
 pub use clos_eval::evaluate;
-pub use clos_machine::{
-    Callee, Condition, ConditionKind, Limits, Stop, Values, World, callee_named, plain,
-};
+pub use clos_machine::{Condition, ConditionKind, Limits, Stop, Values, World, plain};
 pub use definition::{defclass, defgeneric, defmethod, remove_method};
 pub use function::defun;
 pub use variable::define_variable;

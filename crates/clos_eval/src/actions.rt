@@ -7,8 +7,9 @@ ghost use Rattle.clos_machine.specs.Machine.{access_of, acted, act_weight, actio
 use clos_calls::functions::{call, call_setter, compute};
 use clos_calls::next_methods::call_next_given;
 use clos_control::output::{end_line, print};
+use clos_forms::{CalledName, Callee, SlotFunction};
 use clos_machine::machine::{Action, BuiltIn, Doing, Machine, Target};
-use clos_machine::{Arguments, Callee, SlotFunction, Stop, Values, World, callee_named};
+use clos_machine::{Arguments, Stop, Values, World};
 use clos_objects::creation::{allocate, initialize, make_instance};
 use clos_objects::filling::{fill, fill_with};
 use clos_objects::system_methods::run_system_method;
@@ -17,7 +18,6 @@ use clos_objects_core::find_method::call_find_method;
 use clos_objects_core::slots::{call_reader, call_slot_function, call_writer, set_slot_value};
 use clos_places::assignment::with_amount;
 use clos_places::places::{change_name, change_place, new_value, set_name};
-use lisp_data::Name;
 use std::alloc::Global;
 
 /// A function is called.
@@ -26,7 +26,7 @@ fn apply(
     alloc: Global,
     machine: &mut Machine,
     world: &mut World,
-    name: &Name,
+    name: &CalledName,
     values: Values,
     steps: &mut u64,
 ) -> Result<Doing, Stop>
@@ -34,7 +34,7 @@ fn apply(
     ensures small { Shrinks act_weight steps.old steps.new machine.old.levels result machine.new }
     ensures fewer { steps.new ≤ steps.old }
 {
-    match callee_named(name) {
+    match name.callee() {
         Callee::Output(output) => print(alloc, machine, world, output, &values, steps),
         Callee::Terpri => end_line(alloc, machine, world, &values, steps),
         Callee::Primitive(primitive) => compute(alloc, machine, world, primitive, &values),
@@ -46,7 +46,7 @@ fn apply(
         Callee::SlotFunction(function) => {
             call_slot_function(alloc, machine, world, function, &values, steps)
         }
-        Callee::Defined => call(alloc, machine, world, name, values),
+        Callee::Defined => call(alloc, machine, world, name.name(), values),
     }
 }
 
@@ -65,7 +65,7 @@ fn set_place(
     ensures fewer { steps.new ≤ steps.old }
 {
     match target {
-        Target::Call(name) => call_setter(alloc, machine, world, name, values),
+        Target::Call(name) => call_setter(alloc, machine, world, name.name(), values),
         Target::SlotValue => set_slot_value(alloc, machine, world, &values, steps),
     }
 }

@@ -10,7 +10,7 @@ use Rattle.clos_forms.specs.Fault.{◌>>=◌}
 use Rattle.clos_forms.specs.Form.{Form, form, Forms, cons as more, nil as none}
 use Rattle.clos_forms.specs.FunctionName.{symbol_in, variable_in, unless_constant, function_named}
 use Rattle.clos_forms.specs.Grammar.{each_part, tree_at}
-use Rattle.clos_forms.specs.Names.{is_called, is_one_of, definitions}
+use Rattle.clos_names.specs.Names.{is_called, is_one_of, definitions}
 use Rattle.clos_forms.specs.Operator.{Operator, BoundSlot, function, if_form, clause, when, unless, prog1, incf, decf, call, let_form, let_in_order, setq, setf, with_slots, place, slot_value_place, call_place, variable_place, call_next_method, next_method_p}
 use Rattle.clos_forms.specs.Part.{Part, Shape, shape, operation, in_role, in_roles, optional, only_in, at_most_one, in_method}
 use Rattle.clos_forms.specs.Place.{named_place, place_shape, setf_parts, change_shape}
@@ -18,12 +18,12 @@ use Rattle.clos_forms.specs.Quotation.{quotation}
 use Rattle.clos_forms.specs.Room.{RoomSuffices}
 use Rattle.clos_forms.specs.Shape.{atom, quoting, special_shape, named_shape, headed_shape, expression_shape, clause_shape, shape_of}
 use Rattle.clos_forms.specs.Slots.{slot_in, slots_with, variables_of, with_slots_shape}
-use Rattle.clos_forms.specs.Special.{special_of, special_operators}
+use Rattle.clos_names.specs.Special.{special_of, special_operators}
 use Rattle.clos_forms.specs.declared.part.Context.{Context}
 use Rattle.clos_forms.specs.declared.part.Role.{Role}
 use Rattle.clos_forms.specs.declared.part.Role.TheVariants.{Expression, Clause, Place}
-use Rattle.clos_forms.specs.declared.special.Special.{Special}
-use Rattle.clos_forms.specs.declared.special.Special.TheVariants.{Quote, Function, If, Cond, When, Unless, And, Or, Progn, Prog1, Let, LetInOrder, Setq, Setf, Incf, Decf, Dotimes, WithSlots, CallNextMethod, NextMethodP}
+use Rattle.clos_names.specs.declared.special.Special.{Special}
+use Rattle.clos_names.specs.declared.special.Special.TheVariants.{Quote, Function, If, Cond, When, Unless, And, Or, Progn, Prog1, Let, LetInOrder, Setq, Setf, Incf, Decf, Dotimes, WithSlots, CallNextMethod, NextMethodP}
 
 -- each part nests less than so deep
 abbrev Within : ℕ → List Part → Type 0

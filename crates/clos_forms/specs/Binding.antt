@@ -6,7 +6,7 @@ use Rattle.clos_forms.specs.Body.{body_parts}
 use Rattle.clos_forms.specs.Distinct.{are_distinct}
 use Rattle.clos_forms.specs.Fault.{◌>>=◌}
 use Rattle.clos_forms.specs.FunctionName.{variable_in, unless_constant}
-use Rattle.clos_forms.specs.Names.{is_called}
+use Rattle.clos_names.specs.Names.{is_called}
 use Rattle.clos_forms.specs.Operator.{Bound, let_form, let_in_order, setq, dotimes}
 use Rattle.clos_forms.specs.Part.{Part, Shape, shape, in_role, optional, at_most_one}
 use Rattle.clos_forms.specs.declared.part.Role.TheVariants.{Expression}

@@ -1,7 +1,7 @@
 -- Bodies (HyperSpec 3.4.11, 3.8 declare): what leads one and is ignored.
 use Rattle.std.specs.Prelude.{List, Bool, true, false, Option, Some, None, codes, if◌then◌else◌}
 use Rattle.lisp_data.specs.Datum.{Dat, integer, symbol, string, list, dotted, method, Dats, nil, cons}
-use Rattle.clos_forms.specs.Names.{is_called}
+use Rattle.clos_names.specs.Names.{is_called}
 use Rattle.clos_forms.specs.Part.{Part, in_roles}
 use Rattle.clos_forms.specs.declared.part.Role.TheVariants.{Expression}
 

@@ -4,7 +4,7 @@ use Rattle.lisp_data.specs.Name.{Name}
 use Rattle.lisp_data.specs.Print.{Called, by_symbol, by_setf}
 use Rattle.lisp_data.specs.Datum.{Dat, integer, symbol, string, list, dotted, method, Dats, nil, cons}
 use Rattle.clos_forms.specs.Fault.{◌>>=◌}
-use Rattle.clos_forms.specs.Names.{is_called, is_constant}
+use Rattle.clos_names.specs.Names.{is_called, is_constant}
 use Rattle.clos_forms.specs.Part.{only_in}
 
 abbrev pub symbol_in : Dat → Option Name

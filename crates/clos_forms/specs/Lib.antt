@@ -1,5 +1,4 @@
-pub mod Names
-pub mod Special
+pub use Rattle.clos_names.specs as clos_names
 pub mod Operator
 pub mod inner
 pub mod CallMethodView

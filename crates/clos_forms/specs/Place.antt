@@ -4,10 +4,10 @@ use Rattle.lisp_data.specs.Name.{Name}
 use Rattle.lisp_data.specs.Datum.{Dat, integer, symbol, string, list, dotted, method, Dats, nil, cons, length_of}
 use Rattle.clos_forms.specs.Fault.{◌>>=◌}
 use Rattle.clos_forms.specs.FunctionName.{symbol_in, unless_constant}
-use Rattle.clos_forms.specs.Names.{is_called, is_one_of, definitions}
+use Rattle.clos_names.specs.Names.{is_called, is_one_of, definitions}
 use Rattle.clos_forms.specs.Operator.{Operator, place, variable_place, slot_value_place, call_place, setf}
 use Rattle.clos_forms.specs.Part.{Part, Shape, shape, operation, in_role, in_roles}
-use Rattle.clos_forms.specs.Special.{special_operators}
+use Rattle.clos_names.specs.Special.{special_operators}
 use Rattle.clos_forms.specs.declared.part.Role.TheVariants.{Expression, Place}
 
 -- a call of an operator that is no form's own

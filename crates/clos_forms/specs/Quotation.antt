@@ -4,7 +4,7 @@ use Rattle.lisp_data.specs.Name.{Name}
 use Rattle.lisp_data.specs.Value.{Val, Vals, is_within_limits}
 use Rattle.lisp_data.specs.Value as value
 use Rattle.lisp_data.specs.Datum.{Dat, integer, symbol, string, list, dotted, method, Dats, nil, cons}
-use Rattle.clos_forms.specs.Names.{is_called}
+use Rattle.clos_names.specs.Names.{is_called}
 
 -- the symbol of this name: NIL is the empty list
 abbrev pub name_value : Name → Val

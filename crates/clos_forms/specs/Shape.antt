@@ -7,18 +7,18 @@ use Rattle.lisp_data.specs.Datum.{Dat, integer, symbol, string, list, dotted, me
 use Rattle.clos_forms.specs.Binding.{let_shape, let_in_order_shape, setq_shape, dotimes_shape}
 use Rattle.clos_forms.specs.Fault.{◌>>=◌}
 use Rattle.clos_forms.specs.FunctionName.{function_named}
-use Rattle.clos_forms.specs.Names.{is_constant, is_one_of, definitions}
+use Rattle.clos_names.specs.Names.{is_constant, is_one_of, definitions}
 use Rattle.clos_forms.specs.Operator.{Operator, constant, no_value, variable, function, if_form, cond, clause, when, unless, and_form, or_form, progn, prog1, incf, decf, call_next_method, next_method_p, call}
 use Rattle.clos_forms.specs.Part.{Shape, shape, operation, in_roles, only_in, in_method}
 use Rattle.clos_forms.specs.Place.{place_shape, setf_shape, change_shape}
 use Rattle.clos_forms.specs.Quotation.{name_value, quotation}
 use Rattle.clos_forms.specs.Slots.{with_slots_shape}
-use Rattle.clos_forms.specs.Special.{special_of}
+use Rattle.clos_names.specs.Special.{special_of}
 use Rattle.clos_forms.specs.declared.part.Context.{Context}
 use Rattle.clos_forms.specs.declared.part.Role.{Role}
 use Rattle.clos_forms.specs.declared.part.Role.TheVariants.{Expression, Clause, Place}
-use Rattle.clos_forms.specs.declared.special.Special.{Special}
-use Rattle.clos_forms.specs.declared.special.Special.TheVariants.{Quote, Function, If, Cond, When, Unless, And, Or, Progn, Prog1, Let, LetInOrder, Setq, Setf, Incf, Decf, Dotimes, WithSlots, CallNextMethod, NextMethodP}
+use Rattle.clos_names.specs.declared.special.Special.{Special}
+use Rattle.clos_names.specs.declared.special.Special.TheVariants.{Quote, Function, If, Cond, When, Unless, And, Or, Progn, Prog1, Let, LetInOrder, Setq, Setf, Incf, Decf, Dotimes, WithSlots, CallNextMethod, NextMethodP}
 
 abbrev pub atom : Operator → Shape
 atom o = shape o []

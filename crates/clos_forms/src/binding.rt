@@ -13,9 +13,9 @@ use crate::bound::{Binding, Bindings, Names};
 use crate::distinct::are_distinct;
 use crate::fault::SyntaxFault;
 use crate::function_name::{unless_constant, variable_name};
-use crate::names::is_the;
 use crate::operator::Operator;
 use crate::part::{Part, Role, Shape, at_most_one, push_optional, push_part};
+use clos_names::is_the;
 use lisp_data::{Data, Datum, Name};
 use std::alloc::{AllocError, Global};
 

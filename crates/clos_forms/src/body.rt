@@ -4,8 +4,8 @@ ghost use Rattle.lisp_data.specs.DatumView.{datum_of};
 ghost use Rattle.clos_forms.specs.Body.{after_string, body_of, body_parts, heads_declaration, is_declaration, is_declare, is_string};
 ghost use Rattle.clos_forms.specs.PartView.{part_of};
 
-use crate::names::is_the;
 use crate::part::{Part, Role, push_optional, push_parts};
+use clos_names::is_the;
 use lisp_data::{Data, Datum};
 use std::alloc::AllocError;
 

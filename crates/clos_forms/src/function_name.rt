@@ -6,9 +6,9 @@ ghost use Rattle.clos_forms.specs.FunctionName.{function_named, listed_name, onl
 ghost use Rattle.clos_forms.specs.OperatorView.{called_of};
 
 use crate::fault::SyntaxFault;
-use crate::names::{is_the, names_constant};
 use crate::operator::FunctionName;
 use crate::part::only;
+use clos_names::{is_the, names_constant};
 use lisp_data::{Data, Datum, Name};
 
 /// The name of the symbol that a datum is.

@@ -10,28 +10,26 @@ pub mod fault;
 pub mod form;
 pub mod function_name;
 pub mod laws;
-pub mod names;
 pub mod operator;
 pub mod part;
 mod place;
 pub mod quotation;
 mod shape;
 mod slots;
-pub mod special;
 pub mod tree;
 
 pub use body::{is_declaration, is_string};
 pub use bound::{Binding, Bindings, Names, SlotBinding, SlotBindings};
 pub use call_method::{CalledMethod, NextMethods};
+pub use clos_names::{
+    CalledName, Callee, ClassFunction, Output, SlotFunction, is_among, is_closed_function,
+    is_definition, is_function, is_special_operator, is_system_function, is_the, names_constant,
+};
 pub use distinct::{are_among, are_distinct};
 pub use fault::SyntaxFault;
 pub use form::{Form, Forms};
 pub use function_name::{parse_function_name, symbol_name, variable_name};
-pub use names::{
-    is_closed_function, is_definition, is_function, is_system_function, is_the, names_constant,
-};
 pub use operator::{FunctionName, Operator, Place};
 pub use part::{Context, at_most_one, only};
 pub use quotation::{quoted_value, value_named};
-pub use special::is_special_operator;
 pub use tree::{parse_body, parse_form, parse_forms};

@@ -2,6 +2,7 @@
 
 use crate::bound::{Bindings, Names, SlotBindings};
 use crate::call_method::{CalledMethod, NextMethods};
+use clos_names::CalledName;
 use lisp_data::{Name, Value};
 
 /// What a function is called (HyperSpec glossary, "function name").
@@ -20,7 +21,7 @@ pub enum Place {
     /// Its subforms are the instance and the slot's name (HyperSpec 7.7, `slot-value`).
     SlotValue,
     /// A call of this function, whose value is set by another; its subforms are the arguments (HyperSpec 5.1.2.9).
-    Call(Name),
+    Call(CalledName),
 }
 
 /// What a form does with its parts (HyperSpec 3.1.2.1).
@@ -74,7 +75,7 @@ pub enum Operator {
     /// No parts (HyperSpec 7.7).
     NextMethodP,
     /// A call of a function: the arguments (HyperSpec 3.1.2.1.2.3).
-    Call(Name),
+    Call(CalledName),
     /// A call of a method with its next methods, of which only effective forms are made: the forms of those that are made
     /// (HyperSpec 7.6.6.2, 7.7 `call-method`).
     CallMethod(CalledMethod, NextMethods),

@@ -8,10 +8,9 @@ ghost use Rattle.clos_forms.specs.Place.{change_shape, listed_place, named_place
 
 use crate::fault::SyntaxFault;
 use crate::function_name::{symbol_name, unless_constant};
-use crate::names::{is_definition, is_the};
 use crate::operator::{Operator, Place};
 use crate::part::{Part, Role, Shape, atom, operation, push_part, push_parts};
-use crate::special::is_special_operator;
+use clos_names::{CalledName, is_definition, is_special_operator, is_the};
 use lisp_data::{Data, Datum, Name};
 use std::alloc::Global;
 
@@ -59,7 +58,7 @@ fn named_place<'a>(alloc: Global, name: &Name, rest: &'a Data) -> Result<Shape<'
     if is_special_operator(name) || is_definition(name) {
         return Err(SyntaxFault::Program);
     }
-    let place = Place::Call(name.copy()?);
+    let place = Place::Call(CalledName::new(name.copy()?));
     Ok(operation(alloc, Operator::Place(place), rest)?)
 }
 

@@ -5,7 +5,7 @@ ghost use Rattle.lisp_data.specs.Value.{nil};
 ghost use Rattle.lisp_data.specs.ValueView.{value_of};
 ghost use Rattle.clos_forms.specs.Quotation.{name_value, prepended, quotation, quotations, with_front};
 
-use crate::names::is_the;
+use clos_names::is_the;
 use lisp_data::{Data, Datum, Items, ListFault, Name, Value};
 use std::alloc::{AllocError, Global};
 

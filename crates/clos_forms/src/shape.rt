@@ -8,18 +8,17 @@ ghost use Rattle.clos_forms.specs.OperatorView.{operator_of};
 ghost use Rattle.clos_forms.specs.PartView.{shape_told};
 ghost use Rattle.clos_forms.specs.Quotation.{quotation};
 ghost use Rattle.clos_forms.specs.Shape.{atom, call_next_method_shape, call_shape, clause_shape, expression_shape, function_shape, headed, headed_shape, if_shape, listed_shape, named_shape, next_method_p_shape, quote_shape, quoting, shape_of, special_shape, symbol_operator};
-ghost use Rattle.clos_forms.specs.Special.{special_of};
+ghost use Rattle.clos_names.specs.Special.{special_of};
 
 use crate::binding::{dotimes_shape, let_in_order_shape, let_shape, setq_shape};
 use crate::fault::SyntaxFault;
 use crate::function_name::parse_function_name;
-use crate::names::{is_definition, names_constant};
 use crate::operator::Operator;
 use crate::part::{Context, Part, Role, Shape, atom, in_roles, only, operation};
 use crate::place::{change_shape, place_shape, setf_shape};
 use crate::quotation::{quoted_value, value_named};
 use crate::slots::with_slots_shape;
-use crate::special::Special;
+use clos_names::{CalledName, Special, is_definition, names_constant};
 use lisp_data::{Data, Datum, Items, Name, Value};
 use std::alloc::{AllocError, Global};
 
@@ -121,7 +120,8 @@ fn call_shape<'a>(alloc: Global, name: &Name, rest: &'a Data) -> Result<Shape<'a
     if is_definition(name) {
         return Err(SyntaxFault::Program);
     }
-    Ok(operation(alloc, Operator::Call(name.copy()?), rest)?)
+    let called = CalledName::new(name.copy()?);
+    Ok(operation(alloc, Operator::Call(called), rest)?)
 }
 
 fn special_shape<'a>(

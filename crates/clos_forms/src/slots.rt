@@ -12,9 +12,9 @@ use crate::bound::{SlotBinding, SlotBindings};
 use crate::distinct::are_distinct;
 use crate::fault::SyntaxFault;
 use crate::function_name::{only_symbol, unless_constant, variable_name};
-use crate::names::is_the;
 use crate::operator::Operator;
 use crate::part::{Part, Role, Shape, push_part};
+use clos_names::is_the;
 use lisp_data::{Data, Datum, Name};
 use std::alloc::{AllocError, Global};
 

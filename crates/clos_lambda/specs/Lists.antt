@@ -1,7 +1,7 @@
 -- Lists of things, as data write them.
 use Rattle.std.specs.Prelude.{List, [], ◌∷◌, ◌++◌, codes, Option, Some, None, option_map, if◌then◌else◌}
 use Rattle.lisp_data.specs.Datum.{Dat, integer, symbol, string, list, dotted, method, Dats, nil, cons}
-use Rattle.clos_forms.specs.Names.{is_called}
+use Rattle.clos_forms.specs.clos_names.Names.{is_called}
 
 -- the elements of a list, which may be written NIL
 abbrev pub list_in : Dat → Option Dats

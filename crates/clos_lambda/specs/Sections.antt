@@ -2,7 +2,7 @@
 use Rattle.std.specs.Prelude.{ℕ, List, [], ◌∷◌, Bool, false, codes, Option, Some, None, if◌then◌else◌}
 use Rattle.lisp_data.specs.Name.{Name}
 use Rattle.lisp_data.specs.Datum.{Dat, integer, symbol, string, list, dotted, method, Dats, nil, cons}
-use Rattle.clos_forms.specs.Names.{is_called, is_one_of}
+use Rattle.clos_forms.specs.clos_names.Names.{is_called, is_one_of}
 
 -- the lambda list keywords, of which the language serves the first four
 abbrev pub lambda_list_keywords : List (List ℕ)

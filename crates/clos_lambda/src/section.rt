@@ -4,8 +4,7 @@ ghost use Rattle.std.specs.Option.{option_copied};
 ghost use Rattle.lisp_data.specs.DatumView.{datum_of};
 ghost use Rattle.clos_lambda.specs.Sections.{after, back, ends_section, is_lambda_list_keyword, is_symbol_called, past};
 
-use clos_forms::is_the;
-use clos_forms::names::is_among;
+use clos_forms::{is_among, is_the};
 use lisp_data::{Data, Datum, Name};
 
 /// The language serves the first four.

@@ -9,7 +9,7 @@ use Rattle.clos_meaning.specs.clos_world.World.{State, class_of_instance, unboun
 use Rattle.clos_meaning.specs.clos_world.clos_class.Slots.{Effective}
 use Rattle.clos_meaning.specs.clos_world.clos_class.clos_syntax.declared.class.DefaultInitarg.{DefaultInitarg}
 use Rattle.clos_meaning.specs.clos_world.clos_class.declared.effective_slots.EffectiveSlot.{EffectiveSlot}
-use Rattle.clos_meaning.specs.Callee.{callee_of}
+use Rattle.clos_forms.specs.clos_names.Callee.{callee_of}
 use Rattle.clos_meaning.specs.Bodies.{parameters_run}
 use Rattle.clos_meaning.specs.Control.{sequence}
 use Rattle.clos_meaning.specs.Filling.{Subject, is_the_class}

@@ -30,7 +30,7 @@ use Rattle.clos_meaning.specs.Variables.{Loop, body_of, counted, found_value, va
 use Rattle.clos_meaning.specs.Outcome.{leaves, Gave, Stopped, Run, Eval, then_do, step_then, stopped}
 use Rattle.clos_meaning.specs.Output.{written, output_of, line_ended}
 use Rattle.clos_meaning.specs.declared.arguments.Context.{Context}
-use Rattle.clos_meaning.specs.declared.callee.Output.{Output}
+use Rattle.clos_forms.specs.clos_names.declared.callee.Output.{Output}
 use Rattle.clos_machine.specs.declared.machine.Doing.{Doing}
 use Rattle.clos_machine.specs.declared.machine.Doing.TheVariants.{Start, Give}
 use Rattle.clos_machine.specs.declared.machine.Level.{Level}

@@ -11,8 +11,8 @@ pub mod names;
 pub mod parameters;
 pub mod truth;
 
+pub use clos_forms::{ClassFunction, Output, SlotFunction};
 pub use clos_meaning::{
-    Arguments, Callee, ClassFunction, Condition, ConditionKind, Context, Dispatch, Function,
-    Limits, Output, Running, SlotFunction, Stop, Values, World, about, about_both, about_name,
-    called_value, callee_named, plain, setter_value,
+    Arguments, Condition, ConditionKind, Context, Dispatch, Function, Limits, Running, Stop,
+    Values, World, about, about_both, about_name, called_value, plain, setter_value,
 };

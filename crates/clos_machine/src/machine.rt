@@ -5,7 +5,7 @@ use crate::counter::Counter;
 use crate::finalized::Finalized;
 use crate::locals::{Locals, Plan};
 use crate::parameters::ParameterPlan;
-use clos_forms::{Form, Forms};
+use clos_forms::{CalledName, Form, Forms};
 use clos_meaning::{Arguments, Context, SystemFunction, Values};
 use lisp_data::{ClassId, InstanceId, Name, Value};
 use lisp_prims::Primitive;
@@ -27,7 +27,7 @@ pub struct Filling {
 #[derive(Drop)]
 pub enum Target {
     /// The functions of this name, and `(setf name)`.
-    Call(Name),
+    Call(CalledName),
     /// The slot of an instance.
     SlotValue,
 }
@@ -36,7 +36,7 @@ pub enum Target {
 #[derive(Drop)]
 pub enum Action {
     /// The function of this name is called with them.
-    Call(Name),
+    Call(CalledName),
     /// They are the arguments of a place, and its new value.
     Set(Target),
     /// The variable of this name gets the one value.

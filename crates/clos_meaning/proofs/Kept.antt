@@ -40,7 +40,7 @@ use Rattle.clos_world.specs.declared.condition.ConditionKind.TheVariants.{DepthL
 use Rattle.clos_world.specs.declared.functions.Function.{Function}
 use Rattle.clos_meaning.specs.Accessors.{read_by, read_of, written_by, written_of}
 use Rattle.clos_meaning.specs.Assignment.{stored, stored_globally, stored_only, made_of, changed_only, global_set}
-use Rattle.clos_meaning.specs.Callee.{callee_of}
+use Rattle.clos_forms.specs.clos_names.Callee.{callee_of}
 use Rattle.clos_meaning.specs.ClassFunctions.{Answer, class_answer, comes_to}
 use Rattle.clos_meaning.specs.Bodies.{restoring, parameters_run, body_run}
 use Rattle.clos_meaning.specs.Calls.{called_defined, called_setter, called_setter_by, called_function, keys_are_even, method_run, method_body_run, method_called, made_run}
@@ -59,8 +59,8 @@ use Rattle.clos_meaning.specs.Filling as filler
 use Rattle.clos_meaning.specs.Functions.{Access, applied, call_access, called, place_read, place_set, slot_access}
 use Rattle.clos_meaning.specs.Initialization.{allocate, checked, initialized, invalid_initarg, is_given, made, methods_reached, defaulted, making_of, making, instance_made}
 use Rattle.clos_meaning.specs.Slots.{class_value, operation_name, missing_called, missing_changed, instance_in, slot_designated, slot_read, slot_tested, slot_changed, slot_answer, slot_applied, slot_called, slot_given, slot_set, slot_stored}
-use Rattle.clos_meaning.specs.declared.callee.SlotFunction as of_slots
-use Rattle.clos_meaning.specs.declared.callee.SlotFunction.TheVariants.{SlotValue, SlotBoundp, SlotMakunbound, SlotExistsP}
+use Rattle.clos_forms.specs.clos_names.declared.callee.SlotFunction as of_slots
+use Rattle.clos_forms.specs.clos_names.declared.callee.SlotFunction.TheVariants.{SlotValue, SlotBoundp, SlotMakunbound, SlotExistsP}
 use Rattle.clos_world.specs.clos_class.Slots.{Effective as Whole}
 use Rattle.clos_world.specs.clos_class.declared.effective_slots.EffectiveSlot.{EffectiveSlot}
 use Rattle.clos_world.specs.clos_class.clos_syntax.declared.class.DefaultInitarg.{DefaultInitarg}
@@ -73,9 +73,9 @@ use Rattle.clos_meaning.specs.Variables.{Loop, found_value, variable_value, inne
 use Rattle.clos_meaning.specs.SlotNames.{name_stored, name_read, name_set, place_denoted, slot_locals, within_slots}
 use Rattle.clos_meaning.specs.declared.arguments.Context.{Context}
 use Rattle.clos_meaning.specs.declared.arguments.Running.{Running}
-use Rattle.clos_meaning.specs.declared.callee.Callee.{Callee}
-use Rattle.clos_meaning.specs.declared.callee.Callee.TheVariants.{Output, Terpri, Primitive, MakeInstance, FindMethod, ClassFunction, SlotFunction, Defined}
-use Rattle.clos_meaning.specs.declared.callee.Output as output
+use Rattle.clos_forms.specs.clos_names.declared.callee.Callee.{Callee}
+use Rattle.clos_forms.specs.clos_names.declared.callee.Callee.TheVariants.{Output, Terpri, Primitive, MakeInstance, FindMethod, ClassFunction, SlotFunction, Defined}
+use Rattle.clos_forms.specs.clos_names.declared.callee.Output as output
 
 pub same : (w : State) → Same w w
 same w = (refl, refl, refl, refl)

@@ -35,7 +35,7 @@ use Rattle.clos_world.specs.declared.condition.ConditionKind.TheVariants.{Progra
 use Rattle.clos_world.specs.declared.functions.Function.{Function}
 use Rattle.clos_meaning.specs.Accessors.{read_by, read_of, written_by, written_of}
 use Rattle.clos_meaning.specs.Assignment.{stored, stored_globally, stored_only, made_of, changed_only}
-use Rattle.clos_meaning.specs.Callee.{callee_of}
+use Rattle.clos_forms.specs.clos_names.Callee.{callee_of}
 use Rattle.clos_meaning.specs.ClassFunctions.{Answer, class_answer, comes_to}
 use Rattle.clos_meaning.specs.Bodies.{restoring, parameters_run, body_run}
 use Rattle.clos_meaning.specs.Calls.{called_defined, called_setter, called_setter_by, called_function, keys_are_even, made_run, method_body_run, method_called, method_run}
@@ -55,8 +55,8 @@ use Rattle.clos_meaning.specs.Filling as filler
 use Rattle.clos_meaning.specs.Functions.{Access, applied, call_access, place_read, place_set, slot_access}
 use Rattle.clos_meaning.specs.Initialization.{allocate, checked, initialized, invalid_initarg, is_given, defaulted, making_of, making, methods_reached, instance_made}
 use Rattle.clos_meaning.specs.Slots.{class_value, operation_name, missing_called, missing_changed, instance_in, slot_designated, slot_read, slot_tested, slot_changed, slot_answer, slot_applied, slot_called, slot_given, slot_set}
-use Rattle.clos_meaning.specs.declared.callee.SlotFunction as of_slots
-use Rattle.clos_meaning.specs.declared.callee.SlotFunction.TheVariants.{SlotValue, SlotBoundp, SlotMakunbound, SlotExistsP}
+use Rattle.clos_forms.specs.clos_names.declared.callee.SlotFunction as of_slots
+use Rattle.clos_forms.specs.clos_names.declared.callee.SlotFunction.TheVariants.{SlotValue, SlotBoundp, SlotMakunbound, SlotExistsP}
 use Rattle.clos_world.specs.clos_class.Slots.{Effective as Whole}
 use Rattle.clos_world.specs.clos_class.declared.effective_slots.EffectiveSlot.{EffectiveSlot}
 use Rattle.clos_world.specs.clos_class.clos_syntax.declared.class.DefaultInitarg.{DefaultInitarg}
@@ -69,9 +69,9 @@ use Rattle.clos_meaning.specs.SlotNames.{name_set, name_stored, slot_locals, wit
 use Rattle.clos_meaning.specs.Variables.{Loop, found_value, variable_value, inner, leaving, init_form, within, binding, in_order, together, aside, name_in, counted, result_value, turns, turns_in, repeated}
 use Rattle.clos_meaning.specs.declared.arguments.Context.{Context}
 use Rattle.clos_meaning.specs.declared.arguments.Running.{Running}
-use Rattle.clos_meaning.specs.declared.callee.Callee.{Callee}
-use Rattle.clos_meaning.specs.declared.callee.Callee.TheVariants.{Output, Terpri, Primitive, MakeInstance, FindMethod, ClassFunction, SlotFunction, Defined}
-use Rattle.clos_meaning.specs.declared.callee.Output as output
+use Rattle.clos_forms.specs.clos_names.declared.callee.Callee.{Callee}
+use Rattle.clos_forms.specs.clos_names.declared.callee.Callee.TheVariants.{Output, Terpri, Primitive, MakeInstance, FindMethod, ClassFunction, SlotFunction, Defined}
+use Rattle.clos_forms.specs.clos_names.declared.callee.Output as output
 
 -- where the outcome leaves the world
 abbrev pub Quiet : Out → State → Type 0

@@ -19,8 +19,8 @@ use Rattle.clos_world.specs.declared.condition.Stop.{Stop}
 use Rattle.clos_world.specs.declared.condition.Stop.TheVariants.{Refused, Storage}
 use Rattle.clos_meaning.specs.Fault.{condition_of}
 use Rattle.clos_meaning.specs.Outcome.{Gave, Stopped, Run, is_true}
-use Rattle.clos_meaning.specs.declared.callee.ClassFunction.{ClassFunction}
-use Rattle.clos_meaning.specs.declared.callee.ClassFunction.TheVariants.{ClassOf, ClassName, ClassPrecedenceList, FindClass, Typep}
+use Rattle.clos_forms.specs.clos_names.declared.callee.ClassFunction.{ClassFunction}
+use Rattle.clos_forms.specs.clos_names.declared.callee.ClassFunction.TheVariants.{ClassOf, ClassName, ClassPrecedenceList, FindClass, Typep}
 
 -- a value, or the condition in its place
 abbrev pub Answer : Type 0

@@ -3,7 +3,7 @@ use Rattle.std.specs.Prelude.{ℕ, codes, Bool, true, false, List, [], ◌∷◌
 use Rattle.lisp_data.specs.Name.{Name}
 use Rattle.lisp_data.specs.Print.{Specializer, on_class, on_eql}
 use Rattle.lisp_data.specs.Value.{Val, Vals, symbol, list, class, generic, method, nil, cons}
-use Rattle.clos_forms.specs.Names.{is_called}
+use Rattle.clos_forms.specs.clos_names.Names.{is_called}
 use Rattle.clos_world.specs.clos_class.Table as classes
 use Rattle.clos_world.specs.clos_generic.Table.{Function, Table, find_method}
 use Rattle.clos_world.specs.Class.{named}

@@ -7,7 +7,7 @@ use Rattle.clos_forms.specs.declared.operator.FunctionName.TheVariants.{Symbol}
 use Rattle.clos_world.specs.clos_generic.Table.{named}
 use Rattle.clos_world.specs.Values.{only_value}
 use Rattle.clos_world.specs.World.{class_of}
-use Rattle.clos_meaning.specs.Callee.{callee_of}
+use Rattle.clos_forms.specs.clos_names.Callee.{callee_of}
 use Rattle.clos_meaning.specs.Calls.{called_function, called_setter}
 use Rattle.clos_meaning.specs.ClassFunctions.{class_answer, comes_to}
 use Rattle.clos_meaning.specs.Fault.{answered}
@@ -17,9 +17,9 @@ use Rattle.clos_meaning.specs.Outcome.{Run, Eval}
 use Rattle.clos_meaning.specs.Output.{output_of, line_ended}
 use Rattle.clos_meaning.specs.Slots.{slot_called, slot_set}
 use Rattle.clos_meaning.specs.declared.arguments.Context.{Context}
-use Rattle.clos_meaning.specs.declared.callee.Callee.{Callee}
-use Rattle.clos_meaning.specs.declared.callee.Callee.TheVariants.{Output, Terpri, Primitive, MakeInstance, FindMethod, ClassFunction, SlotFunction, Defined}
-use Rattle.clos_meaning.specs.declared.callee.SlotFunction.TheVariants.{SlotValue}
+use Rattle.clos_forms.specs.clos_names.declared.callee.Callee.{Callee}
+use Rattle.clos_forms.specs.clos_names.declared.callee.Callee.TheVariants.{Output, Terpri, Primitive, MakeInstance, FindMethod, ClassFunction, SlotFunction, Defined}
+use Rattle.clos_forms.specs.clos_names.declared.callee.SlotFunction.TheVariants.{SlotValue}
 
 -- what the function does with the values of its arguments; a defined one is found by its name
 abbrev pub applied : Eval → Context → Callee → Name → List Val → Run

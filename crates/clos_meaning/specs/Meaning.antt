@@ -9,7 +9,7 @@ use Rattle.lisp_prims.specs.declared.primitive.Primitive.TheVariants.{Number}
 use Rattle.lisp_prims.specs.declared.arithmetic.Arithmetic.TheVariants.{Sum, Difference}
 use Rattle.clos_forms.specs.Form.{Form, Forms, operator_in, parts_in}
 use Rattle.clos_forms.specs.Form as form
-use Rattle.clos_forms.specs.Names.{is_one_of, functions}
+use Rattle.clos_forms.specs.clos_names.Names.{is_one_of, functions}
 use Rattle.clos_forms.specs.Operator.{Operator, Place, variable_place, slot_value_place, call_place}
 use Rattle.clos_forms.specs.Operator as of
 use Rattle.clos_forms.specs.Quotation.{name_value}

@@ -5,8 +5,8 @@ use Rattle.lisp_data.specs.Print.{Names, text_of}
 use Rattle.clos_world.specs.World.{names_of}
 use Rattle.clos_world.specs.declared.condition.ConditionKind.TheVariants.{ProgramError}
 use Rattle.clos_meaning.specs.Outcome.{Gave, Run, stopped, step_then}
-use Rattle.clos_meaning.specs.declared.callee.Output as output
-use Rattle.clos_meaning.specs.declared.callee.Output.TheVariants.{Princ, Prin1, Print}
+use Rattle.clos_forms.specs.clos_names.declared.callee.Output as output
+use Rattle.clos_forms.specs.clos_names.declared.callee.Output.TheVariants.{Princ, Prin1, Print}
 
 -- the bytes are written
 abbrev pub written : List ℕ → Val → Run

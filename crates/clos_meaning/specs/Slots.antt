@@ -18,8 +18,8 @@ use Rattle.clos_meaning.specs.ClassFunctions.{symbol_in, wrong_type}
 use Rattle.clos_meaning.specs.GenericCalls.{invoked}
 use Rattle.clos_meaning.specs.Outcome.{Gave, Stopped, Run, Eval, then_do, step_then, gave, stopped, is_true}
 use Rattle.clos_meaning.specs.declared.arguments.Context.{Context}
-use Rattle.clos_meaning.specs.declared.callee.SlotFunction.{SlotFunction}
-use Rattle.clos_meaning.specs.declared.callee.SlotFunction.TheVariants.{SlotValue, SlotBoundp, SlotMakunbound, SlotExistsP}
+use Rattle.clos_forms.specs.clos_names.declared.callee.SlotFunction.{SlotFunction}
+use Rattle.clos_forms.specs.clos_names.declared.callee.SlotFunction.TheVariants.{SlotValue, SlotBoundp, SlotMakunbound, SlotExistsP}
 
 -- ---- an instance and the name of a slot
 

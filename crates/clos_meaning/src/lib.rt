@@ -1,12 +1,10 @@
 //! What forms mean, without any machine: `specs/Meaning.antt` and what it stands on. The code has what both the meaning and
-//! the machine speak of: what a running body knows of its call, and which function a name calls.
+//! the machine speak of: what a running body knows of its call.
 #![tactic(auto)]
 
 pub mod arguments;
-pub mod callee;
 
 pub use arguments::{Arguments, Context, Dispatch, Running};
-pub use callee::{Callee, ClassFunction, Output, SlotFunction, callee_named};
 pub use clos_world::{
     Condition, ConditionKind, Effective, EffectiveSlot, Function, Layout, Limits, Stop,
     SystemFunction, Values, World, about, about_both, about_name, called_value, plain,

@@ -17,7 +17,7 @@ use Rattle.clos_machine.specs.clos_meaning.Meaning.{closed, meaning}
 use Rattle.clos_machine.specs.clos_meaning.Outcome.{Run, Eval, Stopped, step_then, stopped}
 use Rattle.clos_machine.specs.clos_meaning.Slots.{slot_answer, slot_applied, slot_called, slot_changed, slot_designated, slot_given, slot_set, slot_stored}
 use Rattle.clos_machine.specs.clos_meaning.declared.arguments.Context.{Context}
-use Rattle.clos_machine.specs.clos_meaning.declared.callee.SlotFunction.{SlotFunction}
+use Rattle.clos_forms.specs.clos_names.declared.callee.SlotFunction.{SlotFunction}
 use Rattle.clos_machine.specs.declared.machine.Doing.{Doing}
 use Rattle.clos_machine.specs.declared.machine.Doing.TheVariants.{Give}
 use Rattle.clos_machine.specs.declared.machine.Machine.{Machine}

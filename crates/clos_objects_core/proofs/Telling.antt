@@ -14,7 +14,7 @@ use Rattle.clos_machine.specs.clos_meaning.ClassFunctions.{Tells, class_answer, 
 use Rattle.clos_machine.specs.Fault.{Signals}
 use Rattle.clos_machine.specs.Machine.{Leads, at, inside, resume}
 use Rattle.clos_machine.specs.clos_meaning.Meaning.{closed}
-use Rattle.clos_machine.specs.clos_meaning.declared.callee.ClassFunction.{ClassFunction}
+use Rattle.clos_forms.specs.clos_names.declared.callee.ClassFunction.{ClassFunction}
 use Rattle.clos_machine.specs.declared.machine.Machine.{Machine}
 use Rattle.clos_machine.proofs.Turns.{stopped_through}
 

@@ -5,7 +5,7 @@ use Rattle.lisp_data.specs.Name.{Name}
 use Rattle.lisp_data.specs.Datum.{Dat, integer, symbol, string, list, dotted, method, Dats}
 use Rattle.lisp_data.specs.Datum as datum
 use Rattle.clos_forms.specs.Form.{Form, form, Forms, nil, cons, operator_in}
-use Rattle.clos_forms.specs.Names.{is_called, is_one_of, functions}
+use Rattle.clos_forms.specs.clos_names.Names.{is_called, is_one_of, functions}
 use Rattle.clos_forms.specs.Operator.{Operator, call_place}
 use Rattle.clos_forms.specs.Operator as of
 use Rattle.clos_lambda.specs.LambdaList.{entries_of}
@@ -18,9 +18,9 @@ use Rattle.clos_syntax.specs.declared.method.MethodDefinition.{MethodDefinition}
 use Rattle.clos_syntax.specs.declared.top.Top.{Top}
 use Rattle.clos_syntax.specs.declared.top.Top.TheVariants.{DefClass, DefGeneric, DefMethod, Defun, DefVar, RemoveMethod, AddDependent, RemoveDependent, InPackage, Expr}
 use Rattle.clos_definition_forms.specs.clos_definition.Method.{eql_form}
-use Rattle.clos_definition_forms.specs.clos_machine.clos_meaning.Callee.{callee_of}
-use Rattle.clos_definition_forms.specs.clos_machine.clos_meaning.declared.callee.Callee.{Callee}
-use Rattle.clos_definition_forms.specs.clos_machine.clos_meaning.declared.callee.Callee.TheVariants.{Defined}
+use Rattle.clos_forms.specs.clos_names.Callee.{callee_of}
+use Rattle.clos_forms.specs.clos_names.declared.callee.Callee.{Callee}
+use Rattle.clos_forms.specs.clos_names.declared.callee.Callee.TheVariants.{Defined}
 
 -- the system's functions that the program does not call
 abbrev pub is_update : Name → Bool

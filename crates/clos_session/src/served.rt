@@ -7,8 +7,7 @@ ghost use Rattle.clos_lambda.specs.LambdaList.{entries_of};
 ghost use Rattle.clos_definition_forms.specs.clos_definition.Method.{eql_form};
 ghost use Rattle.clos_session.specs.Served.{are_inits_served, are_served, calls, is_combination, is_served, is_served_as, is_served_class, is_served_function, is_served_generic, is_served_if_any, is_served_method, is_served_optional, is_served_top, is_standard, is_update, reads, reads_first, serves};
 
-use clos_definition_forms::{Callee, callee_named};
-use clos_forms::{Form, Forms, Operator, Place, is_function, is_the};
+use clos_forms::{CalledName, Callee, Form, Forms, Operator, Place, is_function, is_the};
 use clos_syntax::{
     ClassDefinition, CombinationUse, DefaultInitarg, GenericDefinition, Key, Keys, LambdaList,
     MethodDefinition, Optional, ParameterSpecializer, SlotSpecifier, Top,
@@ -225,10 +224,10 @@ fn reads(operator: &Operator) -> bool
 }
 
 /// Whether a call of this name is served.
-fn calls(name: &Name) -> bool
+fn calls(name: &CalledName) -> bool
     ensures { result ≡ calls name.now }
 {
-    is_served_as(callee_named(name), name)
+    is_served_as(name.callee(), name.name())
 }
 
 fn is_served_as(callee: Callee, name: &Name) -> bool

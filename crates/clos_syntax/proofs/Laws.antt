@@ -8,7 +8,7 @@ use Rattle.clos_forms.specs.Distinct.{are_distinct}
 use Rattle.clos_forms.specs.Fault.{◌>>=◌, Gives}
 use Rattle.clos_forms.specs.Form.{Forms}
 use Rattle.clos_forms.specs.Grammar.{body_forms_of}
-use Rattle.clos_forms.specs.Names.{is_called}
+use Rattle.clos_forms.specs.clos_names.Names.{is_called}
 use Rattle.clos_forms.specs.Part.{only_in}
 use Rattle.clos_forms.specs.declared.fault.SyntaxFault.{SyntaxFault}
 use Rattle.clos_forms.specs.declared.operator.FunctionName.{FunctionName}

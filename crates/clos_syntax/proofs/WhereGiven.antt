@@ -7,7 +7,7 @@ use Rattle.lisp_data.specs.Name.{Name}
 use Rattle.lisp_data.specs.Datum.{Dat, integer, symbol, string, list, dotted, method, Dats, nil, cons, length_of}
 use Rattle.clos_forms.specs.Binding.{each}
 use Rattle.clos_forms.specs.Fault.{◌>>=◌, Gives}
-use Rattle.clos_forms.specs.Names.{is_called}
+use Rattle.clos_forms.specs.clos_names.Names.{is_called}
 use Rattle.clos_forms.specs.Part.{only_in}
 use Rattle.clos_forms.specs.declared.fault.SyntaxFault.{SyntaxFault}
 use Rattle.clos_lambda.specs.Lists.{single}

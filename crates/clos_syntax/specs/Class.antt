@@ -6,7 +6,7 @@ use Rattle.clos_forms.specs.Binding.{each}
 use Rattle.clos_forms.specs.Distinct.{are_distinct}
 use Rattle.clos_forms.specs.Fault.{◌>>=◌}
 use Rattle.clos_forms.specs.FunctionName.{symbol_in}
-use Rattle.clos_forms.specs.Names.{is_one_of}
+use Rattle.clos_forms.specs.clos_names.Names.{is_one_of}
 use Rattle.clos_forms.specs.Part.{only_in}
 use Rattle.clos_lambda.specs.Lists.{list_in, or_none}
 use Rattle.clos_lambda.specs.Sections.{is_symbol_called}

@@ -5,8 +5,8 @@ use Rattle.lisp_data.specs.Print.{Called, by_symbol, by_setf}
 use Rattle.lisp_data.specs.Datum.{Dat}
 use Rattle.clos_forms.specs.Fault.{◌>>=◌}
 use Rattle.clos_forms.specs.FunctionName.{function_named, symbol_in}
-use Rattle.clos_forms.specs.Names.{is_one_of, functions, system_functions, closed_functions}
-use Rattle.clos_forms.specs.Special.{special_operators}
+use Rattle.clos_forms.specs.clos_names.Names.{is_one_of, functions, system_functions, closed_functions}
+use Rattle.clos_forms.specs.clos_names.Special.{special_operators}
 use Rattle.clos_forms.specs.declared.operator.FunctionName.{FunctionName}
 use Rattle.clos_forms.specs.declared.operator.FunctionName.TheVariants.{Symbol, Setf}
 

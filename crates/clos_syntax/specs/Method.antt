@@ -5,7 +5,7 @@ use Rattle.lisp_data.specs.Datum.{Dat, integer, symbol, string, list, dotted, me
 use Rattle.clos_forms.specs.Binding.{each}
 use Rattle.clos_forms.specs.Fault.{◌>>=◌}
 use Rattle.clos_forms.specs.Grammar.{form_of, body_forms_of}
-use Rattle.clos_forms.specs.Names.{is_called}
+use Rattle.clos_forms.specs.clos_names.Names.{is_called}
 use Rattle.clos_forms.specs.Part.{only_in}
 use Rattle.clos_forms.specs.declared.part.Context.TheVariants.{Plain, Method}
 use Rattle.clos_lambda.specs.LambdaList.{parameter_in, with_optionals}

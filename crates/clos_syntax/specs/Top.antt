@@ -4,7 +4,7 @@ use Rattle.lisp_data.specs.Name.{Name}
 use Rattle.lisp_data.specs.Datum.{Dat, integer, symbol, string, list, dotted, method, Dats, nil, cons}
 use Rattle.clos_forms.specs.Fault.{◌>>=◌}
 use Rattle.clos_forms.specs.Form.{Form}
-use Rattle.clos_forms.specs.Names.{is_called}
+use Rattle.clos_forms.specs.clos_names.Names.{is_called}
 use Rattle.clos_forms.specs.Part.{only_in}
 use Rattle.clos_lambda.specs.PlainForm.{form_in}
 use Rattle.clos_syntax.specs.Class.{class_in}

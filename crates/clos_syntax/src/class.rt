@@ -2,15 +2,14 @@
 ghost use Rattle.std.specs.Prelude.{◌≡◌, IfOk, option_map};
 ghost use Rattle.lisp_data.specs.DatumView.{datum_of};
 ghost use Rattle.clos_forms.specs.Fault.{Gives};
-ghost use Rattle.clos_forms.specs.Names.{is_one_of};
+ghost use Rattle.clos_forms.specs.clos_names.Names.{is_one_of};
 ghost use Rattle.clos_lambda.specs.Lists.{or_none};
 ghost use Rattle.clos_syntax.specs.Class.{class_in, class_option_in, class_options_in, class_with, default_names, default_with, defaults_from, defaults_in, documentation_option_in, if_distinct_defaults, metaclass_in, new_class_in, only_argument_in, predefined_classes, slot_names, slots_in, standard_class_in, superclasses_in};
 
 use crate::kind::{Symbols, parse_each, parse_option};
 use crate::property::{arguments, is_option};
 use crate::slot::{SlotSpecifier, Slots, parse_documentation};
-use clos_forms::names::is_among;
-use clos_forms::{Form, SyntaxFault, are_distinct, only};
+use clos_forms::{Form, SyntaxFault, are_distinct, is_among, only};
 use clos_lambda::{Kind, Sequence, is_symbol_called, parse_list, parse_plain_form, parse_symbol};
 use lisp_data::{Data, Datum, Name};
 use std::alloc::{AllocError, Global};

@@ -3,10 +3,10 @@ use Rattle.std.proofs.Common.{◌≡◌, ℕ, List, [], ◌∷◌, Bool, true, f
 use Rattle.std.specs.Prelude.{is_some, Option, Some, None, not, ◌&&◌, if◌then◌else◌}
 use Rattle.std.specs.List.{list_any}
 use Rattle.std.specs.Str.{bytes_eq}
-use Rattle.clos_forms.specs.Special.{entry_of, special_of, specials, special_operators}
-use Rattle.clos_forms.specs.Names.{is_one_of}
+use Rattle.clos_names.specs.Special.{entry_of, special_of, specials, special_operators}
+use Rattle.clos_names.specs.Names.{is_one_of}
 use Rattle.lisp_data.specs.Name.{Name}
-use Rattle.clos_forms.specs.declared.special.Special.{Special}
+use Rattle.clos_names.specs.declared.special.Special.{Special}
 
 pub any_of_map : {A B : Type 0} (f : A → B) (p : B → Bool) (xs : List A) → list_any p (map f xs) ≡ list_any (λ x. p (f x)) xs
 any_of_map f p [] = refl

@@ -3,14 +3,14 @@ use Rattle.std.specs.Prelude.{Option, Some, None, codes, if◌then◌else◌}
 use Rattle.lisp_data.specs.Name.{Name}
 use Rattle.lisp_prims.specs.Primitive.{primitive_of}
 use Rattle.lisp_prims.specs.declared.primitive.Primitive as of_values
-use Rattle.clos_forms.specs.Names.{is_called}
-use Rattle.clos_meaning.specs.declared.callee.Callee.{Callee}
-use Rattle.clos_meaning.specs.declared.callee.Callee.TheVariants.{Output, Terpri, Primitive, MakeInstance, FindMethod, ClassFunction, SlotFunction, Defined}
-use Rattle.clos_meaning.specs.declared.callee.ClassFunction as of_classes
-use Rattle.clos_meaning.specs.declared.callee.ClassFunction.TheVariants.{ClassOf, ClassName, ClassPrecedenceList, FindClass, Typep}
-use Rattle.clos_meaning.specs.declared.callee.SlotFunction as of_slots
-use Rattle.clos_meaning.specs.declared.callee.SlotFunction.TheVariants.{SlotValue, SlotBoundp, SlotMakunbound, SlotExistsP}
-use Rattle.clos_meaning.specs.declared.callee.Output.TheVariants.{Princ, Prin1, Print}
+use Rattle.clos_names.specs.Names.{is_called}
+use Rattle.clos_names.specs.declared.callee.Callee.{Callee}
+use Rattle.clos_names.specs.declared.callee.Callee.TheVariants.{Output, Terpri, Primitive, MakeInstance, FindMethod, ClassFunction, SlotFunction, Defined}
+use Rattle.clos_names.specs.declared.callee.ClassFunction as of_classes
+use Rattle.clos_names.specs.declared.callee.ClassFunction.TheVariants.{ClassOf, ClassName, ClassPrecedenceList, FindClass, Typep}
+use Rattle.clos_names.specs.declared.callee.SlotFunction as of_slots
+use Rattle.clos_names.specs.declared.callee.SlotFunction.TheVariants.{SlotValue, SlotBoundp, SlotMakunbound, SlotExistsP}
+use Rattle.clos_names.specs.declared.callee.Output.TheVariants.{Princ, Prin1, Print}
 
 -- a function of values, where the name is that of one; else what the program or the system may have defined
 abbrev pub value_function : Option of_values.Primitive → Callee

@@ -1,6 +1,6 @@
 use Rattle.std.proofs.Common.{◌≡◌, drop, map}
-use Rattle.clos_forms.specs.Special.{entry_of, told}
-use Rattle.clos_forms.proofs.special.entry_of.Given as goal
+use Rattle.clos_names.specs.Special.{entry_of, told}
+use Rattle.clos_names.proofs.special.entry_of.Given as goal
 
 abbrev pub invariant-loop-text : goal.invariant-loop-text
 invariant-loop-text l =

@@ -2,7 +2,7 @@
 ghost use Rattle.std.specs.Prelude.{◌≡◌, ◌&&◌, not, map, codes};
 ghost use Rattle.std.specs.List.{list_any};
 ghost use Rattle.std.specs.Str.{bytes_eq};
-ghost use Rattle.clos_forms.specs.Names.{is_one_of, is_called, is_constant, definitions, functions, system_functions, closed_functions};
+ghost use Rattle.clos_names.specs.Names.{is_one_of, is_called, is_constant, definitions, functions, system_functions, closed_functions};
 
 use lisp_data::Name;
 

@@ -1,7 +1,7 @@
 //! The special operators and macros of the language, by their names (HyperSpec 3.1.2.1.2.1, 3.1.2.1.2.2).
 ghost use Rattle.std.specs.Prelude.{◌≡◌, Some, is_some, map};
-ghost use Rattle.clos_forms.specs.Names.{is_one_of};
-ghost use Rattle.clos_forms.specs.Special.{entry_of, special_of, special_operators, told};
+ghost use Rattle.clos_names.specs.Names.{is_one_of};
+ghost use Rattle.clos_names.specs.Special.{entry_of, special_of, special_operators, told};
 
 use lisp_data::Name;
 

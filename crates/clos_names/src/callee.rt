@@ -1,8 +1,8 @@
 //! What the functions of the language are, by their names.
 ghost use Rattle.std.specs.Prelude.{◌≡◌};
-ghost use Rattle.clos_meaning.specs.Callee.{callee_of, class_function, class_function_of, slot_function, slot_function_of, value_function};
+ghost use Rattle.clos_names.specs.Callee.{callee_of, class_function, class_function_of, slot_function, slot_function_of, value_function};
 
-use clos_forms::is_the;
+use crate::names::is_the;
 use lisp_data::Name;
 use lisp_prims::Primitive;
 
@@ -65,7 +65,7 @@ pub enum Callee {
 }
 
 /// What a call of this name calls.
-pub fn callee_named(name: &Name) -> Callee
+pub(crate) fn callee_named(name: &Name) -> Callee
     ensures { result ≡ callee_of name.now }
 {
     if is_the(name, "PRINC") {
