@@ -38,9 +38,9 @@ impl Combinations {
         id: GenericId,
         methods: &[MethodId],
     ) -> Result<Outcome, AllocError>
-        ensures outcome { IfOk result (λ r. combined_of r ≡ effective generics.now id.0 (numbers methods.now)) }
-        ensures invalid { is_some (without_role generics.now.methods (numbers methods.now)) ≡ true → IsOk result }
-        ensures empty { has_primary generics.now.methods (numbers methods.now) ≡ false → IsOk result }
+        ensures outcome { IfOk result (λ r. combined_of r ≡ effective generics.now.table id.0 (numbers methods.now)) }
+        ensures invalid { is_some (without_role generics.now.table.methods (numbers methods.now)) ≡ true → IsOk result }
+        ensures empty { has_primary generics.now.table.methods (numbers methods.now) ≡ false → IsOk result }
         ensures meter { meter.new ≡ min (meter.old + 1) u64.MAX }
     {
         let _ = id;

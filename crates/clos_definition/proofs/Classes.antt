@@ -1,6 +1,6 @@
 -- A class that is made, with its cells.
-use Rattle.std.proofs.Common.{◌≡◌, ℕ, ◌-◌, List, Option, Some, None, length, arith, refl, ap, sym, ◌∙◌, subst}
-use Rattle.std.specs.Prelude.{max, not, option_map}
+use Rattle.std.proofs.Common.{◌≡◌, ℕ, ◌-◌, List, Option, Some, None, length, refl, ap, sym, ◌∙◌, subst}
+use Rattle.std.specs.Prelude.{not, option_map}
 use Rattle.lisp_data.specs.Value.{Val}
 use Rattle.lisp_data.specs.declared.ids.CellId.{CellId}
 use Rattle.clos_class.specs.Table.{Table, refusal, with_definition}
@@ -16,23 +16,11 @@ use Rattle.clos_syntax.specs.declared.class.ClassDefinition.{ClassDefinition}
 use Rattle.clos_world.specs.World.{State}
 use Rattle.clos_definition.specs.Class.{class_changes, class_functions, class_number, class_refusal, condition_for, others_refusal, with_class}
 
-reserved_first : (d : ClassDefinition) (vs : List (Option Val)) (w : State)
-    → with_class d vs (record w { store = record w.store { reserved = max w.store.reserved (length vs) } }) ≡ with_class d vs w
-reserved_first d vs w =
-    let e : max w.store.reserved (length vs) - length vs ≡ w.store.reserved - length vs = omega arith in
-    ap (λ m. record (with_class d vs w) { store = record (with_class d vs w).store { reserved = m } }) e
-
 pub made : (d : ClassDefinition) (vs : List (Option Val)) (w : State) (ids : List CellId) (t : Table) (st : Contents) → t ≡ with_definition w.classes d ids
     → ids ≡ cells_from (length w.store.cells) (length vs) → st ≡ with_cells vs w.store → record w { classes = t; store = st } ≡ with_class d vs w
 made d vs w ids t st e h g =
     ap (λ x. record w { classes = x; store = st }) (e ∙ ap (λ x. with_definition w.classes d x) h)
     ∙ ap (λ x. record w { classes = with_definition w.classes d (cells_from (length w.store.cells) (length vs)); store = x }) g
-
-pub in_room : (d : ClassDefinition) (vs : List (Option Val)) (w : State) (st : Contents) (n : ℕ) → st ≡ record w.store { reserved = max w.store.reserved n } → n ≡ length vs
-    → with_class d vs (record w { store = st }) ≡ with_class d vs w
-in_room d vs w st n h e =
-    ap (λ x. with_class d vs (record w { store = x })) (h ∙ ap (λ m. record w.store { reserved = max w.store.reserved m }) e)
-    ∙ reserved_first d vs w
 
 -- ---- the first check that fails decides
 

@@ -1,5 +1,5 @@
 -- The accessors of the slots of a class: methods that read and write them (HyperSpec 7.5.2).
-use Rattle.std.specs.Prelude.{ℕ, ◌+◌, codes, Bool, false, not, ◌||◌, is_some, List, [], ◌∷◌, ◌++◌, Option, Some, None, length, map, position, unwrap_or, if◌then◌else◌}
+use Rattle.std.specs.Prelude.{ℕ, ◌+◌, codes, Bool, false, not, ◌||◌, is_some, List, [], ◌∷◌, ◌++◌, Option, None, length, map, position, unwrap_or, if◌then◌else◌}
 use Rattle.lisp_data.specs.Name.{Name}
 use Rattle.lisp_data.specs.Print.{Specializer, on_class}
 use Rattle.clos_hierarchy.specs.Initial.{number as predefined_number}

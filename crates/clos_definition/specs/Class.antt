@@ -1,5 +1,5 @@
 -- Classes that are defined (HyperSpec 7.7 defclass).
-use Rattle.std.specs.Prelude.{◌≡◌, ℕ, not, List, [], ◌∷◌, Option, Some, None, length, map, option_map}
+use Rattle.std.specs.Prelude.{ℕ, not, List, [], ◌∷◌, Option, length, map, option_map}
 use Rattle.lisp_data.specs.Name.{Name}
 use Rattle.lisp_data.specs.Value.{Val}
 use Rattle.clos_class.specs.Table.{cells_to_make, list_with, number, refusal, with_definition}

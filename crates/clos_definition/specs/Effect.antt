@@ -1,8 +1,8 @@
 -- What a definition form does to the table of generic functions (HyperSpec 7.6.3, 7.7): methods go, functions are defined, and methods
 -- come, in this order.
 use Rattle.std.specs.Prelude.{◌≡◌, List, [], ◌∷◌, ◌++◌, Some, map}
-use Rattle.std.specs.declared.alloc.Global.{Global}
 use Rattle.clos_generic.specs.Changes.{Changes}
+use Rattle.clos_generic.specs.Held.{Held}
 use Rattle.clos_generic.specs.Table.{Table, with_definition, with_method, without_method}
 use Rattle.clos_generic.specs.declared.changes.Addition.{Addition}
 use Rattle.clos_generic.specs.declared.changes.Definition.{Definition}
@@ -49,6 +49,6 @@ abbrev pub with_effect : code.Effect → State → State
 with_effect e w = record w { generics = made e w.generics }
 
 -- Memory is reserved for it.
-pub record IsReserved (e : code.Effect) (t : Table) : Type 0 where
-  pub definitions : t.definitions ≡ map (λ d. d.name) e.changes.definitions
-  pub additions : t.additions ≡ map (λ m. m.generic.0) e.methods.items
+pub record IsReserved (e : code.Effect) (h : Held) : Type 0 where
+  pub definitions : h.definitions ≡ map (λ d. d.name) e.changes.definitions
+  pub additions : h.additions ≡ map (λ m. m.generic.0) e.methods.items

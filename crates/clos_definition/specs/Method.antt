@@ -23,7 +23,7 @@ use Rattle.clos_method.specs.declared.shape.Shape.{Shape}
 use Rattle.clos_world.specs.Class.{named}
 use Rattle.clos_world.specs.World.{State}
 use Rattle.clos_world.specs.declared.condition.Condition.{Condition}
-use Rattle.clos_definition.specs.Effect.{addition_of, changed, changes_of}
+use Rattle.clos_definition.specs.Effect.{changed, changes_of}
 use Rattle.clos_definition.specs.Refusal.{or_else, table_refusal, taken_refusal, undefined_class, when}
 
 -- ---- qualifiers: atoms, as they would be quoted

@@ -1,5 +1,5 @@
 -- Why a definition is refused (HyperSpec 7.7).
-use Rattle.std.specs.Prelude.{◌≡◌, Bool, true, false, List, [], ◌∷◌, Option, Some, None, Result, Ok, Err, is_some, option_map}
+use Rattle.std.specs.Prelude.{◌≡◌, Bool, true, false, [], ◌∷◌, Option, Some, None, Result, Ok, Err, is_some, option_map}
 use Rattle.lisp_data.specs.Name.{Name}
 use Rattle.clos_forms.specs.Quotation.{name_value}
 use Rattle.clos_forms.specs.declared.operator.FunctionName.{FunctionName}

@@ -141,7 +141,7 @@ pub fn functions_for(
     generics: &Generics,
     accessors: &[SlotAccessor],
 ) -> Result<Changes, AllocError>
-    ensures { IfOk result (λ r. r ≡ record { removals = []; definitions = functions_for generics.now accessors.now; additions = [] }) }
+    ensures { IfOk result (λ r. r ≡ record { removals = []; definitions = functions_for generics.now.table accessors.now; additions = [] }) }
 {
     let mut changes = Changes::new(alloc);
     let mut left = accessors;
@@ -159,7 +159,7 @@ fn add_function(
     changes: &mut Changes,
     accessor: &SlotAccessor,
 ) -> Result<(), AllocError>
-    ensures { OnOk result (changes.new ≡ record changes.old { definitions = with_functions generics.now changes.old.definitions (accessor.now ∷ []) }) }
+    ensures { OnOk result (changes.new ≡ record changes.old { definitions = with_functions generics.now.table changes.old.definitions (accessor.now ∷ []) }) }
 {
     let name = function_of(accessor)?;
     if generics.named(&name).is_some() || place_of(changes.definitions(), &name).is_some() {
@@ -184,7 +184,7 @@ fn number_after(
     definitions: &[Definition],
     name: &FunctionName,
 ) -> Result<GenericId, AllocError>
-    ensures { IfOk result (λ g. g.0 ≡ number_after generics.now definitions.now name.now) }
+    ensures { IfOk result (λ g. g.0 ≡ number_after generics.now.table definitions.now name.now) }
 {
     match generics.named(name) {
         Some(id) => Ok(id),
@@ -251,7 +251,7 @@ fn method_for(
     definitions: &[Definition],
     accessor: &SlotAccessor,
 ) -> Result<Method, AllocError>
-    ensures { IfOk result (λ r. r ≡ accessor_method class.0 (number_after generics.now definitions.now (function_of accessor.now)) accessor.now) }
+    ensures { IfOk result (λ r. r ≡ accessor_method class.0 (number_after generics.now.table definitions.now (function_of accessor.now)) accessor.now) }
 {
     let name = function_of(accessor)?;
     let id = number_after(generics, definitions, &name)?;
@@ -266,7 +266,7 @@ fn fits(
     definitions: &[Definition],
     accessor: &SlotAccessor,
 ) -> Result<bool, AllocError>
-    ensures { IfOk result (λ b. b ≡ fits class.0 generics.now definitions.now accessor.now) }
+    ensures { IfOk result (λ b. b ≡ fits class.0 generics.now.table definitions.now accessor.now) }
 {
     let method = method_for(alloc, generics, class, definitions, accessor)?;
     let addition = addition_of(alloc, &method)?;
@@ -281,8 +281,8 @@ pub fn with_accessors(
     functions: Changes,
     accessors: &[SlotAccessor],
 ) -> Result<Effect, AllocError>
-    ensures changes { IfOk result (λ e. e.changes ≡ adding functions (map addition_of (accessor_methods class.0 generics.now functions.definitions accessors.now))) }
-    ensures methods { IfOk result (λ e. e.methods.items ≡ accessor_methods class.0 generics.now functions.definitions accessors.now) }
+    ensures changes { IfOk result (λ e. e.changes ≡ adding functions (map addition_of (accessor_methods class.0 generics.now.table functions.definitions accessors.now))) }
+    ensures methods { IfOk result (λ e. e.methods.items ≡ accessor_methods class.0 generics.now.table functions.definitions accessors.now) }
 {
     let mut effect = Effect::new(alloc, functions);
     let mut left = accessors;

@@ -78,16 +78,9 @@ pub fn make_class(
     ensures ok { OnOk result (seen world.new ≡ with_class definition.now values.items (with_effect effect (seen world.old))) }
     ensures err { OnErr result (seen world.new ≡ seen world.old) }
 {
-    match define_with_cells(alloc, world, definition, values) {
-        Ok(()) => {
-            make(world, effect);
-            Ok(())
-        }
-        Err(refusal) => {
-            world.generics.release();
-            Err(refusal)
-        }
-    }
+    define_with_cells(alloc, world, definition, values)?;
+    make(world, effect);
+    Ok(())
 }
 
 /// What the table of classes tells of a definition.
@@ -190,16 +183,9 @@ fn define_with_cells(
     ensures err { OnErr result (seen world.new ≡ seen world.old) }
     ensures generics { world.new.generics ≡ world.old.generics }
 {
-    let reserved = world.store.reserved();
     match world.store.reserve(values.len() as u64) {
         Err(_) => Err(AllocError),
-        Ok(()) => match define_in_reserved(alloc, world, definition, values) {
-            Ok(()) => Ok(()),
-            Err(refusal) => {
-                world.store.release(reserved);
-                Err(refusal)
-            }
-        },
+        Ok(()) => define_in_reserved(alloc, world, definition, values),
     }
 }
 
@@ -210,7 +196,7 @@ fn define_in_reserved(
     definition: &ClassDefinition,
     values: Vec<Slot>,
 ) -> Result<(), AllocError>
-    requires { length values.items ≤ (seen world.old).store.reserved }
+    requires { length values.items ≤ world.old.store.reserved }
     ensures ok { OnOk result (seen world.new ≡ with_class definition.now values.items (seen world.old)) }
     ensures err { OnErr result (seen world.new ≡ seen world.old) }
     ensures generics { world.new.generics ≡ world.old.generics }
@@ -225,7 +211,7 @@ fn define_in_reserved(
 
 /// The numbers that these cells will have, which are reserved.
 fn numbers_for(alloc: Global, world: &World, values: &[Slot]) -> Result<Vec<CellId>, AllocError>
-    requires { length values.now ≤ (seen world.now).store.reserved }
+    requires { length values.now ≤ world.now.store.reserved }
     ensures { IfOk result (λ r. r.items ≡ cells_from (length (seen world.now).store.cells) (length values.now)) }
 {
     world.store.next_cells(alloc, values.len() as u64)

@@ -1,6 +1,5 @@
 //! What a definition form does to the table of generic functions.
-ghost use Rattle.std.specs.Prelude.{◌≡◌, ◌++◌, ◌∷◌, [], IfOk, OnOk, OnErr, map};
-ghost use Rattle.clos_generic.specs.Changes.{released};
+ghost use Rattle.std.specs.Prelude.{◌≡◌, ◌++◌, ◌∷◌, [], IfOk, OnOk, map};
 ghost use Rattle.clos_world.specs.World.{seen};
 ghost use Rattle.clos_definition.specs.Effect.{IsReserved, adding, addition_of, changed, changes_of, with_definitions, with_effect, with_methods, without_all};
 ghost use Rattle.clos_definition.specs.Refusal.{Allows, table_refusal};
@@ -102,7 +101,7 @@ pub fn make(world: &mut World, effect: Effect)
 
 fn make_in(generics: &mut Generics, effect: Effect)
     requires { IsReserved effect generics.old }
-    ensures { released generics.new ≡ changed effect.changes.removals effect.changes.definitions effect.methods.items (released generics.old) }
+    ensures { generics.new.table ≡ changed effect.changes.removals effect.changes.definitions effect.methods.items generics.old.table }
 {
     let Effect { changes, methods } = effect;
     take_out_all(generics, changes.removals());
@@ -112,7 +111,7 @@ fn make_in(generics: &mut Generics, effect: Effect)
 
 /// Takes these methods out of their functions.
 fn take_out_all(generics: &mut Generics, removals: &[Removal])
-    ensures { generics.new ≡ without_all removals.now generics.old }
+    ensures { generics.new ≡ record generics.old { table = without_all removals.now generics.old.table } }
 {
     let mut left = removals;
     while let Some((removal, others)) = left.split_first() {
@@ -125,7 +124,8 @@ fn take_out_all(generics: &mut Generics, removals: &[Removal])
 #[tactic(auto, using(crate::proofs::Made::same_function_self))]
 fn define_all(generics: &mut Generics, mut changes: Changes)
     requires { generics.old.definitions ≡ map (λ d. d.name) changes.definitions }
-    ensures { generics.new ≡ with_definitions changes.definitions generics.old }
+    ensures table { generics.new.table ≡ with_definitions changes.definitions generics.old.table }
+    ensures additions { generics.new.additions ≡ generics.old.additions }
 {
     while let Some(definition) = changes.take_definition() {
         let _ = generics.define_reserved(definition.name, definition.options);
@@ -135,7 +135,7 @@ fn define_all(generics: &mut Generics, mut changes: Changes)
 /// Adds these methods, for which memory is reserved.
 fn add_all(generics: &mut Generics, mut methods: VecDeque<Method>)
     requires { generics.old.additions ≡ map (λ m. m.generic.0) methods.items }
-    ensures { generics.new ≡ with_methods methods.items generics.old }
+    ensures { generics.new.table ≡ with_methods methods.items generics.old.table }
 {
     while let Some(method) = methods.pop_front() {
         let _ = generics.add_reserved(method.generic, method);

@@ -6,7 +6,7 @@ ghost use Rattle.clos_generic.specs.Table.{named};
 ghost use Rattle.clos_method.specs.MethodIds.{method_numbers};
 ghost use Rattle.clos_world.specs.World.{seen};
 ghost use Rattle.clos_definition.specs.Effect.{IsReserved, adding, addition_of, with_effect};
-ghost use Rattle.clos_definition.specs.Generic.{combination_refusal, definition_of, earlier_methods, eql_forms, generic_changes, generic_refusal, initial_among, is_initial, methods_refusal, methods_with, names_refusal, options_of, place_in, precedence_of, removing, with_defined_generic};
+ghost use Rattle.clos_definition.specs.Generic.{combination_refusal, definition_of, earlier_methods, eql_forms, generic_refusal, initial_among, is_initial, methods_refusal, methods_with, names_refusal, options_of, place_in, precedence_of, removing, with_defined_generic};
 ghost use Rattle.clos_definition.specs.Method.{open_addition};
 ghost use Rattle.clos_definition.specs.Refusal.{Allows};
 
@@ -129,7 +129,7 @@ fn changes_for(
     generics: &Generics,
     definition: &GenericDefinition,
 ) -> Result<Changes, AllocError>
-    ensures { IfOk result (λ r. r ≡ record { removals = earlier_methods generics.now (named generics.now definition.now.name); definitions = definition_of definition.now ∷ []; additions = [] }) }
+    ensures { IfOk result (λ r. r ≡ record { removals = earlier_methods generics.now.table (named generics.now.table definition.now.name); definitions = definition_of definition.now ∷ []; additions = [] }) }
 {
     let mut changes = Changes::new(alloc);
     if let Some(id) = generics.named(&definition.name) {
@@ -147,7 +147,7 @@ fn remove_earlier(
     generics: &Generics,
     id: GenericId,
 ) -> Result<(), AllocError>
-    ensures { OnOk result (changes.new ≡ removing changes.old (earlier_methods generics.now (Some id.0))) }
+    ensures { OnOk result (changes.new ≡ removing changes.old (earlier_methods generics.now.table (Some id.0))) }
 {
     match generics.function(id) {
         None => Ok(()),
@@ -162,7 +162,7 @@ fn remove_initial(
     id: GenericId,
     methods: &[MethodId],
 ) -> Result<(), AllocError>
-    ensures { OnOk result (changes.new ≡ removing changes.old (initial_among id.0 generics.now.methods (method_numbers methods.now))) }
+    ensures { OnOk result (changes.new ≡ removing changes.old (initial_among id.0 generics.now.table.methods (method_numbers methods.now))) }
 {
     let mut left = methods;
     while let Some((method, others)) = left.split_first() {
@@ -178,7 +178,7 @@ fn remove_initial(
 }
 
 fn is_initial(generics: &Generics, id: MethodId) -> bool
-    ensures { result ≡ is_initial (slice_get generics.now.methods id.0) }
+    ensures { result ≡ is_initial (slice_get generics.now.table.methods id.0) }
 {
     match generics.method(id) {
         None => false,

@@ -100,7 +100,7 @@ fn effect_for(
 
 /// The number of the function of this name, or the next number where there is none.
 pub fn number_of(generics: &Generics, name: &FunctionName) -> GenericId
-    ensures { result.0 ≡ number generics.now name.now }
+    ensures { result.0 ≡ number generics.now.table name.now }
 {
     match generics.named(name) {
         Some(id) => id,
@@ -115,7 +115,7 @@ fn changes_for(
     name: &FunctionName,
     shape: &Shape,
 ) -> Result<Changes, AllocError>
-    ensures { IfOk result (λ r. r ≡ record { removals = []; definitions = function_for generics.now name.now shape.now; additions = [] }) }
+    ensures { IfOk result (λ r. r ≡ record { removals = []; definitions = function_for generics.now.table name.now shape.now; additions = [] }) }
 {
     let mut changes = Changes::new(alloc);
     if generics.named(name).is_none() {

@@ -6,7 +6,7 @@ use Rattle.std.specs.declared.vec.Vec.{Vec}
 use Rattle.lisp_data.specs.declared.ids.GenericId.{GenericId}
 use Rattle.clos_method.specs.declared.method.Method.{Method}
 use Rattle.clos_generic.specs.inner.Reserved.{HasRoom, HasSpare, IsReady, first_if, ids_of, is_added}
-use Rattle.clos_generic.specs.Table.{after_first, is_first}
+use Rattle.clos_generic.specs.Held.{after_first, is_first}
 use Rattle.clos_generic.specs.declared.function.Function.{Function}
 use Rattle.clos_generic.specs.declared.spare.Spare.{Spare}
 use Rattle.clos_generic.proofs.Rooms.{room_less, room_pushed, spare_less}

@@ -1,5 +1,5 @@
 -- The changes of one definition form, and why they can't be made (HyperSpec 7.6.4, 7.7).
-use Rattle.std.specs.Prelude.{ℕ, ◌+◌, ◌-◌, ◌==◌, nat_lt, Bool, true, false, not, ◌&&◌, ◌||◌, List, [], ◌∷◌, Option, Some, None, is_some, length, map, slice_get, count_by, if◌then◌else◌}
+use Rattle.std.specs.Prelude.{ℕ, ◌+◌, ◌-◌, ◌==◌, nat_lt, Bool, true, false, not, ◌&&◌, ◌||◌, List, [], ◌∷◌, Option, Some, None, is_some, length, slice_get, count_by, if◌then◌else◌}
 use Rattle.std.specs.List.{list_any, list_all}
 use Rattle.clos_method.specs.declared.shape.Shape.{Shape}
 use Rattle.clos_generic.specs.Fault.{Refusal, fits_in, is_permitted_one, is_system, or_else, removal_refusal, system_count, incongruent, table_limit, unsupported, when}
@@ -99,11 +99,3 @@ has_open additions = list_any (λ a. not (is_some a.likeness)) additions
 -- the first that is wrong; where an addition is open, congruence alone is asked
 abbrev pub changes_refusal : Table → Changes → Option Refusal
 changes_refusal t cs = or_else (when (not (all_congruent t cs)) incongruent) (if has_open cs.additions then None else closed_refusal t cs)
-
--- ---- what is reserved
-
-abbrev pub released : Table → Table
-released t = record t { definitions = []; additions = [] }
-
-abbrev pub reserved : Changes → Table → Table
-reserved cs t = record t { definitions = map (λ d. d.name) cs.definitions; additions = map (λ a. a.generic.0) cs.additions }

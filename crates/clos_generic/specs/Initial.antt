@@ -4,7 +4,6 @@ use Rattle.lisp_data.specs.Datum.{nil}
 use Rattle.clos_forms.specs.declared.operator.FunctionName.TheVariants.{Symbol}
 use Rattle.clos_method.specs.Method.{system_method}
 use Rattle.clos_method.specs.System.{system_functions, system_number, system_required, system_shape, system_text}
-use Rattle.clos_method.specs.declared.method.Method.{Method}
 use Rattle.clos_method.specs.declared.shape.Shape.{Shape}
 use Rattle.clos_method.specs.declared.system.SystemFunction.{SystemFunction}
 use Rattle.clos_syntax.specs.declared.generic.CombinationUse.{CombinationUse}
@@ -31,7 +30,7 @@ system_generic f = record {
 }
 
 abbrev pub empty : ℕ → ℕ → Table
-empty functions methods = record { functions = []; methods = []; most_functions = functions; most_methods = methods; definitions = []; additions = [] }
+empty functions methods = record { functions = []; methods = []; most_functions = functions; most_methods = methods }
 
 -- of a function of this shape, where no options are written
 abbrev pub standard_options : Shape → Options
@@ -56,6 +55,4 @@ initial functions methods = record {
   methods = map system_method system_functions;
   most_functions = functions;
   most_methods = methods;
-  definitions = [];
-  additions = [];
 }

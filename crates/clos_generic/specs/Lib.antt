@@ -6,4 +6,5 @@ pub mod inner
 pub mod TableView
 pub mod Calls
 pub mod Changes
+pub mod Held
 pub mod Examples

@@ -25,8 +25,6 @@ pub record Table : Type 0 where
   pub methods : List Method  -- all that were ever made; the number of one is its place
   pub most_functions : ℕ  -- so many may be made besides the system's
   pub most_methods : ℕ
-  pub definitions : List FunctionName  -- the names of the next definitions that are sure to find memory
-  pub additions : List ℕ  -- the functions of the next additions that are sure to find it, after those
 
 -- ---- functions by their names
 
@@ -73,18 +71,6 @@ abbrev pub methods_named : Table → Option ℕ → List ℕ
 methods_named t None = []
 methods_named t (Some g) = methods_of t g
 
--- ---- what is reserved
-
--- what comes after the first one, if it is so
-abbrev pub after_first : {X : Type 0} → (X → Bool) → List X → List X
-after_first p [] = []
-after_first p (x ∷ xs) = if p x then xs else []
-
--- whether the first one is so
-abbrev pub is_first : {X : Type 0} → (X → Bool) → List X → Bool
-is_first p [] = false
-is_first p (x ∷ xs) = p x
-
 -- ---- definitions (7.7 defgeneric)
 
 abbrev pub made : FunctionName → Options → Function
@@ -105,10 +91,7 @@ defined_at (Some g) name o fs = with_changed (redefined o) g fs
 
 -- A new function comes last, without methods. One that is there takes on these options and keeps its methods.
 abbrev pub with_definition : FunctionName → Options → Table → Table
-with_definition name o t = record t {
-  functions = defined_at (named t name) name o t.functions;
-  definitions = after_first (λ n. same_function n name) t.definitions;
-}
+with_definition name o t = record t { functions = defined_at (named t name) name o t.functions }
 
 -- ---- methods that come and go (7.6.3, 7.7 add-method, remove-method)
 
@@ -129,7 +112,6 @@ abbrev pub with_method : ℕ → Method → Table → Table
 with_method g m t = record t {
   methods = t.methods ++ m ∷ [];
   functions = with_changed (with_methods (added t.methods m)) g t.functions;
-  additions = after_first (λ h. h == g) t.additions;
 }
 
 -- A method is taken out of its function. It stays among all methods.

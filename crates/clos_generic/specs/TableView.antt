@@ -4,7 +4,7 @@ use Rattle.lisp_data.specs.Name.{Name}
 use Rattle.lisp_data.specs.declared.ids.GenericId.{GenericId}
 use Rattle.clos_forms.specs.declared.operator.FunctionName.{FunctionName}
 use Rattle.clos_method.specs.MethodIds.{method_numbers}
-use Rattle.clos_generic.specs.Table.{Function, Table, after_first, made, named_in, redefined, same_function, with_changed}
+use Rattle.clos_generic.specs.Table.{Function, Table, made, named_in, redefined, same_function, with_changed}
 use Rattle.clos_generic.specs.declared.options.Options.{Options}
 use Rattle.clos_generic.specs.declared.function.Function as code
 
@@ -21,13 +21,13 @@ function_of f = record {
 abbrev pub functions_in : List code.Function → List Function
 functions_in fs = map function_of fs
 
--- with one more function, which is defined with that
+-- with one more function
 abbrev pub with_made : FunctionName → Options → Table → Table
-with_made name o t = record t { functions = t.functions ++ made name o ∷ []; definitions = after_first (λ n. same_function n name) t.definitions }
+with_made name o t = record t { functions = t.functions ++ made name o ∷ [] }
 
--- with other options of the function of this number, which is defined with that
-abbrev pub with_redefined : ℕ → FunctionName → Options → Table → Table
-with_redefined g name o t = record t { functions = with_changed (redefined o) g t.functions; definitions = after_first (λ n. same_function n name) t.definitions }
+-- with other options of the function of this number
+abbrev pub with_redefined : ℕ → Options → Table → Table
+with_redefined g o t = record t { functions = with_changed (redefined o) g t.functions }
 
 -- of each of these names this is the number of its function
 abbrev pub IsIndexed : List Function → (Name → FunctionName) → (Name → Option GenericId) → Type 0

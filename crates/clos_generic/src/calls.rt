@@ -17,7 +17,7 @@ impl Generics {
         id: GenericId,
         arguments: &Arguments<'_>,
     ) -> Result<MethodIds, AllocError>
-        ensures { IfOk result (λ r. r ≡ ordered self.now id.0 arguments.now) }
+        ensures { IfOk result (λ r. r ≡ ordered self.now.table id.0 arguments.now) }
     {
         match self.function(id) {
             None => Ok(MethodIds::new(alloc)),
@@ -34,7 +34,7 @@ impl Generics {
     /// Whether a method of a function has an eql specializer of this object for the parameter at this place (HyperSpec
     /// 7.6.2).
     pub fn has_eql(&self, id: GenericId, place: usize, object: &Value) -> bool
-        ensures { result ≡ has_eql self.now id.0 place (value_of object.now) }
+        ensures { result ≡ has_eql self.now.table id.0 place (value_of object.now) }
     {
         match self.function(id) {
             None => false,
@@ -47,7 +47,7 @@ impl Generics {
     /// Whether the keyword arguments of a call of a function are checked, where these methods are applicable (HyperSpec
     /// 7.6.5).
     pub fn checks_keywords(&self, id: GenericId, applicable: &[MethodId]) -> bool
-        ensures { result ≡ checks_keywords self.now id.0 (method_numbers applicable.now) }
+        ensures { result ≡ checks_keywords self.now.table id.0 (method_numbers applicable.now) }
     {
         match self.function(id) {
             None => false,
@@ -61,7 +61,7 @@ impl Generics {
 
     /// Whether a call of a function may have any keyword arguments, where these methods are applicable (HyperSpec 7.6.5).
     pub fn allows_all(&self, id: GenericId, applicable: &[MethodId]) -> bool
-        ensures { result ≡ allows_all self.now id.0 (method_numbers applicable.now) }
+        ensures { result ≡ allows_all self.now.table id.0 (method_numbers applicable.now) }
     {
         match self.function(id) {
             None => false,
@@ -73,7 +73,7 @@ impl Generics {
 
     /// Whether a call of a function may have this keyword argument, where these methods are applicable (HyperSpec 7.6.5).
     pub fn accepts(&self, id: GenericId, applicable: &[MethodId], name: &Name) -> bool
-        ensures { result ≡ accepts self.now id.0 (method_numbers applicable.now) name.now }
+        ensures { result ≡ accepts self.now.table id.0 (method_numbers applicable.now) name.now }
     {
         match self.function(id) {
             None => false,

@@ -1,5 +1,5 @@
 //! What a definition says of a generic function, besides its name and its methods.
-ghost use Rattle.std.specs.Prelude.{◌≡◌, ◌++◌, ◌∷◌, [], IfOk, OnOk, if◌then◌else◌, is_ok};
+ghost use Rattle.std.specs.Prelude.{◌≡◌, ◌++◌, ◌∷◌, [], IfOk, if◌then◌else◌, is_ok};
 ghost use Rattle.clos_generic.specs.Initial.{left_to_right, standard, standard_options};
 
 use clos_method::Shape;

@@ -1,8 +1,8 @@
 //! Why the changes of a definition form can't be made.
-ghost use Rattle.std.specs.Prelude.{◌≡◌, ◌<◌, ◌≤◌, ◌+◌, None, MatchResult, length, not, is_some, option_map, slice_get};
+ghost use Rattle.std.specs.Prelude.{◌≡◌, ◌<◌, ◌≤◌, ◌+◌, None, MatchResult, not, is_some, option_map, slice_get};
 ghost use Rattle.std.specs.List.{list_all, list_any};
 ghost use Rattle.clos_method.specs.MethodIds.{method_numbers};
-ghost use Rattle.clos_generic.specs.Changes.{addition_fits, all_congruent, all_supported, changes_refusal, closed_refusal, definition_fits, fits_or_goes, has_open, is_removal_of, is_supported, new_functions, one_more_if_new, has_number, removals_refusal, shape_after, shape_if, shape_in, staying_fit, too_many};
+ghost use Rattle.clos_generic.specs.Changes.{addition_fits, all_congruent, all_supported, changes_refusal, closed_refusal, definition_fits, fits_or_goes, has_open, is_removal_of, is_supported, new_functions, one_more_if_new, has_number, removals_refusal, shape_after, shape_if, shape_in, too_many};
 ghost use Rattle.clos_generic.specs.Fault.{is_system};
 ghost use Rattle.clos_generic.specs.FaultView.{Tells};
 ghost use Rattle.clos_generic.specs.Table.{named};
@@ -39,7 +39,7 @@ impl Generics {
         shape: &Shape,
         methods: &[MethodId],
     ) -> bool
-        ensures { result ≡ list_all (fits_or_goes self.now removals.now id.0 shape.now) (method_numbers methods.now) }
+        ensures { result ≡ list_all (fits_or_goes self.now.table removals.now id.0 shape.now) (method_numbers methods.now) }
     {
         let mut left = methods;
         while let Some((method, others)) = left.split_first() {
@@ -52,7 +52,7 @@ impl Generics {
     }
 
     fn definition_fits(&self, removals: &[Removal], definition: &Definition) -> bool
-        ensures { result ≡ definition_fits self.now removals.now definition.now }
+        ensures { result ≡ definition_fits self.now.table removals.now definition.now }
     {
         match self.named(&definition.name) {
             None => true,
@@ -69,7 +69,7 @@ impl Generics {
     }
 
     fn definitions_fit(&self, removals: &[Removal], definitions: &[Definition]) -> bool
-        ensures { result ≡ list_all (definition_fits self.now removals.now) definitions.now }
+        ensures { result ≡ list_all (definition_fits self.now.table removals.now) definitions.now }
     {
         let mut left = definitions;
         while let Some((definition, others)) = left.split_first() {
@@ -83,7 +83,7 @@ impl Generics {
 
     /// The shape that a function has, if there is one of this number.
     fn shape_now(&self, id: GenericId) -> Option<&Shape>
-        ensures { option_map (λ s. s.now) result ≡ shape_in (slice_get self.now.functions id.0) }
+        ensures { option_map (λ s. s.now) result ≡ shape_in (slice_get self.now.table.functions id.0) }
     {
         match self.function(id) {
             None => None,
@@ -93,7 +93,7 @@ impl Generics {
 
     /// Whether the function that was found, or a new one after so many new ones, has this number.
     fn has_number(&self, found: Option<GenericId>, added: usize, id: GenericId) -> bool
-        ensures { result ≡ has_number self.now (option_map (λ g. g.0) found) added id.0 }
+        ensures { result ≡ has_number self.now.table (option_map (λ g. g.0) found) added id.0 }
     {
         let count = self.function_count();
         match found {
@@ -104,7 +104,7 @@ impl Generics {
 
     /// The shape that it has after these definitions.
     fn shape_after<'a>(&'a self, definitions: &'a [Definition], id: GenericId) -> Option<&'a Shape>
-        ensures { option_map (λ s. s.now) result ≡ shape_after self.now 0 definitions.now id.0 (shape_in (slice_get self.now.functions id.0)) }
+        ensures { option_map (λ s. s.now) result ≡ shape_after self.now.table 0 definitions.now id.0 (shape_in (slice_get self.now.table.functions id.0)) }
     {
         let mut shape = self.shape_now(id);
         let mut added = 0;
@@ -124,7 +124,7 @@ impl Generics {
 
     /// Whether a method may be one of its function, as it is after these definitions (HyperSpec 7.6.4).
     pub fn addition_fits(&self, definitions: &[Definition], addition: &Addition) -> bool
-        ensures { result ≡ addition_fits self.now definitions.now addition.now }
+        ensures { result ≡ addition_fits self.now.table definitions.now addition.now }
     {
         match self.shape_after(definitions, addition.generic) {
             None => true,
@@ -133,7 +133,7 @@ impl Generics {
     }
 
     fn additions_fit(&self, definitions: &[Definition], additions: &[Addition]) -> bool
-        ensures { result ≡ list_all (addition_fits self.now definitions.now) additions.now }
+        ensures { result ≡ list_all (addition_fits self.now.table definitions.now) additions.now }
     {
         let mut left = additions;
         while let Some((addition, others)) = left.split_first() {
@@ -146,14 +146,14 @@ impl Generics {
     }
 
     fn all_congruent(&self, changes: &Changes) -> bool
-        ensures { result ≡ all_congruent self.now changes.now }
+        ensures { result ≡ all_congruent self.now.table changes.now }
     {
         self.definitions_fit(changes.removals(), changes.definitions())
             && self.additions_fit(changes.definitions(), changes.additions())
     }
 
     fn refuse_removals(&self, removals: &[Removal]) -> Result<(), GenericFault>
-        ensures { MatchResult result (λ _. removals_refusal self.now removals.now ≡ None) (λ e. Tells e (removals_refusal self.now removals.now)) }
+        ensures { MatchResult result (λ _. removals_refusal self.now.table removals.now ≡ None) (λ e. Tells e (removals_refusal self.now.table removals.now)) }
     {
         let mut left = removals;
         while let Some((removal, others)) = left.split_first() {
@@ -166,7 +166,7 @@ impl Generics {
     }
 
     fn is_supported(&self, id: GenericId, likeness: &Option<Likeness>) -> bool
-        ensures { result ≡ is_supported self.now id.0 likeness.now }
+        ensures { result ≡ is_supported self.now.table id.0 likeness.now }
     {
         match likeness {
             None => true,
@@ -178,13 +178,13 @@ impl Generics {
     }
 
     fn all_supported(&self, changes: &Changes) -> bool
-        ensures { result ≡ all_supported self.now changes.now }
+        ensures { result ≡ all_supported self.now.table changes.now }
     {
         self.none_of_system(changes.definitions()) && self.additions_supported(changes.additions())
     }
 
     fn is_of_system(&self, name: &FunctionName) -> bool
-        ensures { result ≡ is_system (named self.now name.now) }
+        ensures { result ≡ is_system (named self.now.table name.now) }
     {
         match self.named(name) {
             None => false,
@@ -193,7 +193,7 @@ impl Generics {
     }
 
     fn none_of_system(&self, definitions: &[Definition]) -> bool
-        ensures { result ≡ list_all (λ d. not (is_system (named self.now d.name))) definitions.now }
+        ensures { result ≡ list_all (λ d. not (is_system (named self.now.table d.name))) definitions.now }
     {
         let mut left = definitions;
         while let Some((definition, others)) = left.split_first() {
@@ -206,7 +206,7 @@ impl Generics {
     }
 
     fn additions_supported(&self, additions: &[Addition]) -> bool
-        ensures { result ≡ list_all (λ a. is_supported self.now a.generic.0 a.likeness) additions.now }
+        ensures { result ≡ list_all (λ a. is_supported self.now.table a.generic.0 a.likeness) additions.now }
     {
         let mut left = additions;
         while let Some((addition, others)) = left.split_first() {
@@ -219,7 +219,7 @@ impl Generics {
     }
 
     fn new_functions(&self, definitions: &[Definition]) -> usize
-        ensures { result ≡ new_functions self.now definitions.now }
+        ensures { result ≡ new_functions self.now.table definitions.now }
     {
         definitions
             .iter()
@@ -228,14 +228,14 @@ impl Generics {
     }
 
     fn has_too_many(&self, changes: &Changes) -> bool
-        ensures { result ≡ too_many self.now changes.now }
+        ensures { result ≡ too_many self.now.table changes.now }
     {
         self.functions_left() < self.new_functions(changes.definitions()) as u64
             || self.methods_left() < changes.additions().len() as u64
     }
 
     fn refuse_closed(&self, changes: &Changes) -> Result<(), GenericFault>
-        ensures { MatchResult result (λ _. closed_refusal self.now changes.now ≡ None) (λ e. Tells e (closed_refusal self.now changes.now)) }
+        ensures { MatchResult result (λ _. closed_refusal self.now.table changes.now ≡ None) (λ e. Tells e (closed_refusal self.now.table changes.now)) }
     {
         if let Err(fault) = self.refuse_removals(changes.removals()) {
             return Err(fault);
@@ -251,7 +251,7 @@ impl Generics {
 
     /// The first fault of these changes. It takes no memory.
     pub fn refuse_changes(&self, changes: &Changes) -> Result<(), GenericFault>
-        ensures { MatchResult result (λ _. changes_refusal self.now changes.now ≡ None) (λ e. Tells e (changes_refusal self.now changes.now)) }
+        ensures { MatchResult result (λ _. changes_refusal self.now.table changes.now ≡ None) (λ e. Tells e (changes_refusal self.now.table changes.now)) }
     {
         if !self.all_congruent(changes) {
             return Err(GenericFault::Incongruent);

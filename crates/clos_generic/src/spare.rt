@@ -1,7 +1,8 @@
 //! Memory that was taken beforehand for functions that are to be made, and for methods that are to be added.
 ghost use Rattle.std.specs.Prelude.{◌≡◌, ◌==◌, ◌≤◌, [], ℕ, IfOk, map, slice_get, vec_capacity};
 ghost use Rattle.clos_generic.specs.inner.Reserved.{HasSpare, first_if, ids_of, keys_of};
-ghost use Rattle.clos_generic.specs.Table.{after_first, same_function};
+ghost use Rattle.clos_generic.specs.Held.{after_first};
+ghost use Rattle.clos_generic.specs.Table.{same_function};
 
 use crate::changes::{Addition, Definition};
 use crate::names::{copy_name, is_same};

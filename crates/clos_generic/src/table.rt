@@ -1,13 +1,14 @@
 //! The generic functions of a session and their methods.
-ghost use Rattle.std.specs.Prelude.{◌≡◌, ◌==◌, ◌<◌, ◌+◌, ◌-◌, ◌++◌, ◌∷◌, ◌||◌, [], true, None, IfOk, IsOk, IfErr, IfSome, OnOk, OnErr, MatchResult, is_some, length, option_map, option_copied, slice_get};
+ghost use Rattle.std.specs.Prelude.{◌≡◌, ◌==◌, ◌<◌, ◌-◌, ◌∷◌, ◌||◌, [], true, None, IfOk, IsOk, IfErr, OnOk, OnErr, MatchResult, is_some, length, option_map, option_copied, slice_get};
 ghost use Rattle.std.specs.List.{list_any};
 ghost use Rattle.clos_forms.specs.declared.operator.FunctionName.TheVariants.{Symbol, Setf};
-ghost use Rattle.clos_generic.specs.Changes.{changes_refusal, released, reserved};
+ghost use Rattle.clos_generic.specs.Changes.{changes_refusal};
+ghost use Rattle.clos_generic.specs.Held.{by_addition, by_definition, is_first, released, reserved};
 ghost use Rattle.clos_method.specs.System.{system_functions};
 ghost use Rattle.clos_generic.specs.Fault.{addition_refusal, all_fit, definition_refusal, is_system, refusal_at, removal_refusal, system_count, takes_in};
 ghost use Rattle.clos_generic.specs.FaultView.{Refuses, Tells};
 ghost use Rattle.clos_generic.specs.Initial.{empty, initial, with_system, with_systems};
-ghost use Rattle.clos_generic.specs.Table.{find_method, is_first, methods_named, methods_of, named, number, same_function, with_definition, with_method, without_method};
+ghost use Rattle.clos_generic.specs.Table.{find_method, methods_named, methods_of, named, number, same_function, with_definition, with_method, without_method};
 ghost use Rattle.clos_generic.specs.TableView.{function_of, with_made, with_redefined};
 
 use crate::changes::Changes;
@@ -45,13 +46,13 @@ pub struct Generics {
 }
 
 impl Model for Generics {
-    ghost use Rattle.clos_generic.specs.Table.{Table};
+    ghost use Rattle.clos_generic.specs.Held.{Held};
 
-    ghost Value = { Table };
+    ghost Value = { Held };
 
-    ghost use Rattle.clos_generic.specs.inner.TableCode.{table_code};
+    ghost use Rattle.clos_generic.specs.inner.TableCode.{held_code};
 
-    ghost coded = { table_code };
+    ghost coded = { held_code };
 
     ghost use Rattle.std.specs.HashMap.{get, spare};
     ghost use Rattle.clos_generic.specs.inner.Reserved.{IsReady, ids_of, keys_of};
@@ -59,7 +60,7 @@ impl Model for Generics {
     ghost use Rattle.clos_forms.specs.declared.operator.FunctionName.TheVariants.{Symbol, Setf};
     ghost use Rattle.clos_generic.specs.TableView.{IsIndexed, functions_in};
 
-    ghost view = { λ a. record { functions = functions_in a.functions.items; methods = a.methods.items; most_functions = a.most_functions; most_methods = a.most_methods; definitions = keys_of a.spares.items; additions = ids_of a.additions.items } };
+    ghost view = { λ a. record { table = record { functions = functions_in a.functions.items; methods = a.methods.items; most_functions = a.most_functions; most_methods = a.most_methods }; definitions = keys_of a.spares.items; additions = ids_of a.additions.items } };
 
     ghost invariant = { λ a. IsIndexed (functions_in a.functions.items) Symbol (λ n. get same_name a.symbols n) × IsIndexed (functions_in a.functions.items) Setf (λ n. get same_name a.setters n)
         × IsReady a.functions (spare a.symbols) (spare a.setters) a.methods a.spares.items a.additions.items };
@@ -69,7 +70,7 @@ impl Generics {
     /// The generic functions of the system with their methods (HyperSpec 7.1, 7.3, 7.6.6.1, 7.7), and room for so many
     /// functions and methods besides.
     pub fn new(alloc: Global, functions: u64, methods: u64) -> Result<Generics, AllocError>
-        ensures { IfOk result (λ r. r ≡ initial functions methods) }
+        ensures { IfOk result (λ r. r.table ≡ initial functions methods) }
     {
         let mut generics = Generics::empty(alloc, functions, methods);
         generics.push_all_of_system(alloc)?;
@@ -78,7 +79,7 @@ impl Generics {
 
     /// The number of the function of this name.
     pub fn named(&self, name: &FunctionName) -> Option<GenericId>
-        ensures { option_map (λ g. g.0) result ≡ named self.now name.now }
+        ensures { option_map (λ g. g.0) result ≡ named self.now.table name.now }
     {
         match name {
             FunctionName::Symbol(name) => self.named_by_symbol(name),
@@ -88,49 +89,49 @@ impl Generics {
 
     /// The number of the function that this symbol names.
     pub fn named_by_symbol(&self, name: &Name) -> Option<GenericId>
-        ensures { option_map (λ g. g.0) result ≡ named self.now (Symbol name.now) }
+        ensures { option_map (λ g. g.0) result ≡ named self.now.table (Symbol name.now) }
     {
         self.symbols.get(name).copied()
     }
 
     /// The number of the function that `(setf name)` names.
     pub fn named_by_setf(&self, name: &Name) -> Option<GenericId>
-        ensures { option_map (λ g. g.0) result ≡ named self.now (Setf name.now) }
+        ensures { option_map (λ g. g.0) result ≡ named self.now.table (Setf name.now) }
     {
         self.setters.get(name).copied()
     }
 
     /// How many functions there are.
     pub fn function_count(&self) -> u64
-        ensures { result ≡ length self.now.functions }
+        ensures { result ≡ length self.now.table.functions }
     {
         self.functions.len() as u64
     }
 
     /// How many methods were ever made.
     pub fn method_count(&self) -> u64
-        ensures { result ≡ length self.now.methods }
+        ensures { result ≡ length self.now.table.methods }
     {
         self.methods.len() as u64
     }
 
     /// The function of this number, if there is one.
     pub fn function(&self, id: GenericId) -> Option<&Function>
-        ensures { option_map (λ f. function_of f.now) result ≡ slice_get self.now.functions id.0 }
+        ensures { option_map (λ f. function_of f.now) result ≡ slice_get self.now.table.functions id.0 }
     {
         self.functions.get(id.0 as usize)
     }
 
     /// The method of this number, if there is one.
     pub fn method(&self, id: MethodId) -> Option<&Method>
-        ensures { option_copied result ≡ slice_get self.now.methods id.0 }
+        ensures { option_copied result ≡ slice_get self.now.table.methods id.0 }
     {
         self.methods.get(id.0 as usize)
     }
 
     /// All methods that were ever made, by their numbers.
     pub fn methods(&self) -> &[Method]
-        ensures { result.now ≡ self.now.methods }
+        ensures { result.now ≡ self.now.table.methods }
     {
         self.methods.as_slice()
     }
@@ -142,7 +143,7 @@ impl Generics {
         qualifiers: &Qualifiers,
         specializers: &Specializers,
     ) -> Option<MethodId>
-        ensures { option_map (λ m. m.0) result ≡ find_method self.now id.0 qualifiers.now specializers.now }
+        ensures { option_map (λ m. m.0) result ≡ find_method self.now.table id.0 qualifiers.now specializers.now }
     {
         match self.function(id) {
             None => None,
@@ -157,7 +158,7 @@ impl Generics {
 
     /// No functions.
     fn empty(alloc: Global, functions: u64, methods: u64) -> Generics
-        ensures { result ≡ empty functions methods }
+        ensures { result.table ≡ empty functions methods }
     {
         Generics {
             functions: Vec::new(alloc),
@@ -173,7 +174,7 @@ impl Generics {
 
     /// The functions of the system, each with its method.
     fn push_all_of_system(&mut self, alloc: Global) -> Result<(), AllocError>
-        ensures { OnOk result (self.new ≡ with_systems system_functions self.old) }
+        ensures { OnOk result (self.new.table ≡ with_systems system_functions self.old.table) }
     {
         self.push_system(alloc, SystemFunction::InitializeInstance)?;
         self.push_system(alloc, SystemFunction::ReinitializeInstance)?;
@@ -188,7 +189,7 @@ impl Generics {
 
     /// A function of the system, with its method.
     fn push_system(&mut self, alloc: Global, function: SystemFunction) -> Result<(), AllocError>
-        ensures { OnOk result (self.new ≡ with_system function self.old) }
+        ensures { OnOk result (self.new.table ≡ with_system function self.old.table) }
     {
         let id = GenericId(self.function_count());
         let options = system_options(alloc, function)?;
@@ -226,7 +227,7 @@ impl Generics {
     /// Makes a function, for which there is memory.
     fn make_reserved(&mut self, name: FunctionName, options: Options)
         requires { is_first (λ n. same_function n name) self.old.definitions ≡ true }
-        ensures { self.new ≡ with_made name options self.old }
+        ensures { self.new ≡ by_definition name (with_made name options) self.old }
     {
         let id = GenericId(self.functions.len() as u64);
         let Some(spare) = take_spare(&mut self.spares, &name) else {
@@ -246,7 +247,7 @@ impl Generics {
         name: FunctionName,
         options: Options,
     ) -> Result<(), AllocError>
-        ensures ok { OnOk result (self.new ≡ with_made name options self.old) }
+        ensures ok { OnOk result (self.new ≡ by_definition name (with_made name options) self.old) }
         ensures succeeds { is_first (λ n. same_function n name) self.old.definitions ≡ true → IsOk result }
         ensures err { OnErr result (self.new ≡ self.old) }
     {
@@ -263,7 +264,7 @@ impl Generics {
         id: Option<GenericId>,
         options: &Options,
     ) -> Result<(), GenericFault>
-        ensures { MatchResult result (λ _. refusal_at self.now (option_map (λ g. g.0) id) options.now ≡ None) (λ e. Tells e (refusal_at self.now (option_map (λ g. g.0) id) options.now)) }
+        ensures { MatchResult result (λ _. refusal_at self.now.table (option_map (λ g. g.0) id) options.now ≡ None) (λ e. Tells e (refusal_at self.now.table (option_map (λ g. g.0) id) options.now)) }
     {
         if !self.methods_fit(id, &options.shape) {
             return Err(GenericFault::Incongruent);
@@ -284,7 +285,7 @@ impl Generics {
     }
 
     fn methods_fit(&self, id: Option<GenericId>, shape: &Shape) -> bool
-        ensures { result ≡ all_fit self.now.methods shape.now (methods_named self.now (option_map (λ g. g.0) id)) }
+        ensures { result ≡ all_fit self.now.table.methods shape.now (methods_named self.now.table (option_map (λ g. g.0) id)) }
     {
         match id {
             None => true,
@@ -306,11 +307,11 @@ impl Generics {
         name: FunctionName,
         options: Options,
     ) -> Result<GenericId, GenericFault>
-        ensures ok { OnOk result ((definition_refusal self.old name options ≡ None) × (self.new ≡ with_definition name options self.old)) }
-        ensures id { IfOk result (λ g. g.0 ≡ number self.old name) }
-        ensures fault { IfErr result (λ e. Refuses e (definition_refusal self.old name options)) }
-        ensures reserved { is_first (λ n. same_function n name) self.old.definitions ≡ true → definition_refusal self.old name options ≡ None → IsOk result }
-        ensures again { is_some (named self.old name) ≡ true → definition_refusal self.old name options ≡ None → IsOk result }
+        ensures ok { OnOk result ((definition_refusal self.old.table name options ≡ None) × (self.new ≡ by_definition name (with_definition name options) self.old)) }
+        ensures id { IfOk result (λ g. g.0 ≡ number self.old.table name) }
+        ensures fault { IfErr result (λ e. Refuses e (definition_refusal self.old.table name options)) }
+        ensures reserved { is_first (λ n. same_function n name) self.old.definitions ≡ true → definition_refusal self.old.table name options ≡ None → IsOk result }
+        ensures again { is_some (named self.old.table name) ≡ true → definition_refusal self.old.table name options ≡ None → IsOk result }
         ensures err { OnErr result (self.new ≡ self.old) }
     {
         let found = self.named(&name);
@@ -333,9 +334,9 @@ impl Generics {
     /// The same where it can't be refused: the memory for it is reserved, or the function is there. It does not ask whether
     /// the changes to come allow it, as `reserve` does.
     pub fn define_reserved(&mut self, name: FunctionName, options: Options) -> GenericId
-        requires { (is_first (λ n. same_function n name) self.old.definitions || is_some (named self.old name)) ≡ true }
-        ensures seen { self.new ≡ with_definition name options self.old }
-        ensures id { result.0 ≡ number self.old name }
+        requires { (is_first (λ n. same_function n name) self.old.definitions || is_some (named self.old.table name)) ≡ true }
+        ensures seen { self.new ≡ by_definition name (with_definition name options) self.old }
+        ensures id { result.0 ≡ number self.old.table name }
     {
         match self.named(&name) {
             Some(id) => {
@@ -351,8 +352,8 @@ impl Generics {
     }
 
     fn redefine(&mut self, id: GenericId, name: &FunctionName, options: Options)
-        requires { id.0 < length self.old.functions }
-        ensures { self.new ≡ with_redefined id.0 name.now options self.old }
+        requires { id.0 < length self.old.table.functions }
+        ensures { self.new ≡ by_definition name.now (with_redefined id.0 options) self.old }
     {
         redefine_at(&mut self.functions, id, options);
         let _ = take_spare(&mut self.spares, name);
@@ -360,7 +361,7 @@ impl Generics {
 
     /// The fault of an addition of this method to a function.
     fn refuse_addition(&self, id: GenericId, method: &Method) -> Result<(), GenericFault>
-        ensures { MatchResult result (λ _. addition_refusal self.now id.0 method.now ≡ None) (λ e. Tells e (addition_refusal self.now id.0 method.now)) }
+        ensures { MatchResult result (λ _. addition_refusal self.now.table id.0 method.now ≡ None) (λ e. Tells e (addition_refusal self.now.table id.0 method.now)) }
     {
         if !self.takes(id, &method.shape) {
             return Err(GenericFault::Incongruent);
@@ -378,7 +379,7 @@ impl Generics {
 
     /// How many functions the program may still make.
     pub(crate) fn functions_left(&self) -> u64
-        ensures { result ≡ self.now.most_functions - (length self.now.functions - system_count) }
+        ensures { result ≡ self.now.table.most_functions - (length self.now.table.functions - system_count) }
     {
         let made = self.function_count().saturating_sub(SystemFunction::COUNT);
         self.most_functions.saturating_sub(made)
@@ -386,14 +387,14 @@ impl Generics {
 
     /// How many methods the program may still make.
     pub(crate) fn methods_left(&self) -> u64
-        ensures { result ≡ self.now.most_methods - (length self.now.methods - system_count) }
+        ensures { result ≡ self.now.table.most_methods - (length self.now.table.methods - system_count) }
     {
         let made = self.method_count().saturating_sub(SystemFunction::COUNT);
         self.most_methods.saturating_sub(made)
     }
 
     fn takes(&self, id: GenericId, shape: &Shape) -> bool
-        ensures { result ≡ takes_in shape.now (slice_get self.now.functions id.0) }
+        ensures { result ≡ takes_in shape.now (slice_get self.now.table.functions id.0) }
     {
         match self.function(id) {
             None => true,
@@ -408,7 +409,7 @@ impl Generics {
         qualifiers: &Qualifiers,
         specializers: &Specializers,
     ) -> bool
-        ensures { result ≡ is_system (find_method self.now id.0 qualifiers.now specializers.now) }
+        ensures { result ≡ is_system (find_method self.now.table id.0 qualifiers.now specializers.now) }
     {
         match self.find(id, qualifiers, specializers) {
             None => false,
@@ -427,12 +428,12 @@ impl Generics {
         id: GenericId,
         method: Method,
     ) -> Result<Option<MethodId>, GenericFault>
-        requires within { id.0 < length self.old.functions }
+        requires within { id.0 < length self.old.table.functions }
         requires own { method.generic ≡ id }
-        ensures ok { OnOk result ((addition_refusal self.old id.0 method ≡ None) × (self.new ≡ with_method id.0 method self.old)) }
-        ensures replaced { IfOk result (λ r. option_map (λ m. m.0) r ≡ find_method self.old id.0 method.qualifiers method.specializers) }
-        ensures fault { IfErr result (λ e. Refuses e (addition_refusal self.old id.0 method)) }
-        ensures reserved { is_first (λ h. h == id.0) self.old.additions ≡ true → addition_refusal self.old id.0 method ≡ None → IsOk result }
+        ensures ok { OnOk result ((addition_refusal self.old.table id.0 method ≡ None) × (self.new ≡ by_addition id.0 (with_method id.0 method) self.old)) }
+        ensures replaced { IfOk result (λ r. option_map (λ m. m.0) r ≡ find_method self.old.table id.0 method.qualifiers method.specializers) }
+        ensures fault { IfErr result (λ e. Refuses e (addition_refusal self.old.table id.0 method)) }
+        ensures reserved { is_first (λ h. h == id.0) self.old.additions ≡ true → addition_refusal self.old.table id.0 method ≡ None → IsOk result }
         ensures err { OnErr result (self.new ≡ self.old) }
     {
         if let Err(fault) = self.refuse_addition(id, &method) {
@@ -443,8 +444,8 @@ impl Generics {
 
     /// Puts the next method, which is this one, at the end of a function's.
     fn put(&mut self, id: GenericId, method: Method) -> Result<Option<MethodId>, AllocError>
-        ensures ok { OnOk result (self.new ≡ with_method id.0 method self.old) }
-        ensures replaced { IfOk result (λ r. option_map (λ m. m.0) r ≡ find_method self.old id.0 method.qualifiers method.specializers) }
+        ensures ok { OnOk result (self.new ≡ by_addition id.0 (with_method id.0 method) self.old) }
+        ensures replaced { IfOk result (λ r. option_map (λ m. m.0) r ≡ find_method self.old.table id.0 method.qualifiers method.specializers) }
         ensures succeeds { is_first (λ h. h == id.0) self.old.additions ≡ true → IsOk result }
         ensures err { OnErr result (self.new ≡ self.old) }
     {
@@ -458,8 +459,8 @@ impl Generics {
     /// The same where it can't be refused, since the memory for it is reserved.
     pub fn add_reserved(&mut self, id: GenericId, method: Method) -> Option<MethodId>
         requires { is_first (λ h. h == id.0) self.old.additions ≡ true }
-        ensures seen { self.new ≡ with_method id.0 method self.old }
-        ensures replaced { option_map (λ m. m.0) result ≡ find_method self.old id.0 method.qualifiers method.specializers }
+        ensures seen { self.new ≡ by_addition id.0 (with_method id.0 method) self.old }
+        ensures replaced { option_map (λ m. m.0) result ≡ find_method self.old.table id.0 method.qualifiers method.specializers }
     {
         let Ok(replaced) = self.put(id, method) else {
             unreachable!()
@@ -470,8 +471,8 @@ impl Generics {
     /// Takes a method out of its function. It stays among all methods (HyperSpec 7.7, remove-method). The faults: the method
     /// is the system's, or else not one of the function's. It takes no memory.
     pub fn remove_method(&mut self, id: GenericId, method: MethodId) -> Result<(), GenericFault>
-        ensures ok { OnOk result ((removal_refusal self.old id.0 method.0 ≡ None) × (self.new ≡ without_method id.0 method.0 self.old)) }
-        ensures fault { IfErr result (λ e. Tells e (removal_refusal self.old id.0 method.0)) }
+        ensures ok { OnOk result ((removal_refusal self.old.table id.0 method.0 ≡ None) × (self.new ≡ record self.old { table = without_method id.0 method.0 self.old.table })) }
+        ensures fault { IfErr result (λ e. Tells e (removal_refusal self.old.table id.0 method.0)) }
         ensures err { OnErr result (self.new ≡ self.old) }
     {
         if let Err(fault) = self.refuse_removal(id, method) {
@@ -483,7 +484,7 @@ impl Generics {
 
     /// The same where it can't be refused: where the function has no such method, nothing is changed.
     pub fn take_out(&mut self, id: GenericId, method: MethodId)
-        ensures { self.new ≡ without_method id.0 method.0 self.old }
+        ensures { self.new ≡ record self.old { table = without_method id.0 method.0 self.old.table } }
     {
         if id.0 < self.function_count() {
             take_out_at(&mut self.functions, id, method);
@@ -492,7 +493,7 @@ impl Generics {
 
     /// The fault of a removal of this method.
     pub(crate) fn refuse_removal(&self, id: GenericId, method: MethodId) -> Result<(), GenericFault>
-        ensures { MatchResult result (λ _. removal_refusal self.now id.0 method.0 ≡ None) (λ e. Tells e (removal_refusal self.now id.0 method.0)) }
+        ensures { MatchResult result (λ _. removal_refusal self.now.table id.0 method.0 ≡ None) (λ e. Tells e (removal_refusal self.now.table id.0 method.0)) }
     {
         if method.0 < SystemFunction::COUNT {
             return Err(GenericFault::Unsupported);
@@ -505,7 +506,7 @@ impl Generics {
 
     /// Whether this is a method of this function.
     fn has_method(&self, id: GenericId, method: MethodId) -> bool
-        ensures { result ≡ list_any (λ n. n == method.0) (methods_of self.now id.0) }
+        ensures { result ≡ list_any (λ n. n == method.0) (methods_of self.now.table id.0) }
     {
         match self.function(id) {
             None => false,
@@ -514,7 +515,7 @@ impl Generics {
     }
 
     /// Nothing is reserved after it.
-    pub fn release(&mut self)
+    fn release(&mut self)
         ensures { self.new ≡ released self.old }
     {
         self.spares.clear();
@@ -527,8 +528,8 @@ impl Generics {
     /// was refused, and nothing is reserved. The functions and the methods stay as they were.
     #[tactic(auto, using(crate::proofs::Told::told_refuses, crate::proofs::Told::told_none))]
     pub fn reserve(&mut self, alloc: Global, changes: &Changes) -> Result<(), GenericFault>
-        ensures ok { OnOk result ((changes_refusal self.old changes.now ≡ None) × (self.new ≡ reserved changes.now self.old)) }
-        ensures fault { IfErr result (λ e. Refuses e (changes_refusal self.old changes.now)) }
+        ensures ok { OnOk result ((changes_refusal self.old.table changes.now ≡ None) × (self.new ≡ reserved changes.now self.old)) }
+        ensures fault { IfErr result (λ e. Refuses e (changes_refusal self.old.table changes.now)) }
         ensures err { OnErr result (self.new ≡ released self.old) }
     {
         if let Err(fault) = self.refuse_changes(changes) {

@@ -9,7 +9,7 @@ use Rattle.std.proofs.lemmas.Option.{slice_get_read, slice_get_past}
 use Rattle.std.proofs.lemmas.Bool.{ltb-false}
 use Rattle.lisp_data.specs.Name.{Name, same_name}
 use Rattle.lisp_data.specs.Value.{Val}
-use Rattle.clos_store.specs.Store.{Slots, Object, Contents, slot_names, if_bound, value_at, value_named, with_value, with_value_at, with_changed, with_slots, slots_of, place_named}
+use Rattle.clos_store.specs.Store.{Slots, Object, Contents, Held, slot_names, if_bound, value_at, value_named, with_value, with_value_at, with_changed, with_slots, slots_of, place_named}
 
 pub length_of_unbound : {A : Type 0} (n : ℕ) (x : A) → length (replicate n x) ≡ n
 length_of_unbound n x = length-replicate n x
@@ -137,10 +137,11 @@ changed_there (x ∷ os) zero o p change e h = ap (λ y. y ∷ os) (h ∙ ap cha
 changed_there (x ∷ os) (suc n) o p change e h = ap (λ l. x ∷ l) (changed_there os n o p change e h)
 
 -- the slots of one instance changed
-pub slots_changed : (w v : Contents) (i : ℕ) (o p : Object) (change : Slots → Slots) → w ≡ v → o ≡ slice_index_or w.instances (i - 1) o → p ≡ record o { slots = change o.slots } → record w { instances = slice_set w.instances (i - 1) p } ≡ with_slots change i v
+pub slots_changed : (w v : Held) (i : ℕ) (o p : Object) (change : Slots → Slots) → w ≡ v → o ≡ slice_index_or w.contents.instances (i - 1) o → p ≡ record o { slots = change o.slots }
+    → record w { contents = record w.contents { instances = slice_set w.contents.instances (i - 1) p } } ≡ record v { contents = with_slots change i v.contents }
 slots_changed w v i o p change is e h =
-    ap (λ os. record w { instances = os }) (changed_there w.instances (i - 1) o p (λ o. record o { slots = change o.slots }) e h)
-    ∙ ap (λ u. with_slots change i u) is
+    ap (λ os. record w { contents = record w.contents { instances = os } }) (changed_there w.contents.instances (i - 1) o p (λ o. record o { slots = change o.slots }) e h)
+    ∙ ap (λ u. record u { contents = with_slots change i u.contents }) is
 
 changed_alike : (os : List Object) (n : ℕ) (name : Name) (i : ℕ) (value : Option Val) → place (slots_in (slice_get os n)) name ≡ Some i
     → with_changed (λ o. record o { slots = with_value_at i value o.slots }) n os ≡ with_changed (λ o. record o { slots = with_value name value o.slots }) n os
@@ -149,10 +150,14 @@ changed_alike (o ∷ os) zero name i value e = ap (λ ss. record o { slots = ss 
 changed_alike (o ∷ os) (suc n) name i value e = ap (λ l. o ∷ l) (changed_alike os n name i value e)
 
 -- a slot changed at its place is that of its name
-pub slots_placed : (w : Contents) (i : ℕ) (name : Name) (p : ℕ) (value : Option Val) → place_named w i name ≡ Some p → with_slots (with_value_at p value) i w ≡ with_slots (with_value name value) i w
-slots_placed w i name p value e =
+placed : (w : Contents) (i : ℕ) (name : Name) (p : ℕ) (value : Option Val) → place_named w i name ≡ Some p → with_slots (with_value_at p value) i w ≡ with_slots (with_value name value) i w
+placed w i name p value e =
     (elim (i == 0)
     as (λ b. place (slots_in (if b then None else slice_get w.instances (i - 1))) name ≡ Some p → with_slots (with_value_at p value) i w ≡ with_slots (with_value name value) i w) [
       | true ↦ λ h. absurd (true≢false (sym (ap is_some h)))
       | false ↦ λ h. ap (λ os. record w { instances = os }) (changed_alike w.instances (i - 1) name p value h)
     ]) e
+
+pub slots_placed : (h : Held) (i : ℕ) (name : Name) (p : ℕ) (value : Option Val) → place_named h.contents i name ≡ Some p
+    → record h { contents = with_slots (with_value_at p value) i h.contents } ≡ record h { contents = with_slots (with_value name value) i h.contents }
+slots_placed h i name p value e = ap (λ w. record h { contents = w }) (placed h.contents i name p value e)

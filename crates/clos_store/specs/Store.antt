@@ -22,10 +22,9 @@ pub record Contents : Type 0 where
   pub cells : List (Option Val)  -- the same; the first has the number 0
   pub most_instances : ℕ
   pub most_cells : ℕ
-  pub reserved : ℕ  -- so many more cells are sure to be made
 
 abbrev pub empty : ℕ → ℕ → Contents
-empty instances cells = record { instances = []; cells = []; most_instances = instances; most_cells = cells; reserved = 0 }
+empty instances cells = record { instances = []; cells = []; most_instances = instances; most_cells = cells }
 
 -- ---- slots
 
@@ -105,7 +104,7 @@ abbrev pub cell_value : Contents → ℕ → Option Val
 cell_value w c = if_bound (slice_get w.cells c)
 
 abbrev pub with_cell : Option Val → Contents → Contents
-with_cell value w = record w { cells = w.cells ++ value ∷ []; reserved = w.reserved - 1 }
+with_cell value w = record w { cells = w.cells ++ value ∷ [] }
 
 -- so many cells, numbered from this one on
 abbrev pub cells_from : ℕ → ℕ → List CellId
@@ -114,7 +113,7 @@ cells_from first (suc n) = cells_from first n ++ (record { 0 = first + n }) ∷ 
 
 -- one more cell with each of these values
 abbrev pub with_cells : List (Option Val) → Contents → Contents
-with_cells values w = record w { cells = w.cells ++ values; reserved = w.reserved - length values }
+with_cells values w = record w { cells = w.cells ++ values }
 
 abbrev pub with_cell_value : ℕ → Option Val → Contents → Contents
 with_cell_value c value w = record w { cells = slice_set w.cells c value }
@@ -148,3 +147,10 @@ with_place i name value w (Some place) = with_slots (with_value name value) i w
 -- the slot of this name has this value, or none, where the instance has such a slot
 abbrev pub with_slot : ℕ → Name → Option Val → Contents → Contents
 with_slot i name value w = with_place i name value w (place_named w i name)
+
+-- ---- what memory is reserved for, which no answer depends on but that nothing is refused for want of memory
+
+-- what the store has, and how many more cells are sure to be made
+pub record Held : Type 0 where
+  pub contents : Contents
+  pub reserved : ℕ

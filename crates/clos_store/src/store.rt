@@ -1,5 +1,5 @@
 //! The instances of a session, and its cells.
-ghost use Rattle.std.specs.Prelude.{◌≡◌, ◌≤◌, ◌<◌, ◌+◌, ℕ, max, true, Some, None, IfOk, IfErr, IfSome, IsOk, OnOk, OnErr, length, option_map, option_copied};
+ghost use Rattle.std.specs.Prelude.{◌≡◌, ◌≤◌, ◌<◌, ◌+◌, max, true, Some, None, IfOk, IfErr, IfSome, IsOk, OnOk, OnErr, length, option_map, option_copied};
 ghost use Rattle.std.specs.Map.{lookup};
 ghost use Rattle.lisp_data.specs.Name.{same_name};
 ghost use Rattle.lisp_data.specs.ValueView.{value_of};
@@ -29,14 +29,14 @@ pub struct Store {
 
 impl Model for Store {
     ghost use Rattle.std.specs.Prelude.{◌≤◌, ◌+◌, vec_len, vec_capacity};
-    ghost use Rattle.clos_store.specs.Store.{Contents};
-    ghost use Rattle.clos_store.specs.inner.StoreCode.{contents_code};
+    ghost use Rattle.clos_store.specs.Store.{Held};
+    ghost use Rattle.clos_store.specs.inner.StoreCode.{held_code};
 
-    ghost Value = { Contents };
+    ghost Value = { Held };
 
-    ghost coded = { contents_code };
+    ghost coded = { held_code };
 
-    ghost view = { λ a. record { instances = a.instances.items; cells = a.cells.items; most_instances = a.most_instances; most_cells = a.most_cells; reserved = a.reserved } };
+    ghost view = { λ a. record { contents = record { instances = a.instances.items; cells = a.cells.items; most_instances = a.most_instances; most_cells = a.most_cells }; reserved = a.reserved } };
 
     ghost invariant = { λ a. (vec_len a.cells + a.reserved ≤ a.most_cells) × (vec_len a.cells + a.reserved ≤ vec_capacity a.cells) };
 }
@@ -44,7 +44,7 @@ impl Model for Store {
 impl Store {
     /// No instances and no cells, and room for so many.
     pub fn new(alloc: Global, instances: u64, cells: u64) -> Store
-        ensures { result ≡ empty instances cells }
+        ensures { result ≡ record { contents = empty instances cells; reserved = 0 } }
     {
         Store {
             instances: Vec::new(alloc),
@@ -57,7 +57,7 @@ impl Store {
 
     /// Whether an instance may be made.
     pub fn has_room(&self) -> bool
-        ensures { result ≡ has_room self.now }
+        ensures { result ≡ has_room self.now.contents }
     {
         self.instance_count() < self.most_instances
     }
@@ -65,14 +65,14 @@ impl Store {
     /// How many instances were made.
     #[tactic(auto, using(std::proofs::lemmas::Grind::common_steps))]
     pub fn instance_count(&self) -> u64
-        ensures { result ≡ length self.now.instances }
+        ensures { result ≡ length self.now.contents.instances }
     {
         self.instances.len() as u64
     }
 
     /// The number of the instance that is made next, if one may be made.
     pub fn next_instance(&self) -> Option<InstanceId>
-        ensures { option_map (λ i. i.0) result ≡ next_instance self.now }
+        ensures { option_map (λ i. i.0) result ≡ next_instance self.now.contents }
     {
         let count = self.instance_count();
         if count < self.most_instances {
@@ -88,9 +88,9 @@ impl Store {
         class: ClassId,
         layout: &Rc<Layout>,
     ) -> Result<InstanceId, StoreFault>
-        ensures ok { OnOk result ((has_room self.old ≡ true) × (self.new ≡ with_instance (allocated class.0 layout.now.value) self.old)) }
-        ensures id { IfOk result (λ r. r.0 ≡ length self.old.instances + 1) }
-        ensures fault { IfErr result (λ e. Refuses e (has_room self.old)) }
+        ensures ok { OnOk result ((has_room self.old.contents ≡ true) × (self.new ≡ record self.old { contents = with_instance (allocated class.0 layout.now.value) self.old.contents })) }
+        ensures id { IfOk result (λ r. r.0 ≡ length self.old.contents.instances + 1) }
+        ensures fault { IfErr result (λ e. Refuses e (has_room self.old.contents)) }
         ensures err { OnErr result (self.new ≡ self.old) }
     {
         if !self.has_room() {
@@ -102,7 +102,7 @@ impl Store {
     }
 
     fn instance(&self, id: InstanceId) -> Option<&Instance>
-        ensures { option_copied result ≡ instance self.now id.0 }
+        ensures { option_copied result ≡ instance self.now.contents id.0 }
     {
         if id.0 == 0 {
             return None;
@@ -112,7 +112,7 @@ impl Store {
 
     /// The class of an instance.
     pub fn class_of(&self, id: InstanceId) -> Option<ClassId>
-        ensures { option_map (λ c. c.0) result ≡ option_map (λ o. o.class) (instance self.now id.0) }
+        ensures { option_map (λ c. c.0) result ≡ option_map (λ o. o.class) (instance self.now.contents id.0) }
     {
         match self.instance(id) {
             None => None,
@@ -122,7 +122,7 @@ impl Store {
 
     /// The layout that an instance was made with.
     pub fn layout(&self, id: InstanceId) -> Option<&Rc<Layout>>
-        ensures { option_map (λ l. l.now.value) result ≡ option_map kept_layout (instance self.now id.0) }
+        ensures { option_map (λ l. l.now.value) result ≡ option_map kept_layout (instance self.now.contents id.0) }
     {
         match self.instance(id) {
             None => None,
@@ -132,8 +132,8 @@ impl Store {
 
     /// The place of the local slot of this name.
     pub fn place_of(&self, id: InstanceId, name: &Name) -> Option<usize>
-        ensures value { result ≡ place_named self.now id.0 name.now }
-        ensures within { IfSome result (λ p. p < length (slots_of self.now id.0)) }
+        ensures value { result ≡ place_named self.now.contents id.0 name.now }
+        ensures within { IfSome result (λ p. p < length (slots_of self.now.contents id.0)) }
     {
         match self.instance(id) {
             None => None,
@@ -143,7 +143,7 @@ impl Store {
 
     /// The cell of the shared slot of this name.
     pub fn cell(&self, id: InstanceId, name: &Name) -> Option<CellId>
-        ensures { result ≡ lookup (same_name name.now) (shared_of self.now id.0) }
+        ensures { result ≡ lookup (same_name name.now) (shared_of self.now.contents id.0) }
     {
         match self.instance(id) {
             None => None,
@@ -153,16 +153,16 @@ impl Store {
 
     /// The value of the local slot at this place, where it is bound (HyperSpec 7.5.2).
     pub fn read(&self, id: InstanceId, place: usize) -> Option<&Value>
-        requires { place < length (slots_of self.now id.0) }
-        ensures value { option_map (λ v. value_of v.now) result ≡ value_at (slots_of self.now id.0) place }
-        ensures named { (name : _) → place_named self.now id.0 name ≡ Some place → option_map (λ v. value_of v.now) result ≡ value_named (slots_of self.now id.0) name }
+        requires { place < length (slots_of self.now.contents id.0) }
+        ensures value { option_map (λ v. value_of v.now) result ≡ value_at (slots_of self.now.contents id.0) place }
+        ensures named { (name : _) → place_named self.now.contents id.0 name ≡ Some place → option_map (λ v. value_of v.now) result ≡ value_named (slots_of self.now.contents id.0) name }
     {
         self.instances[(id.0 - 1) as usize].read(place)
     }
 
     /// The slot of this name that an instance has, a local or a shared one (HyperSpec 7.5.1).
     pub fn slot(&self, id: InstanceId, name: &Name) -> Option<&Slot>
-        ensures { option_map (λ s. s.now) result ≡ slot_found self.now id.0 name.now }
+        ensures { option_map (λ s. s.now) result ≡ slot_found self.now.contents id.0 name.now }
     {
         match self.instance(id) {
             None => None,
@@ -178,7 +178,7 @@ impl Store {
 
     /// Gives the slot of this name this value, or makes it unbound, where the instance has such a slot.
     pub fn set_slot(&mut self, id: InstanceId, name: &Name, value: Option<Value>)
-        ensures { self.new ≡ with_slot id.0 name.now (option_map value_of value) self.old }
+        ensures { self.new ≡ record self.old { contents = with_slot id.0 name.now (option_map value_of value) self.old.contents } }
     {
         match self.place_of(id, name) {
             Some(place) => self.set(id, place, value),
@@ -191,7 +191,7 @@ impl Store {
 
     /// Gives a cell this value, or none, where there is such a cell.
     fn set_cell(&mut self, id: CellId, value: Option<Value>)
-        ensures { self.new ≡ with_cell_value id.0 (option_map value_of value) self.old }
+        ensures { self.new ≡ record self.old { contents = with_cell_value id.0 (option_map value_of value) self.old.contents } }
     {
         if id.0 < self.cell_count() {
             self.cells[id.0 as usize] = Slot::new(value);
@@ -199,26 +199,26 @@ impl Store {
     }
 
     fn set(&mut self, id: InstanceId, place: usize, value: Option<Value>)
-        requires { place < length (slots_of self.old id.0) }
-        ensures { self.new ≡ with_slots (with_value_at place (option_map value_of value)) id.0 self.old }
+        requires { place < length (slots_of self.old.contents id.0) }
+        ensures { self.new ≡ record self.old { contents = with_slots (with_value_at place (option_map value_of value)) id.0 self.old.contents } }
     {
         self.instances[(id.0 - 1) as usize].set(place, value);
     }
 
     /// Gives the local slot at this place this value.
     pub fn write(&mut self, id: InstanceId, place: usize, value: Value)
-        requires { place < length (slots_of self.old id.0) }
-        ensures value { self.new ≡ with_slots (with_value_at place (Some (value_of value))) id.0 self.old }
-        ensures named { (name : _) → place_named self.old id.0 name ≡ Some place → self.new ≡ with_slots (with_value name (Some (value_of value))) id.0 self.old }
+        requires { place < length (slots_of self.old.contents id.0) }
+        ensures value { self.new ≡ record self.old { contents = with_slots (with_value_at place (Some (value_of value))) id.0 self.old.contents } }
+        ensures named { (name : _) → place_named self.old.contents id.0 name ≡ Some place → self.new ≡ record self.old { contents = with_slots (with_value name (Some (value_of value))) id.0 self.old.contents } }
     {
         self.set(id, place, Some(value));
     }
 
     /// Makes the local slot at this place unbound (HyperSpec 7.7, slot-makunbound).
     pub fn unbind(&mut self, id: InstanceId, place: usize)
-        requires { place < length (slots_of self.old id.0) }
-        ensures value { self.new ≡ with_slots (with_value_at place None) id.0 self.old }
-        ensures named { (name : _) → place_named self.old id.0 name ≡ Some place → self.new ≡ with_slots (with_value name None) id.0 self.old }
+        requires { place < length (slots_of self.old.contents id.0) }
+        ensures value { self.new ≡ record self.old { contents = with_slots (with_value_at place None) id.0 self.old.contents } }
+        ensures named { (name : _) → place_named self.old.contents id.0 name ≡ Some place → self.new ≡ record self.old { contents = with_slots (with_value name None) id.0 self.old.contents } }
     {
         self.set(id, place, None);
     }
@@ -226,30 +226,23 @@ impl Store {
     /// How many cells were made.
     #[tactic(auto, using(std::proofs::lemmas::Grind::common_steps))]
     pub fn cell_count(&self) -> u64
-        ensures { result ≡ length self.now.cells }
+        ensures { result ≡ length self.now.contents.cells }
     {
         self.cells.len() as u64
     }
 
     /// Whether so many more cells may be made.
     pub fn has_room_for(&self, cells: u64) -> bool
-        ensures { result ≡ has_room_for cells self.now }
+        ensures { result ≡ has_room_for cells self.now.contents }
     {
         cells <= self.most_cells - self.cell_count()
-    }
-
-    /// How many more cells are sure to be made.
-    pub fn reserved(&self) -> u64
-        ensures { result ≡ self.now.reserved }
-    {
-        self.reserved
     }
 
     /// Takes the memory for so many more cells: the next so many calls of `new_cell` succeed, or more where more were
     /// reserved before.
     pub fn reserve(&mut self, cells: u64) -> Result<(), StoreFault>
-        ensures ok { OnOk result ((has_room_for cells self.old ≡ true) × (self.new ≡ record self.old { reserved = max self.old.reserved cells })) }
-        ensures fault { IfErr result (λ e. Refuses e (has_room_for cells self.old)) }
+        ensures ok { OnOk result ((has_room_for cells self.old.contents ≡ true) × (self.new ≡ record self.old { reserved = max self.old.reserved cells })) }
+        ensures fault { IfErr result (λ e. Refuses e (has_room_for cells self.old.contents)) }
         ensures err { OnErr result (self.new ≡ self.old) }
     {
         if !self.has_room_for(cells) {
@@ -262,18 +255,10 @@ impl Store {
         Ok(())
     }
 
-    /// No more than so many cells are reserved after it.
-    pub fn release(&mut self, reserved: u64)
-        requires { reserved ≤ self.old.reserved }
-        ensures { self.new ≡ record self.old { reserved = reserved } }
-    {
-        self.reserved = reserved;
-    }
-
     /// The numbers of the next so many cells, which are reserved.
     pub fn next_cells(&self, alloc: Global, count: u64) -> Result<Vec<CellId>, AllocError>
         requires { count ≤ self.now.reserved }
-        ensures { IfOk result (λ r. r.items ≡ cells_from (length self.now.cells) count) }
+        ensures { IfOk result (λ r. r.items ≡ cells_from (length self.now.contents.cells) count) }
     {
         let first = self.cell_count();
         // Below this, no number overflows.
@@ -288,7 +273,7 @@ impl Store {
     /// Makes these cells, which are reserved.
     pub fn new_cells(&mut self, mut cells: Vec<Slot>)
         requires { length cells.items ≤ self.old.reserved }
-        ensures { self.new ≡ with_cells cells.items self.old }
+        ensures { self.new ≡ record { contents = with_cells cells.items self.old.contents; reserved = self.old.reserved - length cells.items } }
     {
         let count = cells.len() as u64;
         let Ok(()) = self.cells.append(&mut cells) else {
@@ -299,9 +284,9 @@ impl Store {
 
     /// Makes a cell with this value, or an unbound one.
     pub fn new_cell(&mut self, value: Option<Value>) -> Result<CellId, StoreFault>
-        ensures ok { OnOk result ((has_room_for 1 self.old ≡ true) × (self.new ≡ with_cell (option_map value_of value) self.old)) }
-        ensures id { IfOk result (λ r. r.0 ≡ length self.old.cells) }
-        ensures fault { IfErr result (λ e. Refuses e (has_room_for 1 self.old)) }
+        ensures ok { OnOk result ((has_room_for 1 self.old.contents ≡ true) × (self.new ≡ record { contents = with_cell (option_map value_of value) self.old.contents; reserved = self.old.reserved - 1 })) }
+        ensures id { IfOk result (λ r. r.0 ≡ length self.old.contents.cells) }
+        ensures fault { IfErr result (λ e. Refuses e (has_room_for 1 self.old.contents)) }
         ensures err { OnErr result (self.new ≡ self.old) }
         ensures reserved { 0 < self.old.reserved → IsOk result }
     {
@@ -316,24 +301,24 @@ impl Store {
 
     /// The value of a cell, where it is bound.
     pub fn read_cell(&self, id: CellId) -> Option<&Value>
-        requires { id.0 < length self.now.cells }
-        ensures { option_map (λ v. value_of v.now) result ≡ cell_value self.now id.0 }
+        requires { id.0 < length self.now.contents.cells }
+        ensures { option_map (λ v. value_of v.now) result ≡ cell_value self.now.contents id.0 }
     {
         self.cells[id.0 as usize].value()
     }
 
     /// Gives a cell this value.
     pub fn write_cell(&mut self, id: CellId, value: Value)
-        requires { id.0 < length self.old.cells }
-        ensures { self.new ≡ with_cell_value id.0 (Some (value_of value)) self.old }
+        requires { id.0 < length self.old.contents.cells }
+        ensures { self.new ≡ record self.old { contents = with_cell_value id.0 (Some (value_of value)) self.old.contents } }
     {
         self.cells[id.0 as usize] = Slot::new(Some(value));
     }
 
     /// Makes a cell unbound.
     pub fn unbind_cell(&mut self, id: CellId)
-        requires { id.0 < length self.old.cells }
-        ensures { self.new ≡ with_cell_value id.0 None self.old }
+        requires { id.0 < length self.old.contents.cells }
+        ensures { self.new ≡ record self.old { contents = with_cell_value id.0 None self.old.contents } }
     {
         self.cells[id.0 as usize] = Slot::new(None);
     }

@@ -4,7 +4,6 @@ use Rattle.lisp_data.specs.Name.{Name, same_name}
 use Rattle.lisp_data.specs.Value.{Val, integer, symbol, string, list, class, generic, method, instance, nil, cons}
 use Rattle.lisp_data.specs.Print.{Names, MethodParts}
 use Rattle.clos_forms.specs.OperatorView.{called_of}
-use Rattle.clos_generic.specs.Changes.{released}
 use Rattle.clos_generic.specs.Table as generics
 use Rattle.clos_method.specs.declared.method.Method.{Method}
 use Rattle.clos_world.specs.declared.limits.Limits.{Limits}
@@ -41,11 +40,11 @@ pub record State : Type 0 where
 abbrev pub seen : World → State
 seen w = record {
   classes = w.classes;
-  generics = released w.generics;
+  generics = w.generics.table;
   functions = w.functions;
   setters = w.setters;
   globals = w.globals;
-  store = w.store;
+  store = w.store.contents;
   written = w.written.items;
   limits = w.limits;
   locals = [];

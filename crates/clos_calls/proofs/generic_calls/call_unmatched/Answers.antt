@@ -15,26 +15,26 @@ pub returns-then-is_none-clause-leads : goal.returns-then-is_none-clause-leads
 returns-then-is_none-clause-leads c =
     untold c.args.machine.now c.args.machine.now (meaning c.args.machine.now.room) (seen c.args.world.now) c.args.arguments.now c.args.id.0 c.in_ok-arguments.arguments
     (c.in_ok-arguments.ensures ∙ c.in_ok-push_first.ensures ∙ ap (λ l. generic c.args.id.0 ∷ l) c.in_ok-values.ensures) c.plain.result
-    (nothing_there (λ f. function_of f.now) c.function.result (slice_get c.args.world.now.generics.functions (system_number NoApplicableMethod))
-    (c.function.ensures ∙ ap (slice_get c.args.world.now.generics.functions) c.id-called.ensures) (c.is_none.ensures ∙ ap not c.if-is_none.true)) c.plain.ensures
+    (nothing_there (λ f. function_of f.now) c.function.result (slice_get c.args.world.now.generics.table.functions (system_number NoApplicableMethod))
+    (c.function.ensures ∙ ap (slice_get c.args.world.now.generics.table.functions) c.id-called.ensures) (c.is_none.ensures ∙ ap not c.if-is_none.true)) c.plain.ensures
 
 pub returns-then-len-eq0-clause-leads : goal.returns-then-len-eq0-clause-leads
 returns-then-len-eq0-clause-leads c =
-    let x = function_there (λ f. function_of f.now) c.function.result (slice_get c.args.world.now.generics.functions c.id-called.result.0) c.function.ensures
+    let x = function_there (λ f. function_of f.now) c.function.result (slice_get c.args.world.now.generics.table.functions c.id-called.result.0) c.function.ensures
     (c.is_none.ensures ∙ ap not c.if-is_none.false) in
     none_told c.args.machine.now c.args.machine.now (meaning c.args.machine.now.room) (seen c.args.world.now) c.args.arguments.now c.args.id.0 c.in_ok-arguments.arguments
     (c.in_ok-arguments.ensures ∙ c.in_ok-push_first.ensures ∙ ap (λ l. generic c.args.id.0 ∷ l) c.in_ok-values.ensures) x.0 c.in_ok-methods.methods c.plain-then-len-eq0.result
-    (x.1 ∙ ap (slice_get c.args.world.now.generics.functions) c.id-called.ensures)
+    (x.1 ∙ ap (slice_get c.args.world.now.generics.table.functions) c.id-called.ensures)
     (c.in_ok-methods.ensures ∙ ap (ordered (seen c.args.world.now) c.id-called.result.0) c.as_slice.ensures ∙ ap (λ n. ordered (seen c.args.world.now) n c.in_ok-arguments.arguments) c.id-called.ensures)
     (sym c.len.ensures ∙ c.if-len-eq0.true) c.plain-then-len-eq0.ensures
 
 pub returns-clause-leads : goal.returns-clause-leads
 returns-clause-leads c =
-    let x = function_there (λ f. function_of f.now) c.function.result (slice_get c.args.world.now.generics.functions c.id-called.result.0) c.function.ensures
+    let x = function_there (λ f. function_of f.now) c.function.result (slice_get c.args.world.now.generics.table.functions c.id-called.result.0) c.function.ensures
     (c.is_none.ensures ∙ ap not c.if-is_none.false) in
     some_told c.args.machine.now c.call_matched.new.machine (meaning c.args.machine.now.room) (seen c.args.world.now) c.args.arguments.now c.args.id.0 c.in_ok-arguments.arguments
     (c.in_ok-arguments.ensures ∙ c.in_ok-push_first.ensures ∙ ap (λ l. generic c.args.id.0 ∷ l) c.in_ok-values.ensures) x.0 c.in_ok-methods.methods c.call_matched.result
-    (x.1 ∙ ap (slice_get c.args.world.now.generics.functions) c.id-called.ensures)
+    (x.1 ∙ ap (slice_get c.args.world.now.generics.table.functions) c.id-called.ensures)
     (c.in_ok-methods.ensures ∙ ap (ordered (seen c.args.world.now) c.id-called.result.0) c.as_slice.ensures ∙ ap (λ n. ordered (seen c.args.world.now) n c.in_ok-arguments.arguments) c.id-called.ensures)
     (λ e. c.if-len-eq0.false (c.len.ensures ∙ e))
     (subst (λ n. Leads (inside c.args.machine.now (matched (meaning c.args.machine.now.room) c.in_ok-arguments.arguments n x.0 c.in_ok-methods.methods)) (seen c.args.world.now)

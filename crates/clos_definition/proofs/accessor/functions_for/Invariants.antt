@@ -4,7 +4,7 @@ use Rattle.clos_definition.proofs.accessor.functions_for.Given as goal
 
 abbrev pub invariant-loop-accessor : goal.invariant-loop-accessor
 invariant-loop-accessor l = record {
-  functions : with_functions l.generics l.changes.definitions l.left ≡ with_functions l.generics [] l.initial.left;
+  functions : with_functions l.generics.table l.changes.definitions l.left ≡ with_functions l.generics.table [] l.initial.left;
   removals : l.changes.removals ≡ [];
   additions : l.changes.additions ≡ [];
 }

@@ -6,11 +6,11 @@ use Rattle.clos_definition.proofs.accessor.with_accessors.Given as goal
 abbrev pub invariant-loop-accessor : goal.invariant-loop-accessor
 invariant-loop-accessor l = record {
   changes :
-      adding l.effect.changes (map addition_of (accessor_methods l.class.0 l.generics l.effect.changes.definitions l.left))
-      ≡ adding l.initial.effect.changes (map addition_of (accessor_methods l.class.0 l.generics l.initial.effect.changes.definitions l.initial.left));
+      adding l.effect.changes (map addition_of (accessor_methods l.class.0 l.generics.table l.effect.changes.definitions l.left))
+      ≡ adding l.initial.effect.changes (map addition_of (accessor_methods l.class.0 l.generics.table l.initial.effect.changes.definitions l.initial.left));
   methods :
-      l.effect.methods.items ++ accessor_methods l.class.0 l.generics l.effect.changes.definitions l.left
-      ≡ accessor_methods l.class.0 l.generics l.initial.effect.changes.definitions l.initial.left;
+      l.effect.methods.items ++ accessor_methods l.class.0 l.generics.table l.effect.changes.definitions l.left
+      ≡ accessor_methods l.class.0 l.generics.table l.initial.effect.changes.definitions l.initial.left;
   definitions : l.effect.changes.definitions ≡ l.initial.effect.changes.definitions;
 }
 

@@ -4,7 +4,7 @@ use Rattle.clos_definition.proofs.effect.add_all.Given as goal
 
 abbrev pub invariant-loop-method : goal.invariant-loop-method
 invariant-loop-method l = record {
-  seen : with_methods l.methods.items l.generics ≡ with_methods l.initial.methods.items l.initial.generics;
+  seen : with_methods l.methods.items l.generics.table ≡ with_methods l.initial.methods.items l.initial.generics.table;
   ready : l.generics.additions ≡ map (λ m. m.generic.0) l.methods.items;
 }
 

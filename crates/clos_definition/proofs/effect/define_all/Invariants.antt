@@ -4,7 +4,7 @@ use Rattle.clos_definition.proofs.effect.define_all.Given as goal
 
 abbrev pub invariant-loop-definition : goal.invariant-loop-definition
 invariant-loop-definition l = record {
-  seen : with_definitions l.changes.definitions l.generics ≡ with_definitions l.initial.changes.definitions l.initial.generics;
+  seen : with_definitions l.changes.definitions l.generics.table ≡ with_definitions l.initial.changes.definitions l.initial.generics.table;
   ready : l.generics.definitions ≡ map (λ d. d.name) l.changes.definitions;
   additions : l.generics.additions ≡ l.initial.generics.additions;
 }

@@ -1,5 +1,5 @@
 use Rattle.std.proofs.Common.{is_some, ap, ◌∙◌}
-use Rattle.clos_forms.proofs.Lists.{special_is_one}
+use Rattle.clos_names.proofs.Lists.{special_is_one}
 use Rattle.clos_names.proofs.special.is_special_operator.Goals as goal
 
 pub returns : goal.returns

@@ -6,8 +6,8 @@ use Rattle.clos_generic.proofs.table.Generics.all_stay_or_go.Given as goal
 
 abbrev pub invariant-loop-method : goal.invariant-loop-method
 invariant-loop-method l =
-    list_all (fits_or_goes l.self l.removals l.id.0 l.shape) (method_numbers l.left)
-    ≡ list_all (fits_or_goes l.self l.removals l.id.0 l.shape) (method_numbers l.initial.left)
+    list_all (fits_or_goes l.self.table l.removals l.id.0 l.shape) (method_numbers l.left)
+    ≡ list_all (fits_or_goes l.self.table l.removals l.id.0 l.shape) (method_numbers l.initial.left)
 
 abbrev pub decreases-loop-method : goal.decreases-loop-method
 decreases-loop-method l = length l.left

@@ -6,7 +6,8 @@ use Rattle.std.proofs.lemmas.List.{length-map}
 use Rattle.lisp_data.specs.Name.{same_name}
 use Rattle.clos_forms.specs.declared.operator.FunctionName.TheVariants.{Symbol, Setf}
 use Rattle.clos_generic.specs.inner.Reserved.{HasSpare}
-use Rattle.clos_generic.specs.Table.{after_first, same_function}
+use Rattle.clos_generic.specs.Held.{after_first}
+use Rattle.clos_generic.specs.Table.{same_function}
 use Rattle.clos_generic.specs.TableView.{function_of, functions_in, noted}
 use Rattle.clos_generic.specs.declared.spare.Spare.{Spare}
 use Rattle.clos_generic.proofs.Named.{one_more_indexed, one_more_seen, one_name}

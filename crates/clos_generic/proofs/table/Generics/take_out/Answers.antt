@@ -23,5 +23,5 @@ invariant_of-self c =
 
 pub returns-else-id-function_count : goal.returns-else-id-function_count
 returns-else-id-function_count c =
-    ap (λ fs. record c.args.self.now { functions = fs })
-    (sym (past_all (with_methods (without (λ n. n == c.args.method.0))) c.args.self.now.functions c.args.id.0 (omega arith)))
+    ap (λ fs. record c.args.self.now { table = record c.args.self.now.table { functions = fs } })
+    (sym (past_all (with_methods (without (λ n. n == c.args.method.0))) c.args.self.now.table.functions c.args.id.0 (omega arith)))
