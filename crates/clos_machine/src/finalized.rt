@@ -18,7 +18,6 @@ pub struct Finalized {
 }
 
 impl Model for Finalized {
-    ghost use Rattle.std.specs.Coded.{codes};
     ghost use Rattle.clos_meaning.specs.clos_world.clos_class.contracts.effective.Effective as effective;
     ghost use Rattle.clos_meaning.specs.clos_world.clos_class.Slots.{Effective as Whole};
 

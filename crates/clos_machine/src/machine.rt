@@ -1,5 +1,5 @@
 //! The machine that evaluates forms without recursion: what comes next, and the levels that wait for values.
-ghost use Rattle.std.specs.Prelude.{◌≡◌, ◌∷◌, [], ℕ, ◌<◌, ◌≤◌, length, OnOk, OnErr, IfOk, MatchOption};
+ghost use Rattle.std.specs.Prelude.{◌≡◌, ◌∷◌, [], ◌<◌, OnOk, OnErr, MatchOption};
 
 use crate::counter::Counter;
 use crate::finalized::Finalized;

@@ -1,5 +1,5 @@
 //! What the parameters of a function are bound to (HyperSpec 3.4.1, 3.5.1).
-ghost use Rattle.std.specs.Prelude.{◌≡◌, ◌∷◌, ◌++◌, [], Bool, drop, map, is_some, option_map, option_copied, OnOk, IfOk, MatchOption};
+ghost use Rattle.std.specs.Prelude.{◌≡◌, ◌∷◌, ◌++◌, [], drop, map, is_some, option_map, OnOk, IfOk, MatchOption};
 ghost use Rattle.std.specs.List.{list_any};
 ghost use Rattle.lisp_data.specs.ValueView.{value_of};
 ghost use Rattle.lisp_prims.specs.Predicates.{is_symbol};
@@ -7,7 +7,7 @@ ghost use Rattle.lisp_prims.specs.Primitive.{answer, truth};
 ghost use Rattle.lisp_prims.specs.declared.lists.ListFunction.TheVariants.{List};
 ghost use Rattle.lisp_prims.specs.declared.primitive.Primitive.TheVariants.{Listed};
 ghost use Rattle.clos_meaning.specs.Calls.{keys_are_even};
-ghost use Rattle.clos_meaning.specs.Parameters.{are_even, are_pairs, is_symbol_named, argument_named, is_allow_other_keys, is_allowing, is_accepted, are_accepted, keys_fit, after_required, after_optional, count_fits, fits, argument, required_sources, init_source, given_source, first_and_others, listed, variable_sources, optional_sources, rest_sources, entry_sources, key_sources, sources, requires_only};
+ghost use Rattle.clos_meaning.specs.Parameters.{are_even, are_pairs, is_symbol_named, argument_named, is_allow_other_keys, is_allowing, is_accepted, are_accepted, keys_fit, after_optional, count_fits, fits, argument, required_sources, init_source, given_source, first_and_others, listed, variable_sources, optional_sources, rest_sources, entry_sources, key_sources, sources, requires_only};
 ghost use Rattle.clos_machine.specs.ParametersView.{source_of, parameter_of};
 
 use crate::fault::of_function;

@@ -29,7 +29,7 @@ use Rattle.clos_definition_forms.specs.clos_definition.Method.{eql_form, method_
 use Rattle.clos_definition_forms.specs.clos_definition.Removal.{removable, with_removed}
 use Rattle.clos_definition_forms.specs.clos_machine.clos_meaning.Meaning.{evaluation}
 use Rattle.clos_definition_forms.specs.clos_machine.clos_meaning.Outcome.{Noted, Out, Gave, Stopped, Run, then_do, step_then, stopped}
-use Rattle.clos_definition_forms.proofs.clos_machine.clos_meaning.Kept.{same, same_then, Kept, evaluation_kept}
+use Rattle.clos_definition_forms.proofs.clos_machine.clos_meaning.Kept.{same, same_then, SameAfter, evaluation_kept}
 use Rattle.clos_definition_forms.specs.Definition.{class_made, define_class, define_generic, define_method, generic_made, method_made, remove_method, removed_if, takes_effect, unless, value_at, values_removed}
 use Rattle.clos_session.specs.Definitions.{DefinesNothing}
 use Rattle.clos_definition_forms.specs.Forms.{form_evaluated, forms_evaluated}
@@ -48,7 +48,7 @@ Refuses w (Gave v u k) = ⊤
 Refuses w (Stopped c u k) = Same w u
 Refuses w (Noted n o) = Refuses w o
 
-kept_refuses : (w : State) (o : Out) → Kept w o → Refuses w o
+kept_refuses : (w : State) (o : Out) → SameAfter w o → Refuses w o
 kept_refuses w (Gave v u k) h = tt
 kept_refuses w (Stopped c u k) h = h
 kept_refuses w (Noted n o) h = kept_refuses w o h
@@ -73,7 +73,7 @@ unless_refuses (Some c) go w k h = same w
 -- ---- forms, and then what defines nothing
 
 -- an evaluation before it
-then_refuses : (w : State) (o : Out) (go : Val → Run) → Kept w o → ((v : Val) (u : State) (j : ℕ) → Refuses u (go v u j)) → Refuses w (then_do o go)
+then_refuses : (w : State) (o : Out) (go : Val → Run) → SameAfter w o → ((v : Val) (u : State) (j : ℕ) → Refuses u (go v u j)) → Refuses w (then_do o go)
 then_refuses w (Stopped c u k) go h g = h
 then_refuses w (Noted n o) go h g = then_refuses w o go h g
 then_refuses w (Gave v u k) go h g = shifted_refuses w u (go v u k) h (g v u k)
@@ -134,7 +134,7 @@ function_refuses (Setf name) f w k =
 -- ---- variables
 
 -- a step after an evaluation
-then_step_refuses : (w : State) (o : Out) (go : Val → Run) → Kept w o → ((v : Val) (u : State) (j : ℕ) → Refuses u (go v u j)) → Refuses w (then_do o (λ v. step_then (go v)))
+then_step_refuses : (w : State) (o : Out) (go : Val → Run) → SameAfter w o → ((v : Val) (u : State) (j : ℕ) → Refuses u (go v u j)) → Refuses w (then_do o (λ v. step_then (go v)))
 then_step_refuses w (Stopped c u k) go h g = h
 then_step_refuses w (Noted n o) go h g = then_step_refuses w o go h g
 then_step_refuses w (Gave v u zero) go h g = h

@@ -1,9 +1,7 @@
 //! Sessions: the top-level forms that are submitted one after another, and what they leave.
-ghost use Rattle.std.specs.Prelude.{◌≡◌, ℕ, min, IfOk, Some};
-ghost use Rattle.lisp_data.specs.ValueView.{value_of};
+ghost use Rattle.std.specs.Prelude.{◌≡◌, min, IfOk, Some};
 ghost use Rattle.lisp_data.specs.DatumView.{datum_of};
-ghost use Rattle.clos_definition_forms.specs.clos_world.World.{State, seen};
-ghost use Rattle.clos_definition_forms.specs.clos_machine.clos_meaning.Outcome.{Run};
+ghost use Rattle.clos_definition_forms.specs.clos_world.World.{seen};
 ghost use Rattle.clos_definition_forms.specs.clos_machine.Machine.{Answers};
 ghost use Rattle.clos_session.specs.Step.{checked, performed, step};
 ghost use Rattle.clos_definition_forms.specs.clos_world.Initial.{initial};
