@@ -148,7 +148,6 @@ fn take_effect(
     ensures { Answers (takes_effect (value_of value) (with_effect effect (seen world.old))) (seen world.old) steps.old result (seen world.new) steps.new }
 {
     if *steps == 0 {
-        world.generics.release();
         return Err(Stop::Refused(plain(alloc, ConditionKind::StepLimit)));
     }
     *steps -= 1;
@@ -265,7 +264,6 @@ fn make_prepared_class(
     ensures { Answers (takes_effect (class id.0) (with_class definition.now values.items (with_effect accessors (seen world.old)))) (seen world.old) steps.old result (seen world.new) steps.new }
 {
     if *steps == 0 {
-        world.generics.release();
         return Err(Stop::Refused(plain(alloc, ConditionKind::StepLimit)));
     }
     let Ok(()) = make_class(alloc, world, definition, values, accessors) else {

@@ -24,4 +24,5 @@ pub mod Functions
 pub mod SlotNames
 pub mod Meaning
 pub mod Examples
+pub mod GenericExamples
 pub use Rattle.clos_world.specs as clos_world

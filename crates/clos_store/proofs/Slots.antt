@@ -141,7 +141,7 @@ pub slots_changed : (w v : Held) (i : ℕ) (o p : Object) (change : Slots → Sl
     → record w { contents = record w.contents { instances = slice_set w.contents.instances (i - 1) p } } ≡ record v { contents = with_slots change i v.contents }
 slots_changed w v i o p change is e h =
     ap (λ os. record w { contents = record w.contents { instances = os } }) (changed_there w.contents.instances (i - 1) o p (λ o. record o { slots = change o.slots }) e h)
-    ∙ ap (λ u. record u { contents = with_slots change i u.contents }) is
+    ∙ ap (λ (u : Held). record u { contents = with_slots change i u.contents }) is
 
 changed_alike : (os : List Object) (n : ℕ) (name : Name) (i : ℕ) (value : Option Val) → place (slots_in (slice_get os n)) name ≡ Some i
     → with_changed (λ o. record o { slots = with_value_at i value o.slots }) n os ≡ with_changed (λ o. record o { slots = with_value name value o.slots }) n os

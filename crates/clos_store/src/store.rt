@@ -1,5 +1,5 @@
 //! The instances of a session, and its cells.
-ghost use Rattle.std.specs.Prelude.{◌≡◌, ◌≤◌, ◌<◌, ◌+◌, max, true, Some, None, IfOk, IfErr, IfSome, IsOk, OnOk, OnErr, length, option_map, option_copied};
+ghost use Rattle.std.specs.Prelude.{◌≡◌, ◌≤◌, ◌<◌, ◌+◌, ◌-◌, max, true, Some, None, IfOk, IfErr, IfSome, IsOk, OnOk, OnErr, length, option_map, option_copied};
 ghost use Rattle.std.specs.Map.{lookup};
 ghost use Rattle.lisp_data.specs.Name.{same_name};
 ghost use Rattle.lisp_data.specs.ValueView.{value_of};
