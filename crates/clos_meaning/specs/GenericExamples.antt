@@ -2,7 +2,7 @@
 --   (defclass a () ()) (defclass b (a) ())
 --   (defmethod g :around ((x b)) (princ "1") (prog1 (call-next-method) (princ "9"))) and so on,
 -- and the call is (princ (g (make-instance 'b))).
-use Rattle.std.specs.Prelude.{◌≡◌, ℕ, false, List, [], ◌∷◌, ◌++◌, None, codes, length, map, refl}
+use Rattle.std.specs.Prelude.{◌≡◌, ℕ, false, true, List, [], ◌∷◌, ◌++◌, None, codes, length, map, refl}
 use Rattle.lisp_data.specs.Name.{Name}
 use Rattle.lisp_data.specs.Print.{on_class}
 use Rattle.lisp_data.specs.Value.{Val, symbol, string, list}
