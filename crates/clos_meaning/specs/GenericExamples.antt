@@ -2,10 +2,10 @@
 --   (defclass a () ()) (defclass b (a) ())
 --   (defmethod g :around ((x b)) (princ "1") (prog1 (call-next-method) (princ "9"))) and so on,
 -- and the call is (princ (g (make-instance 'b))).
-use Rattle.std.specs.Prelude.{◌≡◌, ℕ, false, true, List, [], ◌∷◌, ◌++◌, None, codes, length, map, refl}
+use Rattle.std.specs.Prelude.{◌≡◌, ℕ, false, true, List, [], ◌∷◌, ◌++◌, None, codes, map, refl}
 use Rattle.lisp_data.specs.Name.{Name}
 use Rattle.lisp_data.specs.Print.{on_class}
-use Rattle.lisp_data.specs.Value.{Val, symbol, string, list}
+use Rattle.lisp_data.specs.Value.{Val, symbol, string}
 use Rattle.lisp_data.specs.Value as value
 use Rattle.clos_forms.specs.Form.{Form, Forms, form, nil, cons}
 use Rattle.clos_forms.specs.Operator as of
@@ -17,13 +17,15 @@ use Rattle.clos_world.specs.clos_class.Table as classes
 use Rattle.clos_world.specs.clos_class.clos_syntax.declared.class.ClassDefinition.{ClassDefinition}
 use Rattle.clos_world.specs.clos_generic.Initial as generics
 use Rattle.clos_world.specs.clos_generic.Table.{Function}
+use Rattle.clos_world.specs.clos_store.Store.{allocated, with_instance}
+use Rattle.clos_world.specs.declared.condition.ConditionKind.TheVariants.{StepLimit}
 use Rattle.clos_world.specs.clos_method.Method.{system_method}
 use Rattle.clos_world.specs.clos_method.System.{system_functions}
 use Rattle.clos_world.specs.clos_method.declared.method.Method.{Method}
 use Rattle.clos_world.specs.clos_method.declared.method.MethodBody.TheVariants.{Forms as Body}
 use Rattle.clos_world.specs.clos_method.declared.shape.Shape.{Shape}
 use Rattle.clos_meaning.specs.Meaning.{evaluation}
-use Rattle.clos_meaning.specs.Outcome.{Out, Gave, Stopped, Noted}
+use Rattle.clos_meaning.specs.Outcome.{Out, Gave, Stopped, Noted, stopped}
 
 abbrev name : List ℕ → Name
 name text = record { text = text; keyword = false }
@@ -128,3 +130,21 @@ writes (Noted n o) = writes o
 called_in_order : writes (evaluation 20 (call (codes "PRINC") (alone (call (codes "G") (alone (call (codes "MAKE-INSTANCE") (alone (quoted (codes "B")))))))) defined 200)
     ≡ codes "12345a6789(B A)"
 called_in_order = refl
+
+-- ---- (make-instance 'b): a step each for the form, the name, the instance, and the effective methods of initialize-instance and
+-- shared-initialize
+
+abbrev made : Form
+made = call (codes "MAKE-INSTANCE") (alone (quoted (codes "B")))
+
+-- the value, after its notes
+abbrev bare : Out → Out
+bare (Gave v w s) = Gave v w s
+bare (Stopped c w s) = Stopped c w s
+bare (Noted n o) = bare o
+
+instance_is_made : bare (evaluation 20 made defined 5) ≡ Gave (value.instance 1) (record defined { store = with_instance (allocated b (record { locals = []; shared = [] })) defined.store }) 0
+instance_is_made = refl
+
+is_cut_in_between : bare (evaluation 20 made defined 4) ≡ stopped StepLimit [] (record defined { store = with_instance (allocated b (record { locals = []; shared = [] })) defined.store }) 0
+is_cut_in_between = refl
