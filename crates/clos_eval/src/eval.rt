@@ -18,7 +18,6 @@ use std::alloc::Global;
 
 /// Evaluates a form with this much room for depth. Steps fall by those taken. Where memory is refused, the world is
 /// that after the steps taken.
-#[tactic(auto, using(crate::proofs::Looping::goes_on, crate::proofs::Looping::stops, crate::proofs::Looping::gives, crate::proofs::Looping::gives_none, crate::proofs::Calling::turns_of_call))]
 pub fn evaluate(
     alloc: Global,
     world: &mut World,
@@ -42,52 +41,33 @@ pub fn evaluate(
     };
     let mut doing = Doing::Start(form);
     loop {
-        match doing {
-            Doing::Start(begun) => match begin_form(alloc, &mut machine, world, begun, steps) {
-                Ok(next) => doing = next,
-                Err(stop) => return Err(stop),
-            },
+        let came = match doing {
+            Doing::Start(begun) => begin_form(alloc, &mut machine, world, begun, steps),
             Doing::Collect(action, forms, values) => {
-                match collect_values(&mut machine, world, action, &forms, values, steps) {
-                    Ok(next) => doing = next,
-                    Err(stop) => return Err(stop),
-                }
+                collect_values(&mut machine, world, action, &forms, values, steps)
             }
-            Doing::Act(action, values) => {
-                match act(alloc, &mut machine, world, action, values, steps) {
-                    Ok(next) => doing = next,
-                    Err(stop) => return Err(stop),
-                }
-            }
+            Doing::Act(action, values) => act(alloc, &mut machine, world, action, values, steps),
             Doing::Invoke(function, values) => {
-                match invoke(alloc, &mut machine, world, function, values) {
-                    Ok(next) => doing = next,
-                    Err(stop) => return Err(stop),
-                }
+                invoke(alloc, &mut machine, world, function, values)
             }
             Doing::Perform(method, arguments) => {
-                match perform(alloc, &mut machine, world, method, &arguments, steps) {
-                    Ok(next) => doing = next,
-                    Err(stop) => return Err(stop),
-                }
+                perform(alloc, &mut machine, world, method, &arguments, steps)
             }
             Doing::Turn(repetition, counter) => {
-                match turn(alloc, &mut machine, world, repetition, counter, steps) {
-                    Ok(next) => doing = next,
-                    Err(stop) => return Err(stop),
-                }
+                turn(alloc, &mut machine, world, repetition, counter, steps)
             }
             Doing::Give(value) => match machine.levels.pop() {
                 None => return Ok(value),
                 Some(level) => {
                     let Level { frame, room } = level;
                     machine.room = room;
-                    match give(alloc, &mut machine, world, frame, value) {
-                        Ok(next) => doing = next,
-                        Err(stop) => return Err(stop),
-                    }
+                    give(alloc, &mut machine, world, frame, value)
                 }
             },
+        };
+        match came {
+            Ok(next) => doing = next,
+            Err(stop) => return Err(stop),
         }
     }
 }
