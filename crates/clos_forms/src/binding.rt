@@ -21,9 +21,9 @@ use std::alloc::{AllocError, Global};
 
 /// A variable, and the datum of its value, where there is one.
 #[derive(Clone, Copy)]
-struct Entry<'a> {
-    name: &'a Name,
-    init: Option<&'a Datum>,
+pub struct Entry<'a> {
+    pub name: &'a Name,
+    pub init: Option<&'a Datum>,
 }
 
 /// The variable of a `dotimes`, the count, and the result form.
@@ -80,7 +80,7 @@ pub(crate) fn let_in_order_shape<'a>(
 }
 
 /// The variables of a list of bindings, which may be written NIL.
-fn parse_bindings<'a>(alloc: Global, bindings: &'a Datum) -> Result<Vec<Entry<'a>>, SyntaxFault>
+pub fn parse_bindings<'a>(alloc: Global, bindings: &'a Datum) -> Result<Vec<Entry<'a>>, SyntaxFault>
     ensures { Gives (λ es. map entry_of es.items) result (each_in binding_in (datum_of bindings.now)) }
 {
     match bindings {
@@ -140,7 +140,7 @@ fn parse_listed_binding(elements: &Data) -> Option<Entry<'_>>
 }
 
 /// The names of these variables.
-fn names_of(alloc: Global, entries: &[Entry<'_>]) -> Result<Vec<Name>, AllocError>
+pub fn names_of(alloc: Global, entries: &[Entry<'_>]) -> Result<Vec<Name>, AllocError>
     ensures { IfOk result (λ ns. ns.items ≡ names_of (map entry_of entries.now)) }
 {
     let mut names = Vec::new(alloc);
@@ -150,7 +150,8 @@ fn names_of(alloc: Global, entries: &[Entry<'_>]) -> Result<Vec<Name>, AllocErro
     Ok(names)
 }
 
-fn bindings_of(alloc: Global, entries: &[Entry<'_>]) -> Result<Bindings, AllocError>
+/// These variables, each with whether it has an init form.
+pub fn bindings_of(alloc: Global, entries: &[Entry<'_>]) -> Result<Bindings, AllocError>
     ensures { IfOk result (λ bs. bs ≡ bounds_of (map entry_of entries.now)) }
 {
     let mut bindings = Vec::new(alloc);

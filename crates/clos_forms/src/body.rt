@@ -21,7 +21,7 @@ pub(crate) fn push_body<'a>(parts: &mut Vec<Part<'a>>, forms: &'a Data) -> Resul
 }
 
 /// The last of the strings that lead a body, and what follows the strings and declarations that do.
-fn past_declarations(forms: &Data) -> (Option<&Datum>, &Data)
+pub fn past_declarations(forms: &Data) -> (Option<&Datum>, &Data)
     ensures { after_string (option_map (λ d. datum_of d.now) result.0) result.1.now ≡ body_of forms.now }
 {
     let mut last = None;

@@ -18,7 +18,8 @@ mod shape;
 mod slots;
 pub mod tree;
 
-pub use body::{is_declaration, is_string};
+pub use binding::{Entry, bindings_of, names_of, parse_bindings};
+pub use body::{is_declaration, is_string, past_declarations};
 pub use bound::{Binding, Bindings, Names, SlotBinding, SlotBindings};
 pub use call_method::{CalledMethod, NextMethods};
 pub use clos_names::{
