@@ -11,8 +11,9 @@ use Rattle.clos_forms.specs.Form.{Form, form, Forms, cons as more, nil as none}
 use Rattle.clos_forms.specs.FunctionName.{symbol_in, variable_in, unless_constant, function_named}
 use Rattle.clos_forms.specs.Grammar.{each_part, tree_at}
 use Rattle.clos_names.specs.Names.{is_called, is_one_of, definitions}
+use Rattle.clos_forms.specs.NamedMethods.{NamedMethod, made_of, form_in, made_parts, headed_method, method_in, next_methods_in, calling, call_method_shape}
 use Rattle.clos_forms.specs.Operator.{Operator, BoundSlot, function, if_form, clause, when, unless, prog1, incf, decf, call, let_form, let_in_order, setq, setf, with_slots, place, slot_value_place, call_place, variable_place, call_next_method, next_method_p}
-use Rattle.clos_forms.specs.Part.{Part, Shape, shape, operation, in_role, in_roles, optional, only_in, at_most_one, in_method}
+use Rattle.clos_forms.specs.Part.{Part, Shape, shape, operation, in_role, in_roles, optional, only_in, at_most_one, in_effective, in_method}
 use Rattle.clos_forms.specs.Place.{named_place, place_shape, setf_parts, change_shape}
 use Rattle.clos_forms.specs.Quotation.{quotation}
 use Rattle.clos_forms.specs.Room.{RoomSuffices}
@@ -274,6 +275,91 @@ with_slots_deep nil = tt
 with_slots_deep (cons e nil) = tt
 with_slots_deep (cons e (cons d l)) = slots_case (nesting_in (cons e (cons d l))) (each_in slot_in e) d l (omega arith) (omega arith)
 
+-- ---- call-method
+
+-- the form of which a method is made, where there is one
+abbrev MadeOf : ℕ → Option NamedMethod → Type 0
+MadeOf k None = ⊤
+MadeOf k (Some m) = Within k (optional (form_in m))
+
+abbrev AllMadeOf : ℕ → Option (List NamedMethod) → Type 0
+AllMadeOf k None = ⊤
+AllMadeOf k (Some ms) = Within k (made_parts ms)
+
+method_wider : (j k : ℕ) (o : Option NamedMethod) → j ≤ k → MadeOf j o → MadeOf k o
+method_wider j k None le w = tt
+method_wider j k (Some m) le w = wider j k (optional (form_in m)) le w
+
+methods_wider : (j k : ℕ) (o : Option (List NamedMethod)) → j ≤ k → AllMadeOf j o → AllMadeOf k o
+methods_wider j k None le w = tt
+methods_wider j k (Some ms) le w = wider j k (made_parts ms) le w
+
+after_make : (b : Bool) (l : Dats) → MadeOf (nesting_in l) (if b then only_in l >>= (λ d. Some (made_of d)) else None)
+after_make false l = tt
+after_make true nil = tt
+after_make true (cons d nil) = (omega arith, tt)
+after_make true (cons d (cons e l)) = tt
+
+after_name : (o : Option Name) (l : Dats) → MadeOf (nesting_in l) (o >>= λ n. headed_method n l)
+after_name None l = tt
+after_name (Some n) l = after_make (is_called (codes "MAKE-METHOD") n) l
+
+method_deep : (d : Dat) → MadeOf (nesting_of d) (method_in d)
+method_deep (integer n) = tt
+method_deep (symbol name) = tt
+method_deep (string s) = tt
+method_deep (list nil) = tt
+method_deep (list (cons v l)) =
+    method_wider (nesting_in l) (nesting_in (cons v l)) (symbol_in v >>= λ n. headed_method n l) (omega arith) (after_name (symbol_in v) l)
+method_deep (dotted l d) = tt
+method_deep (method n) = tt
+
+methods_step : (k : ℕ) (o : Option NamedMethod) (r : Option (List NamedMethod)) → MadeOf k o → AllMadeOf k r → AllMadeOf k (o >>= λ x. r >>= λ xs. Some (x ∷ xs))
+methods_step k None r w v = tt
+methods_step k (Some m) None w v = tt
+methods_step k (Some m) (Some ms) w v = both k (optional (form_in m)) (made_parts ms) w v
+
+methods : (l : Dats) → AllMadeOf (nesting_in l) (each method_in l)
+methods nil = tt
+methods (cons d l) =
+    methods_step (nesting_in (cons d l)) (method_in d) (each method_in l)
+    (method_wider (nesting_of d) (nesting_in (cons d l)) (method_in d) (omega arith) (method_deep d))
+    (methods_wider (nesting_in l) (nesting_in (cons d l)) (each method_in l) (omega arith) (methods l))
+
+no_methods : (b : Bool) → AllMadeOf 0 (if b then Some [] else None)
+no_methods true = tt
+no_methods false = tt
+
+listed_methods : (d : Dat) → AllMadeOf (nesting_of d) (each_in method_in d)
+listed_methods (integer n) = tt
+listed_methods (symbol name) = no_methods (is_called (codes "NIL") name)
+listed_methods (string s) = tt
+listed_methods (list l) = methods l
+listed_methods (dotted l d) = tt
+listed_methods (method n) = tt
+
+next_methods : (l : Dats) → AllMadeOf (nesting_in l) (next_methods_in l)
+next_methods nil = tt
+next_methods (cons d nil) = methods_wider (nesting_of d) (nesting_in (cons d nil)) (each_in method_in d) (omega arith) (listed_methods d)
+next_methods (cons d (cons e l)) = tt
+
+method_case : (k : ℕ) (m : Option NamedMethod) (o : Option (List NamedMethod)) → MadeOf k m → AllMadeOf k o → Deep k (m >>= λ x. o >>= λ ms. Some (calling x ms))
+method_case k None o w v = tt
+method_case k (Some m) None w v = tt
+method_case k (Some m) (Some ms) w v = both k (optional (form_in m)) (made_parts ms) w v
+
+call_method_deep : (l : Dats) → Deep (nesting_in l) (call_method_shape l)
+call_method_deep nil = tt
+call_method_deep (cons d l) =
+    method_case (nesting_in (cons d l)) (method_in d) (next_methods_in l)
+    (method_wider (nesting_of d) (nesting_in (cons d l)) (method_in d) (omega arith) (method_deep d))
+    (methods_wider (nesting_in l) (nesting_in (cons d l)) (next_methods_in l) (omega arith) (next_methods l))
+
+call_deep : (a b : Bool) (name : Name) (l : Dats) → Deep (nesting_in l) (if a then None else if b then call_method_shape l else Some (operation (call name) l))
+call_deep true b name l = tt
+call_deep false true name l = call_method_deep l
+call_deep false false name l = roles Expression l
+
 -- ---- all shapes
 
 special_deep : (context : Context) (s : Special) (l : Dats) → Deep (nesting_in l) (special_shape context s l)
@@ -299,7 +385,7 @@ special_deep context CallNextMethod l = when_so (in_method context) (nesting_in 
 special_deep context NextMethodP l = when_so (in_method context && nat_le (length_of l) 0) (nesting_in l) (atom next_method_p) tt
 
 named_deep : (o : Option Special) (context : Context) (name : Name) (l : Dats) → Deep (nesting_in l) (named_shape o context name l)
-named_deep None context name l = unless_so (is_one_of definitions name) (nesting_in l) (operation (call name) l) (roles Expression l)
+named_deep None context name l = call_deep (is_one_of definitions name) (in_effective context && is_called (codes "CALL-METHOD") name) name l
 named_deep (Some s) context name l = special_deep context s l
 
 headed_deep : (context : Context) (d : Dat) (l : Dats) → Deep (nesting_in l) (headed_shape context d l)

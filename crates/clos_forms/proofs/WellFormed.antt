@@ -1,5 +1,6 @@
 -- Each form that a datum is has the parts that its operator may have.
-use Rattle.std.proofs.Common.{◌≡◌, ◌+◌, ℕ, zero, suc, Bool, true, false, List, [], ◌∷◌, ◌++◌, Option, Some, None, length, refl, ap, sym, subst, ◌∙◌, arith}
+use Rattle.std.proofs.Common.{◌≡◌, ℕ, zero, suc, Bool, true, false, List, [], ◌∷◌, ◌++◌, Option, Some, None, length, refl, ap, subst, ◌∙◌, arith}
+use Rattle.std.proofs.lemmas.Bool.{eq-eqb}
 use Rattle.std.specs.Prelude.{⊤, nat_le, ◌==◌, ◌&&◌, ◌||◌, if◌then◌else◌, codes, is_some, Result, Ok, Err, IfOk}
 use Rattle.lisp_data.specs.Name.{Name}
 use Rattle.lisp_data.specs.Datum.{Dat, integer, symbol, string, list, dotted, method, Dats, nil, cons, length_of}
@@ -11,14 +12,15 @@ use Rattle.clos_forms.specs.Form.{Form, form, Forms, cons as more, nil as no_for
 use Rattle.clos_forms.specs.FunctionName.{symbol_in, variable_in, unless_constant, function_named}
 use Rattle.clos_forms.specs.Grammar.{each_part, tree_at}
 use Rattle.clos_names.specs.Names.{is_called, is_constant, is_one_of, definitions}
-use Rattle.clos_forms.specs.Operator.{Operator, Bound, BoundSlot, constant, variable, function, if_form, cond, clause, when, unless, and_form, or_form, progn, prog1, incf, decf, call, let_form, let_in_order, setq, setf, with_slots, place, slot_value_place, call_place, variable_place, call_next_method, next_method_p}
-use Rattle.clos_forms.specs.Part.{Part, Shape, shape, operation, in_role, in_roles, optional, only_in, in_method}
+use Rattle.clos_forms.specs.NamedMethods.{NamedMethod, numbered, made_of, callables_of, made_parts, method_in, next_methods_in, calling, call_method_shape}
+use Rattle.clos_forms.specs.Operator.{Operator, BoundSlot, constant, variable, function, if_form, clause, when, unless, prog1, incf, decf, call, let_form, let_in_order, setq, setf, with_slots, place, slot_value_place, call_place, variable_place, call_next_method, next_method_p}
+use Rattle.clos_forms.specs.Part.{Part, Shape, shape, operation, in_role, in_roles, optional, only_in, in_effective, in_method}
 use Rattle.clos_forms.specs.Place.{named_place, place_shape, setf_parts, change_shape}
 use Rattle.clos_forms.specs.Quotation.{quotation, name_value}
 use Rattle.clos_forms.specs.Shape.{atom, quoting, symbol_operator, special_shape, named_shape, headed_shape, expression_shape, clause_shape, shape_of}
 use Rattle.clos_forms.specs.Slots.{slot_in, slots_with, variables_of, with_slots_shape}
 use Rattle.clos_names.specs.Special.{special_of, special_operators}
-use Rattle.clos_forms.specs.WellFormed.{role_of, is_expression, are_expressions, are_clauses, at_least, first_if, inits_and_body, values, assignments, takes, roles_of, is_made_well, are_made_well, is_well_formed, are_well_formed}
+use Rattle.clos_forms.specs.WellFormed.{role_of, is_expression, are_expressions, are_clauses, first_if, inits_and_body, values, assignments, made_among, forms_of_made, takes, roles_of, is_made_well, are_made_well, is_well_formed, are_well_formed}
 use Rattle.clos_forms.specs.declared.fault.SyntaxFault.{SyntaxFault}
 use Rattle.clos_forms.specs.declared.part.Context.{Context}
 use Rattle.clos_forms.specs.declared.part.Role.{Role}
@@ -247,8 +249,45 @@ special_fits context NextMethodP l =
     when_so (in_method context && nat_le (length_of l) 0) context Expression (atom next_method_p)
     (λ h. (both_true (in_method context) true (first_of (in_method context) (nat_le (length_of l) 0) h) refl, refl))
 
+-- ---- call-method
+
+made_expressions : (ms : List NamedMethod) → are_expressions (roles_in (made_parts ms)) ≡ true
+made_expressions [] = refl
+made_expressions (numbered n ∷ ms) = made_expressions ms
+made_expressions (made_of d ∷ ms) = made_expressions ms
+
+made_counted : (ms : List NamedMethod) → length (roles_in (made_parts ms)) ≡ made_among (callables_of ms)
+made_counted [] = refl
+made_counted (numbered n ∷ ms) = made_counted ms
+made_counted (made_of d ∷ ms) = let e : length (roles_in (made_parts ms)) ≡ made_among (callables_of ms) = made_counted ms in omega (arith, e)
+
+made_fit : (ms : List NamedMethod) → forms_of_made (callables_of ms) (roles_in (made_parts ms)) ≡ true
+made_fit ms =
+    both_true (are_expressions (roles_in (made_parts ms))) (length (roles_in (made_parts ms)) == made_among (callables_of ms)) (made_expressions ms)
+    (eq-eqb (length (roles_in (made_parts ms))) (made_among (callables_of ms)) (made_counted ms))
+
+next_case : (context : Context) (m : NamedMethod) (o : Option (List NamedMethod)) → in_effective context ≡ true → Fits context Expression (o >>= λ ms. Some (calling m ms))
+next_case context m None h = tt
+next_case context m (Some ms) h =
+    (both_true (in_effective context) (forms_of_made (callables_of (m ∷ ms)) (roles_in (made_parts (m ∷ ms)))) h (made_fit (m ∷ ms)), refl)
+
+method_case : (context : Context) (m : Option NamedMethod) (o : Option (List NamedMethod)) → in_effective context ≡ true → Fits context Expression (m >>= λ x. o >>= λ ms. Some (calling x ms))
+method_case context None o h = tt
+method_case context (Some m) o h = next_case context m o h
+
+call_method_fits : (context : Context) (l : Dats) → in_effective context ≡ true → Fits context Expression (call_method_shape l)
+call_method_fits context nil h = tt
+call_method_fits context (cons d l) h = method_case context (method_in d) (next_methods_in l) h
+
+call_fits : (context : Context) (a b c : Bool) (name : Name) (l : Dats) → in_effective context ≡ b → Fits context Expression (if a then None else if b && c then call_method_shape l else Some (operation (call name) l))
+call_fits context true b c name l h = tt
+call_fits context false true true name l h = call_method_fits context l h
+call_fits context false true false name l h = (expressions l, refl)
+call_fits context false false c name l h = (expressions l, refl)
+
 named_fits : (o : Option Special) (context : Context) (name : Name) (l : Dats) → Fits context Expression (named_shape o context name l)
-named_fits None context name l = unless_so (is_one_of definitions name) context Expression (operation (call name) l) (expressions l, refl)
+named_fits None context name l =
+    call_fits context (is_one_of definitions name) (in_effective context) (is_called (codes "CALL-METHOD") name) name l refl
 named_fits (Some s) context name l = special_fits context s l
 
 headed_fits : (context : Context) (d : Dat) (l : Dats) → Fits context Expression (headed_shape context d l)

@@ -16,8 +16,12 @@ pub mod Distinct
 pub mod Binding
 pub mod BindingView
 pub mod Slots
+pub mod NamedMethods
+pub mod NamedMethodsView
 pub mod Place
 pub mod Shape
 pub mod Grammar
 pub mod WellFormed
 pub mod Room
+pub mod Effective
+pub mod Examples

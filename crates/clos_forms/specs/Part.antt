@@ -5,7 +5,7 @@ use Rattle.clos_forms.specs.Operator.{Operator}
 use Rattle.clos_forms.specs.declared.part.Role.{Role}
 use Rattle.clos_forms.specs.declared.part.Role.TheVariants.{Expression}
 use Rattle.clos_forms.specs.declared.part.Context.{Context}
-use Rattle.clos_forms.specs.declared.part.Context.TheVariants.{Plain, Method}
+use Rattle.clos_forms.specs.declared.part.Context.TheVariants.{Plain, Method, Effective}
 
 -- a datum in its role
 pub record Part : Type 0 where
@@ -20,6 +20,13 @@ pub record Shape : Type 0 where
 abbrev pub in_method : Context → Bool
 in_method Plain = false
 in_method Method = true
+in_method Effective = false
+
+-- whether it stands in an effective form, where call-method may stand (7.6.6.2)
+abbrev pub in_effective : Context → Bool
+in_effective Plain = false
+in_effective Method = false
+in_effective Effective = true
 
 abbrev pub shape : Operator → List Part → Shape
 shape o ps = record { operator = o; parts = ps }

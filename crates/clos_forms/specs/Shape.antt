@@ -1,5 +1,5 @@
 -- What a datum is as a form, by its operator (HyperSpec 3.1.2.1).
-use Rattle.std.specs.Prelude.{[], Option, Some, None, nat_le, ◌&&◌, if◌then◌else◌}
+use Rattle.std.specs.Prelude.{[], Bool, Option, Some, None, nat_le, ◌&&◌, codes, if◌then◌else◌}
 use Rattle.lisp_data.specs.Name.{Name}
 use Rattle.lisp_data.specs.Value as value
 use Rattle.lisp_data.specs.Value.{Val}
@@ -7,9 +7,10 @@ use Rattle.lisp_data.specs.Datum.{Dat, integer, symbol, string, list, dotted, me
 use Rattle.clos_forms.specs.Binding.{let_shape, let_in_order_shape, setq_shape, dotimes_shape}
 use Rattle.clos_forms.specs.Fault.{◌>>=◌}
 use Rattle.clos_forms.specs.FunctionName.{function_named}
-use Rattle.clos_names.specs.Names.{is_constant, is_one_of, definitions}
+use Rattle.clos_forms.specs.NamedMethods.{call_method_shape}
+use Rattle.clos_names.specs.Names.{is_called, is_constant, is_one_of, definitions}
 use Rattle.clos_forms.specs.Operator.{Operator, constant, no_value, variable, function, if_form, cond, clause, when, unless, and_form, or_form, progn, prog1, incf, decf, call_next_method, next_method_p, call}
-use Rattle.clos_forms.specs.Part.{Shape, shape, operation, in_roles, only_in, in_method}
+use Rattle.clos_forms.specs.Part.{Shape, shape, operation, in_roles, only_in, in_effective, in_method}
 use Rattle.clos_forms.specs.Place.{place_shape, setf_shape, change_shape}
 use Rattle.clos_forms.specs.Quotation.{name_value, quotation}
 use Rattle.clos_forms.specs.Slots.{with_slots_shape}
@@ -73,13 +74,20 @@ special_shape context WithSlots l = with_slots_shape l
 special_shape context CallNextMethod l = call_next_method_shape context l
 special_shape context NextMethodP l = next_method_p_shape context l
 
--- a function is called whatever its name and the number of its arguments, but a definition stands at the top level alone
-abbrev pub call_shape : Name → Dats → Option Shape
-call_shape name l = if is_one_of definitions name then None else Some (operation (call name) l)
+-- whether a form of this name calls a method
+abbrev pub calls_method : Context → Name → Bool
+calls_method context name = in_effective context && is_called (codes "CALL-METHOD") name
+
+-- A function is called whatever its name and the number of its arguments, but a definition stands at the top level alone, and
+-- in an effective form call-method is no function's name.
+abbrev pub call_shape : Context → Name → Dats → Option Shape
+call_shape context name l =
+    if is_one_of definitions name then None
+    else if calls_method context name then call_method_shape l else Some (operation (call name) l)
 
 abbrev pub named_shape : Option Special → Context → Name → Dats → Option Shape
 named_shape (Some s) context name l = special_shape context s l
-named_shape None context name l = call_shape name l
+named_shape None context name l = call_shape context name l
 
 abbrev pub headed_shape : Context → Dat → Dats → Option Shape
 headed_shape context (integer n) l = None

@@ -1,10 +1,10 @@
 -- What forms are made of: how many parts each operator has, and in which roles (HyperSpec 3.1.2.1, and the entries of
 -- the operators).
-use Rattle.std.specs.Prelude.{ℕ, List, [], ◌∷◌, length, Bool, true, false, nat_le, ◌==◌, ◌&&◌, if◌then◌else◌}
+use Rattle.std.specs.Prelude.{ℕ, ◌+◌, List, [], ◌∷◌, length, Bool, true, false, nat_le, ◌==◌, ◌&&◌}
 use Rattle.lisp_data.specs.Name.{Name}
 use Rattle.clos_forms.specs.Form.{Form, form, Forms, nil, cons, operator_in}
-use Rattle.clos_forms.specs.Operator.{Bound, Place, variable_place, slot_value_place, call_place, Operator, constant, no_value, variable, function, if_form, cond, clause, when, unless, and_form, or_form, progn, prog1, let_form, let_in_order, setq, setf, incf, decf, place, dotimes, with_slots, call_next_method, next_method_p, call, call_method}
-use Rattle.clos_forms.specs.Part.{in_method}
+use Rattle.clos_forms.specs.Operator.{Bound, Callable, the_method, made, Place, variable_place, slot_value_place, call_place, Operator, constant, no_value, variable, function, if_form, cond, clause, when, unless, and_form, or_form, progn, prog1, let_form, let_in_order, setq, setf, incf, decf, place, dotimes, with_slots, call_next_method, next_method_p, call, call_method}
+use Rattle.clos_forms.specs.Part.{in_effective, in_method}
 use Rattle.clos_forms.specs.declared.part.Context.{Context}
 use Rattle.clos_forms.specs.declared.part.Role.{Role}
 use Rattle.clos_forms.specs.declared.part.Role.TheVariants.{Expression, Clause, Place as InPlace}
@@ -110,6 +110,16 @@ subforms (variable_place n) rs = none rs
 subforms slot_value_place rs = are_expressions rs && (length rs == 2)
 subforms (call_place n) rs = are_expressions rs
 
+-- how many of these methods are made of a form
+abbrev pub made_among : List Callable → ℕ
+made_among [] = 0
+made_among (the_method n ∷ ms) = made_among ms
+made_among (made ∷ ms) = made_among ms + 1
+
+-- a form for each method that is made of one
+abbrev pub forms_of_made : List Callable → List Role → Bool
+forms_of_made ms rs = are_expressions rs && (length rs == made_among ms)
+
 -- whether a form of this operator may have parts in these roles
 abbrev pub takes : Context → Operator → List Role → Bool
 takes context (constant v) rs = none rs
@@ -137,8 +147,7 @@ takes context (with_slots bs) rs = first_if true are_expressions rs
 takes context call_next_method rs = in_method context && are_expressions rs
 takes context next_method_p rs = in_method context && none rs
 takes context (call n) rs = are_expressions rs
--- in effective forms alone, which are not read
-takes context (call_method m ns) rs = false
+takes context (call_method m ns) rs = in_effective context && forms_of_made (m ∷ ns) rs
 
 abbrev pub roles_of : Forms → List Role
 roles_of nil = []

@@ -84,6 +84,17 @@ impl NextMethods {
         }
     }
 
+    /// The methods.
+    #[tactic(auto, using(crate::proofs::Next::none_left))]
+    pub fn as_slice(&self) -> &[CalledMethod]
+        ensures { map callable result.now ≡ self.now }
+    {
+        match &self.shared {
+            Some(methods) if self.from < methods.len() => &methods[self.from..],
+            _ => &[],
+        }
+    }
+
     /// The same methods, in a few steps however many they are.
     pub fn copy(&self) -> Result<NextMethods, AllocError>
         ensures { IfOk result (λ r. r ≡ self.now) }

@@ -6,10 +6,12 @@ mod body;
 pub mod bound;
 pub mod call_method;
 mod distinct;
+mod effective;
 pub mod fault;
 pub mod form;
 pub mod function_name;
 pub mod laws;
+mod named_methods;
 pub mod operator;
 pub mod part;
 mod place;
@@ -27,6 +29,7 @@ pub use clos_names::{
     is_definition, is_function, is_special_operator, is_system_function, is_the, names_constant,
 };
 pub use distinct::{are_among, are_distinct};
+pub use effective::{called_methods, parse_effective};
 pub use fault::SyntaxFault;
 pub use form::{Form, Forms};
 pub use function_name::{parse_function_name, symbol_name, variable_name};

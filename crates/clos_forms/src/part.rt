@@ -3,7 +3,7 @@ ghost use Rattle.std.specs.Prelude.{◌≡◌, ◌++◌, ◌∷◌, [], OnOk, If
 ghost use Rattle.lisp_data.specs.Datum.{Dats, nil, cons};
 ghost use Rattle.lisp_data.specs.DatumView.{datum_of};
 ghost use Rattle.clos_forms.specs.OperatorView.{operator_of};
-ghost use Rattle.clos_forms.specs.Part.{at_most_one, in_method, in_role, in_roles, only_in, operation, optional, shape};
+ghost use Rattle.clos_forms.specs.Part.{at_most_one, in_effective, in_method, in_role, in_roles, only_in, operation, optional, shape};
 ghost use Rattle.clos_forms.specs.PartView.{part_of, shape_told};
 ghost use Rattle.clos_forms.specs.declared.part.Role.TheVariants.{Expression};
 
@@ -18,6 +18,8 @@ pub enum Context {
     Plain,
     /// In the body of a method, where `call-next-method` and `next-method-p` may stand (HyperSpec 7.6.6.2).
     Method,
+    /// In an effective form, where `call-method` may stand (HyperSpec 7.6.6.2).
+    Effective,
 }
 
 impl Context {
@@ -28,6 +30,18 @@ impl Context {
         match self {
             Context::Plain => false,
             Context::Method => true,
+            Context::Effective => false,
+        }
+    }
+
+    /// Whether it is an effective form.
+    pub(crate) fn is_effective(self) -> bool
+        ensures { result ≡ in_effective self }
+    {
+        match self {
+            Context::Plain => false,
+            Context::Method => false,
+            Context::Effective => true,
         }
     }
 }

@@ -7,18 +7,19 @@ ghost use Rattle.clos_forms.specs.Operator.{constant};
 ghost use Rattle.clos_forms.specs.OperatorView.{operator_of};
 ghost use Rattle.clos_forms.specs.PartView.{shape_told};
 ghost use Rattle.clos_forms.specs.Quotation.{quotation};
-ghost use Rattle.clos_forms.specs.Shape.{atom, call_next_method_shape, call_shape, clause_shape, expression_shape, function_shape, headed, headed_shape, if_shape, listed_shape, named_shape, next_method_p_shape, quote_shape, quoting, shape_of, special_shape, symbol_operator};
+ghost use Rattle.clos_forms.specs.Shape.{atom, call_next_method_shape, call_shape, calls_method, clause_shape, expression_shape, function_shape, headed, headed_shape, if_shape, listed_shape, named_shape, next_method_p_shape, quote_shape, quoting, shape_of, special_shape, symbol_operator};
 ghost use Rattle.clos_names.specs.Special.{special_of};
 
 use crate::binding::{dotimes_shape, let_in_order_shape, let_shape, setq_shape};
 use crate::fault::SyntaxFault;
 use crate::function_name::parse_function_name;
+use crate::named_methods::call_method_shape;
 use crate::operator::Operator;
 use crate::part::{Context, Part, Role, Shape, atom, in_roles, only, operation};
 use crate::place::{change_shape, place_shape, setf_shape};
 use crate::quotation::{quoted_value, value_named};
 use crate::slots::with_slots_shape;
-use clos_names::{CalledName, Special, is_definition, names_constant};
+use clos_names::{CalledName, Special, is_definition, is_the, names_constant};
 use lisp_data::{Data, Datum, Items, Name, Value};
 use std::alloc::{AllocError, Global};
 
@@ -109,19 +110,34 @@ fn named_shape<'a>(
 {
     match Special::named(name) {
         Some(special) => special_shape(alloc, context, special, rest),
-        None => call_shape(alloc, name, rest),
+        None => call_shape(alloc, context, name, rest),
     }
 }
 
-/// A call, but of a definition, which stands at the top level alone.
-fn call_shape<'a>(alloc: Global, name: &Name, rest: &'a Data) -> Result<Shape<'a>, SyntaxFault>
-    ensures { Gives shape_told result (call_shape name.now rest.now) }
+/// A call, but of a definition, which stands at the top level alone. In an effective form `call-method` calls a method.
+fn call_shape<'a>(
+    alloc: Global,
+    context: Context,
+    name: &Name,
+    rest: &'a Data,
+) -> Result<Shape<'a>, SyntaxFault>
+    ensures { Gives shape_told result (call_shape context name.now rest.now) }
 {
     if is_definition(name) {
         return Err(SyntaxFault::Program);
     }
+    if calls_method(context, name) {
+        return call_method_shape(alloc, rest);
+    }
     let called = CalledName::new(name.copy()?);
     Ok(operation(alloc, Operator::Call(called), rest)?)
+}
+
+/// Whether a form of this name calls a method.
+fn calls_method(context: Context, name: &Name) -> bool
+    ensures { result ≡ calls_method context name.now }
+{
+    context.is_effective() && is_the(name, "CALL-METHOD")
 }
 
 fn special_shape<'a>(
