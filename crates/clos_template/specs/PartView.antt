@@ -1,0 +1,13 @@
+-- The parts and shapes that the code's stand for.
+use Rattle.std.specs.Prelude.{map}
+use Rattle.lisp_data.specs.DatumView.{datum_of}
+use Rattle.clos_template.specs.Part as of
+use Rattle.clos_template.specs.OperatorView.{operator_of}
+use Rattle.clos_template.specs.declared.part.Part.{Part}
+use Rattle.clos_template.specs.declared.part.Shape.{Shape}
+
+abbrev pub part_of : Part → of.Part
+part_of p = record { role = p.role; datum = datum_of p.datum.now }
+
+abbrev pub shape_told : Shape → of.Shape
+shape_told s = record { operator = operator_of s.operator; parts = map part_of s.parts.items }

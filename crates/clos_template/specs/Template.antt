@@ -1,0 +1,27 @@
+-- Templates (HyperSpec 7.7 define-method-combination): what an effective form is written with.
+use Rattle.std.specs.Prelude.{ℕ, ◌+◌}
+use Rattle.clos_template.specs.Operator.{Operator}
+
+-- an operator and its parts
+mutual
+  pub data Template : Type 0 where
+    template : Operator → Templates → Template
+
+  pub data Templates : Type 0 where
+    nil : Templates
+    cons : Template → Templates → Templates
+
+abbrev pub operator_in : Template → Operator
+operator_in (template o parts) = o
+
+abbrev pub parts_in : Template → Templates
+parts_in (template o parts) = parts
+
+-- one for each template and each cell
+abbrev mutual
+  pub size_of_template : Template → ℕ
+  size_of_template (template o parts) = 2 + size_of_templates parts
+
+  pub size_of_templates : Templates → ℕ
+  size_of_templates nil = 1
+  size_of_templates (cons t ts) = 1 + (size_of_template t + size_of_templates ts)

@@ -1,0 +1,3 @@
+pub mod OperatorCode
+pub mod TemplateCode
+pub mod ScopeCode

@@ -1,0 +1,23 @@
+//! The templates of long method combinations: from data, and to the forms that they stand for (HyperSpec 7.7
+//! `define-method-combination`).
+#![tactic(auto)]
+
+mod backquote;
+mod binding;
+mod datum;
+//pub mod expand;
+mod fault;
+mod function;
+pub mod operator;
+mod part;
+mod scope;
+mod shape;
+pub mod template;
+mod tree;
+mod word;
+
+pub use fault::ExpansionFault;
+pub use operator::{Function, Operator};
+pub use scope::Scope;
+pub use template::{Template, Templates};
+pub use tree::parse_template;
