@@ -13,7 +13,7 @@ use Rattle.clos_syntax.specs.declared.class.ClassDefinition.{ClassDefinition}
 use Rattle.clos_syntax.specs.declared.generic.GenericDefinition.{GenericDefinition}
 use Rattle.clos_syntax.specs.declared.method.MethodDefinition.{MethodDefinition}
 use Rattle.clos_syntax.specs.declared.top.Top.{Top}
-use Rattle.clos_syntax.specs.declared.top.Top.TheVariants.{DefClass, DefGeneric, DefMethod, Defun, DefVar, RemoveMethod, AddDependent, RemoveDependent, InPackage, Expr}
+use Rattle.clos_syntax.specs.declared.top.Top.TheVariants.{DefClass, DefGeneric, DefMethod, DefCombination, Defun, DefVar, RemoveMethod, AddDependent, RemoveDependent, InPackage, Expr}
 use Rattle.clos_syntax.specs.declared.variable.VariableDefinition.{VariableDefinition}
 use Rattle.clos_definition_forms.specs.clos_world.Class.{named}
 use Rattle.clos_definition_forms.specs.clos_world.Definitions.{Same}
@@ -157,6 +157,7 @@ performed_refuses : (top : Top) (w : State) (k : ℕ) → Refuses w (performed t
 performed_refuses (DefClass d) w k = class_refuses d (named w.classes d.name) w k
 performed_refuses (DefGeneric d) w k = generic_refuses d w k
 performed_refuses (DefMethod name m) w k = method_refuses name m w k
+performed_refuses (DefCombination c) w k = same w
 performed_refuses (Defun f) w k = function_refuses f.name (record { lambda_list = f.lambda_list; body = f.body }) w k
 performed_refuses (DefVar d) w k = variable_refuses d w k
 performed_refuses (RemoveMethod function m) w k = removal_refuses function m w k

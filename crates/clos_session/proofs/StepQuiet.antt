@@ -10,7 +10,7 @@ use Rattle.clos_forms.specs.declared.operator.FunctionName.TheVariants.{Symbol, 
 use Rattle.clos_definition_forms.specs.clos_generic.Table.{named as generic_named}
 use Rattle.clos_syntax.specs.Top.{top_of}
 use Rattle.clos_syntax.specs.declared.top.Top.{Top}
-use Rattle.clos_syntax.specs.declared.top.Top.TheVariants.{DefClass, DefGeneric, DefMethod, Defun, DefVar, RemoveMethod, AddDependent, RemoveDependent, InPackage, Expr}
+use Rattle.clos_syntax.specs.declared.top.Top.TheVariants.{DefClass, DefGeneric, DefMethod, DefCombination, Defun, DefVar, RemoveMethod, AddDependent, RemoveDependent, InPackage, Expr}
 use Rattle.clos_syntax.specs.declared.variable.VariableDefinition.{VariableDefinition}
 use Rattle.clos_definition_forms.specs.clos_world.Class.{named}
 use Rattle.clos_definition_forms.specs.clos_world.Functions.{function_in}
@@ -65,6 +65,7 @@ performed_quiet : (top : Top) (w : World) → leaves (performed top (seen w) 0) 
 performed_quiet (DefClass d) w = define_class_quiet d (named (seen w).classes d.name) (seen w) refl
 performed_quiet (DefGeneric d) w = define_generic_quiet d (seen w) refl
 performed_quiet (DefMethod name m) w = define_method_quiet name m (seen w) refl
+performed_quiet (DefCombination c) w = (refl, refl)
 performed_quiet (Defun f) w = function_quiet f.name (record { lambda_list = f.lambda_list; body = f.body }) (seen w)
 performed_quiet (DefVar d) w = variable_quiet d w
 performed_quiet (RemoveMethod function m) w = remove_method_quiet function m (seen w) refl

@@ -16,7 +16,7 @@ use Rattle.clos_syntax.specs.declared.generic.CombinationUse.{CombinationUse}
 use Rattle.clos_syntax.specs.declared.generic.GenericDefinition.{GenericDefinition}
 use Rattle.clos_syntax.specs.declared.method.MethodDefinition.{MethodDefinition}
 use Rattle.clos_syntax.specs.declared.top.Top.{Top}
-use Rattle.clos_syntax.specs.declared.top.Top.TheVariants.{DefClass, DefGeneric, DefMethod, Defun, DefVar, RemoveMethod, AddDependent, RemoveDependent, InPackage, Expr}
+use Rattle.clos_syntax.specs.declared.top.Top.TheVariants.{DefClass, DefGeneric, DefMethod, DefCombination, Defun, DefVar, RemoveMethod, AddDependent, RemoveDependent, InPackage, Expr}
 use Rattle.clos_definition_forms.specs.clos_definition.Method.{eql_form}
 use Rattle.clos_forms.specs.clos_names.Callee.{callee_of}
 use Rattle.clos_forms.specs.clos_names.declared.callee.Callee.{Callee}
@@ -99,11 +99,12 @@ is_standard (Some c) = is_called (codes "STANDARD") c.name
 abbrev pub is_served_generic : GenericDefinition → Bool
 is_served_generic g = is_standard g.combination && list_all is_served_method g.methods
 
--- all forms that stand in it, evaluated at once or later; add-dependent and remove-dependent are not
+-- all forms that stand in it, evaluated at once or later; define-method-combination, add-dependent and remove-dependent are not
 abbrev pub is_served_top : Top → Bool
 is_served_top (DefClass c) = is_served_class c
 is_served_top (DefGeneric g) = is_served_generic g
 is_served_top (DefMethod f m) = is_served_method m
+is_served_top (DefCombination c) = false
 is_served_top (Defun f) = is_served_function f.lambda_list f.body
 is_served_top (DefVar v) = is_served_if_any v.form
 is_served_top (RemoveMethod f m) = is_served f && is_served m

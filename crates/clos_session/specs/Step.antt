@@ -4,7 +4,7 @@ use Rattle.lisp_data.specs.Datum.{Dat}
 use Rattle.lisp_data.specs.Value.{list, nil}
 use Rattle.clos_syntax.specs.Top.{top_of}
 use Rattle.clos_syntax.specs.declared.top.Top.{Top}
-use Rattle.clos_syntax.specs.declared.top.Top.TheVariants.{DefClass, DefGeneric, DefMethod, Defun, DefVar, RemoveMethod, AddDependent, RemoveDependent, InPackage, Expr}
+use Rattle.clos_syntax.specs.declared.top.Top.TheVariants.{DefClass, DefGeneric, DefMethod, DefCombination, Defun, DefVar, RemoveMethod, AddDependent, RemoveDependent, InPackage, Expr}
 use Rattle.clos_definition_forms.specs.clos_world.Class.{named}
 use Rattle.clos_definition_forms.specs.clos_world.World.{State}
 use Rattle.clos_definition_forms.specs.clos_world.declared.condition.ConditionKind.TheVariants.{ProgramError, Unsupported}
@@ -24,6 +24,7 @@ abbrev pub performed : Top → Run
 performed (DefClass d) w k = define_class d (named w.classes d.name) w k
 performed (DefGeneric d) w k = define_generic d w k
 performed (DefMethod name m) w k = define_method name m w k
+performed (DefCombination c) w k = stopped Unsupported [] w k
 performed (Defun f) w k = define_function f.name (record { lambda_list = f.lambda_list; body = f.body }) w k
 performed (DefVar d) w k = variable_defined d w k
 performed (RemoveMethod function m) w k = remove_method function m w k

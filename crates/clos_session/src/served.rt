@@ -22,6 +22,7 @@ pub fn is_served_top(top: &Top) -> bool
         Top::DefClass(class) => is_served_class(class),
         Top::DefGeneric(generic) => is_served_generic(generic),
         Top::DefMethod(_, method) => is_served_method(method),
+        Top::DefCombination(_) => false,
         Top::Defun(function) => is_served_function(&function.lambda_list, &function.body),
         Top::DefVar(variable) => is_served_if_any(&variable.form),
         Top::RemoveMethod(function, method) => is_served(function) && is_served(method),

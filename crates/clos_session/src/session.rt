@@ -145,6 +145,7 @@ fn perform_served(
         Top::DefClass(definition) => defclass(alloc, world, &definition, steps),
         Top::DefGeneric(definition) => defgeneric(alloc, world, definition, steps),
         Top::DefMethod(name, definition) => defmethod(alloc, world, name, definition, steps),
+        Top::DefCombination(_) => { Err(Stop::Refused(plain(alloc, ConditionKind::Unsupported))) }
         Top::Defun(function) => defun(alloc, world, function, steps),
         Top::DefVar(variable) => define_variable(alloc, world, variable, steps),
         Top::RemoveMethod(function, method) => {

@@ -1,3 +1,4 @@
 pub mod Trees
 pub mod Nesting
 pub mod Scopes
+pub mod Arguments

@@ -80,11 +80,15 @@ abbrev pub counted : Dat → ℕ → Expansion
 counted (string s) n = made (integer (pos (length (chars s)))) n
 counted d n = with_elements (list_in d) (λ l. made (integer (pos (length_of l))) n)
 
+-- one more before these and the last one
+abbrev pub with_front : Dat → List Dat × Dat → Option (List Dat × Dat)
+with_front d p = Some (d ∷ p.0, p.1)
+
 -- all data but the last, and the last one
 abbrev pub split_last : List Dat → Option (List Dat × Dat)
 split_last [] = None
 split_last (d ∷ []) = Some ([], d)
-split_last (d ∷ (e ∷ ds)) = split_last (e ∷ ds) >>= λ p. Some (d ∷ p.0, p.1)
+split_last (d ∷ (e ∷ ds)) = split_last (e ∷ ds) >>= with_front d
 
 -- a list of these data before those elements, for each of which a cons is made
 abbrev pub prepended : List Dat → Dats → ℕ → Expansion

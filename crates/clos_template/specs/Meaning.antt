@@ -69,6 +69,10 @@ abbrev pub mapped : Name → Meaning → Env → Dats → List Dat → ℕ → E
 mapped v m env nil ds n = prepended ds nil n
 mapped v m env (cons d l) ds n = then_do (m (env ++ bound v d ∷ []) n) (λ e k. mapped v m env l (ds ++ e ∷ []) k)
 
+-- the list of what the second part gives for each element of the list that the first one gives, with this variable for it
+abbrev pub mapcar_of : Name → List Meaning → Meaning
+mapcar_of v ms env n = then_do (part ms 0 env n) (λ d k. with_elements (list_in d) (λ l. mapped v (part ms 1) env l [] k))
+
 -- ---- backquoted lists
 
 -- the list of these elements, with this atom after its dot
@@ -104,7 +108,7 @@ operated and_form ms env n = until true ms (truth true) env n
 operated or_form ms env n = until false ms nil_symbol env n
 operated (let_form bs) ms env n = aside bs ms [] env n
 operated (let_in_order bs) ms env n = in_order bs ms env n
-operated (mapcar v) ms env n = then_do (part ms 0 env n) (λ d k. with_elements (list_in d) (λ l. mapped v (part ms 1) env l [] k))
+operated (mapcar v) ms env n = mapcar_of v ms env n
 operated (call f) ms env n = gather [] ms env [] (answer f) n
 operated (written bs last) ms env n = gather bs ms env [] (λ ds k. built (length ds) (ended ds last) k) n
 

@@ -17,6 +17,11 @@ operator_in (template o parts) = o
 abbrev pub parts_in : Template → Templates
 parts_in (template o parts) = parts
 
+-- those after the first
+abbrev pub rest_of : Templates → Templates
+rest_of nil = nil
+rest_of (cons t ts) = ts
+
 -- one for each template and each cell
 abbrev mutual
   pub size_of_template : Template → ℕ

@@ -80,12 +80,12 @@ pub(crate) fn from_elements(elements: Data) -> Datum
 }
 
 /// Adds the elements of a list.
-pub(crate) fn push_elements(data: &mut Vec<Datum>, list: &Data) -> Result<(), AllocError>
-    ensures { OnOk result (map datum_of data.new.items ≡ map datum_of data.old.items ++ elements list.now) }
+pub(crate) fn push_elements(items: &mut Vec<Datum>, list: &Data) -> Result<(), AllocError>
+    ensures { OnOk result (map datum_of items.new.items ≡ map datum_of items.old.items ++ elements list.now) }
 {
     let mut rest = list;
     while let Some((first, others)) = rest.split_first() {
-        push(data, first.copy()?)?;
+        push(items, first.copy()?)?;
         rest = others;
     }
     Ok(())
@@ -93,39 +93,39 @@ pub(crate) fn push_elements(data: &mut Vec<Datum>, list: &Data) -> Result<(), Al
 
 /// Adds a datum.
 #[tactic(auto, using(clos_forms::proofs::Parts::pushed))]
-pub(crate) fn push(data: &mut Vec<Datum>, datum: Datum) -> Result<(), AllocError>
-    ensures { OnOk result (map datum_of data.new.items ≡ map datum_of data.old.items ++ datum_of datum ∷ []) }
+pub(crate) fn push(items: &mut Vec<Datum>, datum: Datum) -> Result<(), AllocError>
+    ensures { OnOk result (map datum_of items.new.items ≡ map datum_of items.old.items ++ datum_of datum ∷ []) }
 {
-    data.push(datum)?;
+    items.push(datum)?;
     Ok(())
 }
 
 /// A list of these data before those elements, for each of which a cons is made.
 pub(crate) fn prepend(
     alloc: Global,
-    data: Vec<Datum>,
+    front: Vec<Datum>,
     list: Data,
     left: &mut u64,
 ) -> Result<Datum, ExpansionFault>
-    ensures { Comes result left.new (prepended (map datum_of data.items) list left.old) }
+    ensures { Comes result left.new (prepended (map datum_of front.items) list left.old) }
 {
-    let count = data.len() as u64;
+    let count = front.len() as u64;
     if count > *left {
         return Err(ExpansionFault::Beyond);
     }
-    let list = prepend_all(alloc, data, list)?;
+    let list = prepend_all(alloc, front, list)?;
     *left -= count;
     Ok(from_elements(list))
 }
 
 /// These data before those elements.
 #[tactic(auto, using(clos_lambda::proofs::Lists::one_ahead))]
-fn prepend_all(alloc: Global, data: Vec<Datum>, list: Data) -> Result<Data, ExpansionFault>
-    ensures { Builds result (ahead (map datum_of data.items) list) }
+fn prepend_all(alloc: Global, front: Vec<Datum>, list: Data) -> Result<Data, ExpansionFault>
+    ensures { Builds result (ahead (map datum_of front.items) list) }
 {
-    let mut data = data;
+    let mut front = front;
     let mut built = list;
-    while let Some(datum) = data.pop() {
+    while let Some(datum) = front.pop() {
         match Data::cons(alloc, datum, built) {
             Ok(longer) => built = longer,
             Err(ListFault::Limit) => return Err(ExpansionFault::Beyond),
@@ -169,27 +169,27 @@ fn reverse_all(alloc: Global, list: &Data) -> Result<Data, ExpansionFault>
 /// The list of these data, with this atom after its dot, for each of which a cons is made.
 pub(crate) fn end(
     alloc: Global,
-    data: Vec<Datum>,
+    front: Vec<Datum>,
     last: &Option<Datum>,
     left: &mut u64,
 ) -> Result<Datum, ExpansionFault>
-    ensures { Comes result left.new (built (length data.items) (ended (map datum_of data.items) (option_map datum_of last.now)) left.old) }
+    ensures { Comes result left.new (built (length front.items) (ended (map datum_of front.items) (option_map datum_of last.now)) left.old) }
 {
     match last {
-        None => prepend(alloc, data, Data::new(), left),
-        Some(last) => end_with(alloc, data, last, left),
+        None => prepend(alloc, front, Data::new(), left),
+        Some(last) => end_with(alloc, front, last, left),
     }
 }
 
 fn end_with(
     alloc: Global,
-    data: Vec<Datum>,
+    front: Vec<Datum>,
     last: &Datum,
     left: &mut u64,
 ) -> Result<Datum, ExpansionFault>
-    ensures { Comes result left.new (built (length data.items) (ended (map datum_of data.items) (Some (datum_of last.now))) left.old) }
+    ensures { Comes result left.new (built (length front.items) (ended (map datum_of front.items) (Some (datum_of last.now))) left.old) }
 {
-    let count = data.len() as u64;
+    let count = front.len() as u64;
     if count > *left {
         return Err(ExpansionFault::Beyond);
     }
@@ -198,7 +198,7 @@ fn end_with(
         let _nesting = last.nesting();
         return Ok(last);
     }
-    let front = prepend_all(alloc, data, Data::new())?;
+    let front = prepend_all(alloc, front, Data::new())?;
     let dotted = dot(alloc, front, last)?;
     *left -= count;
     Ok(dotted)

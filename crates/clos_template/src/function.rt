@@ -44,6 +44,7 @@ pub(crate) fn answer(
 }
 
 /// The argument at a place.
+#[tactic(auto, using(crate::proofs::Arguments::argument_at))]
 fn argument(arguments: &[Datum], place: usize) -> Result<Datum, AllocError>
     ensures { IfOk result (λ d. datum_of d ≡ argument (map datum_of arguments.now) place) }
 {
@@ -163,6 +164,7 @@ fn number(count: u64) -> Result<Datum, ExpansionFault>
     }
 }
 
+#[tactic(auto, using(crate::proofs::Arguments::last_of, crate::proofs::Arguments::starred_with))]
 /// The arguments before the elements of the last one, which may be any datum where it is alone.
 fn prepend_last(
     alloc: Global,
@@ -182,6 +184,7 @@ fn prepend_last(
 }
 
 /// The elements of all lists, one list after the other. The last one is shared.
+#[tactic(auto, using(crate::proofs::Arguments::last_of))]
 fn append(alloc: Global, mut lists: Vec<Datum>, left: &mut u64) -> Result<Datum, ExpansionFault>
     ensures { Comes result left.new (appended (split_last (map datum_of lists.items)) left.old) }
 {
@@ -193,6 +196,7 @@ fn append(alloc: Global, mut lists: Vec<Datum>, left: &mut u64) -> Result<Datum,
     prepend(alloc, front, elements, left)
 }
 
+#[tactic(auto, using(crate::proofs::Arguments::all_more, crate::proofs::Arguments::all_failed))]
 fn elements_of_all(alloc: Global, lists: &[Datum]) -> Result<Vec<Datum>, ExpansionFault>
     ensures { HasAll result (elements_of_all (map datum_of lists.now)) }
 {

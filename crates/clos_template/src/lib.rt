@@ -5,7 +5,7 @@
 mod backquote;
 mod binding;
 mod datum;
-//pub mod expand;
+mod expansion;
 mod fault;
 mod function;
 pub mod operator;
@@ -16,6 +16,7 @@ pub mod template;
 mod tree;
 mod word;
 
+pub use expansion::{MAX_CONSES, expand};
 pub use fault::ExpansionFault;
 pub use operator::{Function, Operator};
 pub use scope::Scope;

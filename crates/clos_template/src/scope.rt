@@ -53,6 +53,15 @@ impl Scope {
         Ok(())
     }
 
+    /// Moves these names to the end, where they hide those that are the same.
+    #[tactic(auto, using(crate::proofs::Scopes::more_names))]
+    pub(crate) fn append(&mut self, more: Scope) -> Result<(), AllocError>
+        ensures { OnOk result (self.new ≡ self.old ++ more) }
+    {
+        let Scope { mut variables } = more;
+        self.variables.append(&mut variables)
+    }
+
     /// How many names there are.
     pub(crate) fn len(&self) -> usize
         ensures { result ≡ length self.now }
@@ -61,6 +70,7 @@ impl Scope {
     }
 
     /// Only the first names stay.
+    #[tactic(auto, using(crate::proofs::Scopes::first_names))]
     pub(crate) fn leave(&mut self, count: usize)
         requires { count ≤ length self.old }
         ensures { self.new ≡ take count self.old }
@@ -72,12 +82,12 @@ impl Scope {
     pub(crate) fn value(&self, name: &Name) -> Option<&Datum>
         ensures { option_map (λ d. datum_of d.now) result ≡ value_of self.now name.now }
     {
-        let mut left = self.variables.len();
-        while left > 0 {
-            left -= 1;
-            if self.variables[left].name.is(name) {
-                return Some(&self.variables[left].value);
+        let mut left = self.variables.as_slice();
+        while let Some((last, others)) = left.split_last() {
+            if last.name.is(name) {
+                return Some(&last.value);
             }
+            left = others;
         }
         None
     }

@@ -1,6 +1,6 @@
 //! Templates as they are expanded: made once, when the combination is defined, and shared by what keeps a place in them.
 ghost use Rattle.std.specs.Prelude.{◌≡◌, IfOk, MatchOption};
-ghost use Rattle.clos_template.specs.Template.{Templates, template, nil, cons, operator_in, parts_in};
+ghost use Rattle.clos_template.specs.Template.{Templates, template, nil, cons, operator_in, parts_in, rest_of};
 ghost use Rattle.clos_template.specs.TemplateView.{templates_of};
 ghost use Rattle.clos_template.specs.OperatorView.{operator_of};
 
@@ -144,6 +144,16 @@ impl Templates {
         match &self.first {
             Link::End => None,
             Link::More(pair) => Some((&pair.head, &pair.tail)),
+        }
+    }
+
+    /// Those after the first.
+    pub(crate) fn after_first(&self) -> &Templates
+        ensures { result.now ≡ rest_of self.now }
+    {
+        match &self.first {
+            Link::End => self,
+            Link::More(pair) => &pair.tail,
         }
     }
 

@@ -4,7 +4,7 @@ use Rattle.clos_lambda.specs.Lists.{ahead}
 use Rattle.clos_template.proofs.datum.prepend_all.Given as goal
 
 abbrev pub invariant-loop-datum : goal.invariant-loop-datum
-invariant-loop-datum l = ahead (map datum_of l.data.items) l.built ≡ ahead (map datum_of l.fn.data.items) l.fn.list
+invariant-loop-datum l = ahead (map datum_of l.front.items) l.built ≡ ahead (map datum_of l.fn.front.items) l.fn.list
 
 abbrev pub decreases-loop-datum : goal.decreases-loop-datum
-decreases-loop-datum l = vec_len l.data
+decreases-loop-datum l = vec_len l.front
