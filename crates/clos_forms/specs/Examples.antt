@@ -4,7 +4,7 @@ use Rattle.lisp_data.specs.Name.{Name}
 use Rattle.lisp_data.specs.Datum.{Dat, integer, symbol, list, method, list_from}
 use Rattle.lisp_data.specs.Value as value
 use Rattle.clos_forms.specs.Effective.{effective_form}
-use Rattle.clos_forms.specs.Form.{form, nil, cons}
+use Rattle.clos_forms.specs.Form.{Form, form, nil, cons}
 use Rattle.clos_forms.specs.Operator.{the_method, made, constant, call, call_method}
 
 abbrev name : List ℕ → Name
@@ -21,14 +21,22 @@ calling ds = after_name (codes "CALL-METHOD") ds
 abbrev made_of_five : Dat
 made_of_five = after_name (codes "MAKE-METHOD") (integer (pos 5) ∷ [])
 
--- (list (call-method M1) (call-method M2 (M3 (make-method 5)))) is a call with two parts
-a_list_of_calls : effective_form (after_name (codes "LIST") (calling (method 1 ∷ []) ∷ calling (method 2 ∷ list (list_from (method 3 ∷ made_of_five ∷ [])) ∷ []) ∷ [])) ≡ Some (form (call (name (codes "LIST"))) (cons (form (call_method (the_method 1) []) nil) (cons (form (call_method (the_method 2) (the_method 3 ∷ made ∷ [])) (cons (form (constant (value.integer (pos 5))) nil) nil)) nil)))
-a_list_of_calls = refl
+-- (call-method M2 (M3 (make-method 5)))
+abbrev with_next : Dat
+with_next = calling (method 2 ∷ list (list_from (method 3 ∷ made_of_five ∷ [])) ∷ [])
+
+-- M2 is called, with M3 and the method that is made as next methods
+abbrev call_with_next : Form
+call_with_next = form (call_method (the_method 2) (the_method 3 ∷ made ∷ [])) (cons (form (constant (value.integer (pos 5))) nil) nil)
+
+-- (list (call-method M1) (call-method M2 (M3 (make-method 5)))) is a call with two arguments
+two_calls : effective_form (after_name (codes "LIST") (calling (method 1 ∷ []) ∷ with_next ∷ [])) ≡ Some (form (call (name (codes "LIST"))) (cons (form (call_method (the_method 1) []) nil) (cons call_with_next nil)))
+two_calls = refl
 
 -- (quote (call-method M1)) has no form, since M1 is not called in it
 a_quoted_call : effective_form (after_name (codes "QUOTE") (calling (method 1 ∷ []) ∷ [])) ≡ None
 a_quoted_call = refl
 
 -- (call-method 5) has none, since it names no method
-a_call_of_a_number : effective_form (calling (integer (pos 5) ∷ [])) ≡ None
-a_call_of_a_number = refl
+no_method : effective_form (calling (integer (pos 5) ∷ [])) ≡ None
+no_method = refl
