@@ -1,6 +1,6 @@
 -- The arguments of functions, by their places.
-use Rattle.std.proofs.Common.{◌≡◌, ◌≢◌, ℕ, zero, suc, List, [], ◌∷◌, ◌++◌, map, refl, ap, sym, ◌∙◌}
-use Rattle.std.specs.Prelude.{Option, Some, None, Err, unwrap_or, option_map, slice_get}
+use Rattle.std.proofs.Common.{◌≡◌, ◌≢◌, ℕ, List, [], ◌∷◌, ◌++◌, map, refl, ap, sym, ◌∙◌}
+use Rattle.std.specs.Prelude.{Option, Some, None, Err}
 use Rattle.lisp_data.specs.Datum.{Dat, Dats, elements}
 use Rattle.lisp_data.specs.DatumView.{datum_of}
 use Rattle.lisp_data.specs.declared.datum.Datum.{Datum}
@@ -11,13 +11,7 @@ use Rattle.clos_template.specs.Expansion.{Expansion}
 use Rattle.clos_template.specs.FunctionView.{Has, HasAll}
 use Rattle.clos_template.specs.declared.fault.ExpansionFault.{ExpansionFault}
 use Rattle.clos_template.specs.declared.fault.ExpansionFault.TheVariants.{Bad, Beyond, Memory}
-use Rattle.clos_template.specs.Function.{argument, nil_symbol, prepended, split_last, starred, with_elements, with_front}
-
--- the argument at a place, or NIL where there is none
-pub argument_at : (xs : List Datum) (n : ℕ) → argument (map datum_of xs) n ≡ unwrap_or (option_map datum_of (slice_get xs n)) nil_symbol
-argument_at [] n = refl
-argument_at (x ∷ xs) zero = refl
-argument_at (x ∷ xs) (suc n) = argument_at xs n
+use Rattle.clos_template.specs.Function.{prepended, split_last, starred, with_elements, with_front}
 
 -- the last of some data, and those before it
 pub last_of : (xs : List Datum) (x : Datum) → split_last (map datum_of (xs ++ x ∷ [])) ≡ Some (map datum_of xs, datum_of x)

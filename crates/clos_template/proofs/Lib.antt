@@ -2,3 +2,4 @@ pub mod Trees
 pub mod Nesting
 pub mod Scopes
 pub mod Arguments
+pub mod Expanding

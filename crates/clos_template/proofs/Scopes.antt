@@ -1,5 +1,5 @@
 -- What names stand for in a scope.
-use Rattle.std.proofs.Common.{◌≡◌, ℕ, List, [], ◌∷◌, ◌++◌, Bool, true, false, map, take, refl, ap, sym, ◌∙◌}
+use Rattle.std.proofs.Common.{◌≡◌, ℕ, List, [], ◌∷◌, ◌++◌, Bool, true, false, map, take, refl, ap, sym, ◌∙◌, true≢false}
 use Rattle.std.proofs.lemmas.List.{map-append, take-map}
 use Rattle.std.specs.Prelude.{Option, Some, None, if◌then◌else◌}
 use Rattle.lisp_data.specs.Name.{Name, same_name}
@@ -28,3 +28,23 @@ first_names n vs = sym (take-map binding_of n vs)
 
 pub more_names : (us vs : List Variable) → map binding_of (us ++ vs) ≡ map binding_of us ++ map binding_of vs
 more_names us vs = map-append binding_of us vs
+
+-- ---- a search from the last name on: what is left of the names gives what all do
+
+found : (b : Bool) (o : Option Dat) (d : Dat) → b ≡ true → (if b then Some d else o) ≡ Some d
+found true o d h = refl
+found false o d h = absurd (true≢false (sym h))
+
+passed : (b : Bool) (o : Option Dat) (d : Dat) → b ≡ false → (if b then Some d else o) ≡ o
+passed true o d h = absurd (true≢false h)
+passed false o d h = refl
+
+pub last_found : (us vs : List Variable) (v : Variable) (name : Name) (t : Option Dat) → us ≡ vs ++ v ∷ [] → value_of (map binding_of us) name ≡ t → same_name v.name name ≡ true → Some (datum_of v.value) ≡ t
+last_found us vs v name t e h s =
+    sym (found (same_name v.name name) (value_of (map binding_of vs) name) (datum_of v.value) s) ∙ sym (last_name_first vs v name)
+    ∙ ap (λ xs. value_of (map binding_of xs) name) (sym e) ∙ h
+
+pub last_passed : (us vs : List Variable) (v : Variable) (name : Name) (t : Option Dat) → us ≡ vs ++ v ∷ [] → value_of (map binding_of us) name ≡ t → same_name v.name name ≡ false → value_of (map binding_of vs) name ≡ t
+last_passed us vs v name t e h s =
+    sym (passed (same_name v.name name) (value_of (map binding_of vs) name) (datum_of v.value) s) ∙ sym (last_name_first vs v name)
+    ∙ ap (λ xs. value_of (map binding_of xs) name) (sym e) ∙ h

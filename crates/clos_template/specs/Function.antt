@@ -1,5 +1,5 @@
 -- The functions of templates, on data (HyperSpec 5.3, 14.2).
-use Rattle.std.specs.Prelude.{ℕ, zero, suc, ◌++◌, pos, Bool, true, false, ◌&&◌, ◌||◌, codes, if◌then◌else◌, List, [], ◌∷◌, Option, Some, None, length}
+use Rattle.std.specs.Prelude.{ℕ, ◌++◌, pos, Bool, true, false, ◌&&◌, ◌||◌, codes, if◌then◌else◌, List, [], ◌∷◌, Option, Some, None, length, slice_get, unwrap_or}
 use Rattle.std.specs.Str.{chars}
 use Rattle.lisp_data.specs.Datum.{Dat, integer, symbol, string, list, dotted, method, Dats, nil, cons, elements, length_of}
 use Rattle.lisp_data.specs.Keys.{same_datum}
@@ -48,9 +48,7 @@ with_elements (Some l) go = go l
 
 -- the argument at a place; there is one, since the function takes so many
 abbrev pub argument : List Dat → ℕ → Dat
-argument [] n = nil_symbol
-argument (d ∷ ds) zero = d
-argument (d ∷ ds) (suc n) = argument ds n
+argument ds n = unwrap_or (slice_get ds n) nil_symbol
 
 abbrev pub first_in : Dats → Dat
 first_in nil = nil_symbol

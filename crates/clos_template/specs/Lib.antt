@@ -17,3 +17,4 @@ pub mod FunctionView
 pub mod Scope
 pub mod ScopeView
 pub mod Meaning
+pub mod Examples

@@ -38,11 +38,19 @@ abbrev pub until : Bool → List Meaning → Dat → Meaning
 until stop [] d env n = made d n
 until stop (m ∷ ms) d env n = then_do (m env n) (λ e k. if same_kind (is_nil e) stop then made e k else until stop ms e env k)
 
--- The first clause whose test is not NIL gives its body, or the test where it has none.
+-- the body of a clause, or its test where it has none
+abbrev pub clause_value : Bool → List Meaning → Dat → Meaning
+clause_value b ms d env n = if b then part ms 1 env n else made d n
+
+-- what is left of the parts after a clause
+abbrev pub after_clause : Bool → List Meaning → List Meaning
+after_clause b ms = if b then drop 2 ms else drop 1 ms
+
+-- the first clause whose test is not NIL
 abbrev pub clauses : List Bool → List Meaning → Meaning
 clauses [] ms env n = made nil_symbol n
-clauses (true ∷ bs) ms env n = then_do (part ms 0 env n) (λ d k. choose d (part ms 1 env k) (clauses bs (drop 2 ms) env k))
-clauses (false ∷ bs) ms env n = then_do (part ms 0 env n) (λ d k. choose d (made d k) (clauses bs (drop 1 ms) env k))
+clauses (b ∷ bs) ms env n =
+    then_do (part ms 0 env n) (λ d k. choose d (clause_value b ms d env k) (clauses bs (after_clause b ms) env k))
 
 -- ---- variables
 

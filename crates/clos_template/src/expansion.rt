@@ -1,11 +1,10 @@
 //! Templates are expanded: each by its operator, its parts from left to right.
-ghost use Rattle.std.specs.Prelude.{◌≡◌, ◌∷◌, [], OnOk, drop, map};
+ghost use Rattle.std.specs.Prelude.{◌≡◌, [], ℕ, OnOk, map};
 ghost use Rattle.lisp_data.specs.DatumView.{datum_of};
 ghost use Rattle.clos_forms.specs.BoundView.{bound};
 ghost use Rattle.clos_template.specs.Expansion.{Comes};
-ghost use Rattle.clos_template.specs.Function.{nil_symbol};
 ghost use Rattle.clos_template.specs.FunctionView.{Collects};
-ghost use Rattle.clos_template.specs.Meaning.{after_init, aside, clauses, gather, in_order, init, known, mapcar_of, meaning, meanings, part, sequence, until};
+ghost use Rattle.clos_template.specs.Meaning.{aside, clauses, gather, in_order, known, mapcar_of, meaning, meanings, part, sequence, until};
 ghost use Rattle.clos_template.specs.Scope.{value_of};
 
 use crate::datum::{elements, end, is_nil, nil_symbol, prepend, push, push_elements, truth};
@@ -154,7 +153,10 @@ fn clauses(
 {
     let mut rest = parts;
     for has_body in bodies {
-        let test = part(alloc, rest, 0, scope, left)?;
+        let test = match part(alloc, rest, 0, scope, left) {
+            Err(fault) => return Err(fault),
+            Ok(test) => test,
+        };
         if !is_nil(&test) {
             if *has_body {
                 return part(alloc, rest, 1, scope, left);

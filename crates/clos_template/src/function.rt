@@ -1,5 +1,5 @@
 //! The functions of templates (HyperSpec 5.3, 14.2).
-ghost use Rattle.std.specs.Prelude.{◌≡◌, ◌∷◌, [], ℕ, IfOk, length, map, pos};
+ghost use Rattle.std.specs.Prelude.{◌≡◌, ◌∷◌, [], ℕ, IfOk, length, map, option_map, pos, slice_get};
 ghost use Rattle.std.specs.Str.{chars};
 ghost use Rattle.lisp_data.specs.Datum.{integer, list};
 ghost use Rattle.lisp_data.specs.DatumView.{datum_of};
@@ -44,14 +44,19 @@ pub(crate) fn answer(
 }
 
 /// The argument at a place.
-#[tactic(auto, using(crate::proofs::Arguments::argument_at))]
 fn argument(arguments: &[Datum], place: usize) -> Result<Datum, AllocError>
     ensures { IfOk result (λ d. datum_of d ≡ argument (map datum_of arguments.now) place) }
 {
-    match arguments.get(place) {
+    match argument_at(arguments, place) {
         None => Ok(nil_symbol()),
-        Some(datum) => datum.copy(),
+        Some(datum) => Ok(datum.copy()?),
     }
+}
+
+fn argument_at(arguments: &[Datum], place: usize) -> Option<&Datum>
+    ensures { option_map (λ d. datum_of d.now) result ≡ slice_get (map datum_of arguments.now) place }
+{
+    arguments.get(place)
 }
 
 /// Whether a list is empty.

@@ -78,15 +78,15 @@ invariant-in_order-loop-binding l =
 
 abbrev pub invariant-map_list-loop-first : goal.invariant-map_list-loop-first
 invariant-map_list-loop-first l =
-    (mapped l.name (part (meanings l.parts) 1) l.scope l.rest (map datum_of l.data.items) l.left ≡ mapped l.name (part (meanings l.parts) 1) l.fn.scope l.elements [] l.initial.left)
-    × (l.scope ≡ l.fn.scope)
+    (mapped l.name (part (meanings l.parts) 1) l.scope l.rest (map datum_of l.«data».items) l.left ≡ mapped l.name (part (meanings l.parts) 1) l.fn.scope l.initial.rest [] l.initial.left)
+    × (l.scope ≡ l.fn.scope) × (l.outer ≡ length l.fn.scope)
 
 abbrev pub decreases-map_list-loop-first : goal.decreases-map_list-loop-first
 decreases-map_list-loop-first l = size_of_data l.rest
 
 abbrev pub invariant-gather-loop-first : goal.invariant-gather-loop-first
 invariant-gather-loop-first l =
-    ((go : List Dat → ℕ → Expansion) → gather l.flags (meanings l.rest) l.scope (map datum_of l.data.items) go l.left ≡ gather l.spliced (meanings l.parts) l.fn.scope [] go l.fn.left)
+    ((go : List Dat → ℕ → Expansion) → gather l.flags (meanings l.rest) l.scope (map datum_of l.«data».items) go l.left ≡ gather l.spliced (meanings l.parts) l.fn.scope [] go l.fn.left)
     × (l.scope ≡ l.fn.scope) × (size_of_templates l.rest ≤ size_of_templates l.parts)
 
 abbrev pub decreases-gather-loop-first : goal.decreases-gather-loop-first
