@@ -1,13 +1,12 @@
 -- The arguments of functions, by their places.
 use Rattle.std.proofs.Common.{◌≡◌, ◌≢◌, ℕ, List, [], ◌∷◌, ◌++◌, map, refl, ap, sym, ◌∙◌}
-use Rattle.std.specs.Prelude.{Option, Some, None, Err}
+use Rattle.std.specs.Prelude.{Option, Some, Err}
 use Rattle.lisp_data.specs.Datum.{Dat, Dats, elements}
 use Rattle.lisp_data.specs.DatumView.{datum_of}
 use Rattle.lisp_data.specs.declared.datum.Datum.{Datum}
 use Rattle.clos_forms.specs.Fault.{◌>>=◌}
 use Rattle.clos_lambda.proofs.Lists.{some_more}
 use Rattle.clos_lambda.specs.Lists.{before, list_in}
-use Rattle.clos_template.specs.Expansion.{Expansion}
 use Rattle.clos_template.specs.FunctionView.{Has, HasAll}
 use Rattle.clos_template.specs.declared.fault.ExpansionFault.{ExpansionFault}
 use Rattle.clos_template.specs.declared.fault.ExpansionFault.TheVariants.{Bad, Beyond, Memory}

@@ -1,5 +1,5 @@
 -- How deep lists nest that are made of others.
-use Rattle.std.proofs.Common.{◌≡◌, ◌≤◌, ◌<◌, ℕ, List, [], ◌∷◌, ◌++◌, arith, subst}
+use Rattle.std.proofs.Common.{◌≡◌, ◌≤◌, ◌<◌, ℕ, List, [], ◌∷◌, arith, subst}
 use Rattle.lisp_data.specs.Datum.{Dat, Dats, nil, cons, nesting_in}
 use Rattle.clos_lambda.specs.Lists.{ahead}
 use Rattle.clos_template.specs.Function.{reversed}

@@ -1,7 +1,7 @@
 -- What names stand for in a scope.
 use Rattle.std.proofs.Common.{◌≡◌, ℕ, List, [], ◌∷◌, ◌++◌, Bool, true, false, map, take, refl, ap, sym, ◌∙◌, true≢false}
 use Rattle.std.proofs.lemmas.List.{map-append, take-map}
-use Rattle.std.specs.Prelude.{Option, Some, None, if◌then◌else◌}
+use Rattle.std.specs.Prelude.{Option, Some, if◌then◌else◌}
 use Rattle.lisp_data.specs.Name.{Name, same_name}
 use Rattle.lisp_data.specs.Datum.{Dat}
 use Rattle.lisp_data.specs.DatumView.{datum_of}

@@ -1,5 +1,5 @@
 -- What stands in a backquote (HyperSpec 2.4.6).
-use Rattle.std.specs.Prelude.{List, [], ◌∷◌, Bool, true, false, codes, map, Option, Some, None, if◌then◌else◌}
+use Rattle.std.specs.Prelude.{List, [], ◌∷◌, Bool, true, false, codes, Option, Some, None, if◌then◌else◌}
 use Rattle.lisp_data.specs.Datum.{Dat, integer, symbol, string, list, dotted, method, Dats, nil, cons}
 use Rattle.clos_forms.specs.Binding.{each}
 use Rattle.clos_forms.specs.Fault.{◌>>=◌}

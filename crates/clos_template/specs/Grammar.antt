@@ -1,7 +1,7 @@
 -- The template that a datum is: its shape, with each part's template.
 use Rattle.std.specs.Prelude.{ℕ, zero, suc, List, [], ◌∷◌, Option, Some, None}
 use Rattle.lisp_data.specs.Limits.{most_nesting}
-use Rattle.lisp_data.specs.Datum.{Dat, Dats}
+use Rattle.lisp_data.specs.Datum.{Dats}
 use Rattle.clos_forms.specs.Fault.{◌>>=◌}
 use Rattle.clos_template.specs.Operator.{let_form}
 use Rattle.clos_template.specs.Part.{Part, body_parts}

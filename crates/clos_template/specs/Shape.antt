@@ -11,7 +11,7 @@ use Rattle.clos_forms.specs.clos_names.Names.{is_called, is_constant}
 use Rattle.clos_lambda.specs.LambdaList.{parameter_in}
 use Rattle.clos_template.specs.Backquote.{quoted_shape}
 use Rattle.clos_template.specs.Operator.{Operator, constant, variable, if_form, cond, and_form, or_form, let_form, let_in_order, mapcar, call}
-use Rattle.clos_template.specs.Part.{Part, Shape, shape, atom, operation, as_it_is, in_role, templates_in, inits_of, body_parts}
+use Rattle.clos_template.specs.Part.{Part, Shape, shape, atom, operation, as_it_is, in_role, inits_of, body_parts}
 use Rattle.clos_template.specs.Word.{word_of, takes}
 use Rattle.clos_template.specs.declared.operator.Function.{Function}
 use Rattle.clos_template.specs.declared.part.Role.{Role}
