@@ -17,6 +17,7 @@ use Rattle.clos_lambda.specs.LambdaList.{all_variables, generic_lambda_list_in, 
 use Rattle.clos_lambda.specs.Lists.{list_in}
 use Rattle.clos_lambda.specs.Sections.{after, back, front, past}
 use Rattle.clos_lambda.specs.PlainForm.{form_in}
+use Rattle.clos_lambda.specs.Property.{options_of, option_in, arguments_in}
 use Rattle.clos_lambda.specs.declared.lambda_list.LambdaList.{LambdaList}
 use Rattle.clos_lambda.specs.declared.lambda_list.Optional.{Optional}
 use Rattle.clos_syntax.specs.Class.{class_in, documentation_option_in}
@@ -25,7 +26,6 @@ use Rattle.clos_syntax.specs.FunctionName.{method_function_in, new_function_in}
 use Rattle.clos_syntax.specs.Generic.{combination_in, fits, generic, generic_in, generic_option_in, generic_options_in, generic_with, method_option_in, symbols_in}
 use Rattle.clos_syntax.specs.Laws.{IsSpecialized, AreSpecialized}
 use Rattle.clos_syntax.specs.Method.{method_in, method_with, past_qualifiers, qualified, qualifiers_in, required_in, specialized, specializer_in, specializers_in}
-use Rattle.clos_syntax.specs.Property.{options_of, option_in, arguments_in}
 use Rattle.clos_syntax.specs.Top.{any_top, defmethod_in, expression, headed_top, in_package, listed_top, named_top, other_top, two_forms_in}
 use Rattle.clos_syntax.specs.Variable.{variable_definition_in}
 use Rattle.clos_syntax.specs.declared.generic.CombinationUse.{CombinationUse}

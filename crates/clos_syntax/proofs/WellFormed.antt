@@ -21,6 +21,7 @@ use Rattle.clos_lambda.specs.LambdaList.{all_variables, allowing, bare, generic_
 use Rattle.clos_lambda.specs.Lists.{list_in, or_none, single}
 use Rattle.clos_lambda.specs.Sections.{after, back, front, is_symbol_called, past}
 use Rattle.clos_lambda.specs.PlainForm.{form_in}
+use Rattle.clos_lambda.specs.Property.{anything, arguments_in, documentation_in, option_in, options_of, value_in, values_of}
 use Rattle.clos_lambda.specs.declared.lambda_list.Key.{Key}
 use Rattle.clos_lambda.specs.declared.lambda_list.Keys.{Keys}
 use Rattle.clos_lambda.specs.declared.lambda_list.LambdaList.{LambdaList}
@@ -30,8 +31,7 @@ use Rattle.clos_syntax.specs.Function.{function_in, function_with}
 use Rattle.clos_syntax.specs.FunctionName.{method_function_in, new_function_in}
 use Rattle.clos_syntax.specs.Generic.{combination_in, fits, generic, generic_in, generic_option_in, generic_options_in, generic_with, method_option_in, symbols_in}
 use Rattle.clos_syntax.specs.Method.{eql_specializer, listed_specializer, method_in, method_with, past_qualifiers, qualified, qualifiers_in, required_in, specialized, specializer_in, specializer_named, specializers_in}
-use Rattle.clos_syntax.specs.Property.{arguments_in, option_in, options_of, value_in, values_of}
-use Rattle.clos_syntax.specs.Slot.{accessors_in, allocation_in, anything, are_slot_options, documentation_in, listed_slot, or_instance, slot_from, slot_in, slot_with}
+use Rattle.clos_syntax.specs.Slot.{accessors_in, allocation_in, are_slot_options, listed_slot, or_instance, slot_from, slot_in, slot_with}
 use Rattle.clos_syntax.specs.Top.{defmethod_in, two_forms_in}
 use Rattle.clos_syntax.specs.Variable.{documented, init_in, is_documentation, variable_definition_in}
 use Rattle.clos_syntax.specs.WellFormed.{AreWellFormed, HasInit, IsPlain, OfClass, OfDefault, OfFunction, OfGeneric, OfKey, OfKeys, OfLambdaList, OfMethod, OfOptional, OfSlot, OfSpecializer, OfVariable}

@@ -9,11 +9,11 @@ use Rattle.clos_forms.specs.Fault.{◌>>=◌}
 use Rattle.clos_forms.specs.FunctionName.{symbol_in}
 use Rattle.clos_forms.specs.declared.operator.FunctionName.{FunctionName}
 use Rattle.clos_lambda.specs.LambdaList.{generic_lambda_list_in}
+use Rattle.clos_lambda.specs.Property.{is_option, options_of, option_in, arguments_in}
 use Rattle.clos_lambda.specs.declared.lambda_list.LambdaList.{LambdaList}
 use Rattle.clos_syntax.specs.Class.{documentation_option_in}
 use Rattle.clos_syntax.specs.FunctionName.{new_function_in}
 use Rattle.clos_syntax.specs.Method.{method_in}
-use Rattle.clos_syntax.specs.Property.{is_option, options_of, option_in, arguments_in}
 use Rattle.clos_syntax.specs.declared.generic.CombinationUse.{CombinationUse}
 use Rattle.clos_syntax.specs.declared.generic.GenericDefinition.{GenericDefinition}
 use Rattle.clos_syntax.specs.declared.generic.GenericOptions.{GenericOptions}

@@ -7,11 +7,12 @@ ghost use Rattle.clos_syntax.specs.Generic.{combination_in, combination_with, fi
 
 use crate::class::DocumentationOptions;
 use crate::function_name::parse_new_function;
-use crate::kind::{Symbols, parse_each, parse_option, parse_options};
 use crate::method::{MethodDefinition, parse_method};
-use crate::property::{arguments, is_option};
 use clos_forms::{FunctionName, SyntaxFault, are_among, are_distinct, is_declaration};
-use clos_lambda::{Kind, LambdaList, Sequence, parse_generic_lambda_list, parse_symbol};
+use clos_lambda::{
+    Kind, LambdaList, Sequence, Symbols, arguments, is_option, parse_each,
+    parse_generic_lambda_list, parse_option, parse_options, parse_symbol,
+};
 use lisp_data::{Data, Datum, Name};
 use std::alloc::{AllocError, Global};
 
