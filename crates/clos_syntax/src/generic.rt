@@ -3,7 +3,7 @@ ghost use Rattle.std.specs.Prelude.{◌≡◌, IfOk};
 ghost use Rattle.std.specs.Option.{option_copied};
 ghost use Rattle.lisp_data.specs.DatumView.{datum_of};
 ghost use Rattle.clos_forms.specs.Fault.{Gives};
-ghost use Rattle.clos_syntax.specs.Generic.{combination_in, combination_with, fits, generic_in, generic_option_in, generic_options_in, generic_with, method_option_in, orders, symbols_in};
+ghost use Rattle.clos_syntax.specs.Generic.{combination_use_in, combination_with, fits, generic_in, generic_option_in, generic_options_in, generic_with, method_option_in, orders, symbols_in};
 
 use crate::class::DocumentationOptions;
 use crate::function_name::parse_new_function;
@@ -78,7 +78,7 @@ impl Kind for Precedences {
 impl Kind for Combinations {
     type Item = CombinationUse;
 
-    ghost item_in = { combination_in };
+    ghost item_in = { combination_use_in };
 
     fn parse(_alloc: Global, datum: &Datum) -> Result<CombinationUse, SyntaxFault> {
         parse_combination(datum)
@@ -133,7 +133,7 @@ fn parse_combination_with(arguments: &Data) -> Result<CombinationUse, SyntaxFaul
 }
 
 fn parse_combination(option: &Datum) -> Result<CombinationUse, SyntaxFault>
-    ensures { Gives (λ c. c) result (combination_in (datum_of option.now)) }
+    ensures { Gives (λ c. c) result (combination_use_in (datum_of option.now)) }
 {
     match arguments(option) {
         None => Err(SyntaxFault::Program),
