@@ -1,5 +1,7 @@
 -- Lists of things, one after another.
-use Rattle.std.proofs.Common.{◌≡◌, map, List, [], ◌∷◌, ◌++◌, Option, Some, None, refl, ap, sym, append_assoc}
+use Rattle.std.proofs.Common.{◌≡◌, map, Bool, List, [], ◌∷◌, ◌++◌, Option, Some, None, refl, ap, sym, append_assoc}
+use Rattle.std.specs.Prelude.{◌||◌}
+use Rattle.std.specs.List.{list_any}
 use Rattle.clos_forms.specs.Fault.{◌>>=◌}
 use Rattle.lisp_data.specs.Datum.{Dats, cons}
 use Rattle.lisp_data.specs.DatumView.{datum_of}
@@ -17,3 +19,7 @@ some_more xs zs (Some ys) = ap Some (sym (append_assoc xs zs ys))
 pub one_ahead : (ds : List Datum) (d : Datum) (l : Dats) → ahead (map datum_of (ds ++ d ∷ [])) l ≡ ahead (map datum_of ds) (cons (datum_of d) l)
 one_ahead [] d l = refl
 one_ahead (e ∷ ds) d l = ap (cons (datum_of e)) (one_ahead ds d l)
+
+pub any_of_map : {A B : Type 0} (f : A → B) (p : B → Bool) (xs : List A) → list_any p (map f xs) ≡ list_any (λ x. p (f x)) xs
+any_of_map f p [] = refl
+any_of_map f p (x ∷ xs) = ap (λ b. p (f x) || b) (any_of_map f p xs)

@@ -29,6 +29,7 @@ parameter_in d = variable_in d >>= unless_keyword
 abbrev pub bare : Name → Optional
 bare name = record { name = name; init = None; given = None }
 
+-- the variable that tells whether there is an argument, where one is written
 abbrev pub given_in : Option Dat → Option (Option Name)
 given_in None = Some None
 given_in (Some d) = parameter_in d >>= λ n. Some (Some n)

@@ -1,4 +1,5 @@
 pub mod Lists
 pub mod Sections
 pub mod PlainForm
+pub mod Property
 pub mod LambdaList

@@ -60,7 +60,7 @@ pub struct Key {
 }
 
 /// Variables of lambda lists.
-struct Parameters;
+pub struct Variables;
 
 /// Entries of `&optional`.
 struct Optionals;
@@ -68,7 +68,7 @@ struct Optionals;
 /// Entries of `&key`.
 struct KeyEntries;
 
-impl Kind for Parameters {
+impl Kind for Variables {
     type Item = Name;
 
     ghost item_in = { parameter_in };
@@ -182,7 +182,8 @@ fn parse_optional_with(alloc: Global, name: Name, rest: &Data) -> Result<Optiona
     }
 }
 
-fn parse_given(datum: Option<&Datum>) -> Result<Option<Name>, SyntaxFault>
+/// The variable that tells whether there is an argument, where one is written.
+pub fn parse_given(datum: Option<&Datum>) -> Result<Option<Name>, SyntaxFault>
     ensures { Gives (λ n. n) result (given_in (option_map (λ d. datum_of d.now) datum.entry)) }
 {
     match datum {
@@ -283,7 +284,7 @@ fn parse_rest(alloc: Global, section: Option<&Data>) -> Result<Option<Name>, Syn
     match section {
         None => Ok(None),
         Some(section) => {
-            let names = parse_front::<Parameters>(alloc, section)?;
+            let names = parse_front::<Variables>(alloc, section)?;
             let name = names.into_one()?;
             Ok(Some(name))
         }
@@ -335,7 +336,7 @@ fn allowing(elements: &Data) -> Option<bool>
 }
 
 /// Adds copies of these names.
-fn push_names(names: &mut Vec<Name>, more: &[Name]) -> Result<(), AllocError>
+pub fn push_names(names: &mut Vec<Name>, more: &[Name]) -> Result<(), AllocError>
     ensures { OnOk result (names.new.items ≡ names.old.items ++ more.now) }
 {
     for name in more {
@@ -344,7 +345,8 @@ fn push_names(names: &mut Vec<Name>, more: &[Name]) -> Result<(), AllocError>
     Ok(())
 }
 
-fn push_name(names: &mut Vec<Name>, name: &Option<Name>) -> Result<(), AllocError>
+/// Adds a copy of this name, where there is one.
+pub fn push_name(names: &mut Vec<Name>, name: &Option<Name>) -> Result<(), AllocError>
     ensures { OnOk result (names.new.items ≡ names.old.items ++ names_in name.now) }
 {
     match name {
@@ -463,7 +465,7 @@ pub fn parse_lambda_list(alloc: Global, datum: &Datum) -> Result<LambdaList, Syn
     ensures { Gives (λ l. l) result (lambda_list_in (datum_of datum.now)) }
 {
     let elements = parse_list(datum)?;
-    let required = parse_front::<Parameters>(alloc, &elements)?;
+    let required = parse_front::<Variables>(alloc, &elements)?;
     parse_with_optionals(alloc, required, back(&elements))
 }
 

@@ -17,15 +17,16 @@ use Rattle.clos_lambda.specs.LambdaList.{all_variables, generic_lambda_list_in, 
 use Rattle.clos_lambda.specs.Lists.{list_in}
 use Rattle.clos_lambda.specs.Sections.{after, back, front, past}
 use Rattle.clos_lambda.specs.PlainForm.{form_in}
+use Rattle.clos_lambda.specs.Property.{options_of, option_in, arguments_in}
 use Rattle.clos_lambda.specs.declared.lambda_list.LambdaList.{LambdaList}
 use Rattle.clos_lambda.specs.declared.lambda_list.Optional.{Optional}
+use Rattle.clos_combination.specs.Combination.{combination_in}
 use Rattle.clos_syntax.specs.Class.{class_in, documentation_option_in}
 use Rattle.clos_syntax.specs.Function.{function_in}
 use Rattle.clos_syntax.specs.FunctionName.{method_function_in, new_function_in}
-use Rattle.clos_syntax.specs.Generic.{combination_in, fits, generic, generic_in, generic_option_in, generic_options_in, generic_with, method_option_in, symbols_in}
+use Rattle.clos_syntax.specs.Generic.{combination_use_in, fits, generic, generic_in, generic_option_in, generic_options_in, generic_with, method_option_in, symbols_in}
 use Rattle.clos_syntax.specs.Laws.{IsSpecialized, AreSpecialized}
 use Rattle.clos_syntax.specs.Method.{method_in, method_with, past_qualifiers, qualified, qualifiers_in, required_in, specialized, specializer_in, specializers_in}
-use Rattle.clos_syntax.specs.Property.{options_of, option_in, arguments_in}
 use Rattle.clos_syntax.specs.Top.{any_top, defmethod_in, expression, headed_top, in_package, listed_top, named_top, other_top, two_forms_in}
 use Rattle.clos_syntax.specs.Variable.{variable_definition_in}
 use Rattle.clos_syntax.specs.declared.generic.CombinationUse.{CombinationUse}
@@ -34,8 +35,8 @@ use Rattle.clos_syntax.specs.declared.generic.GenericOptions.{GenericOptions}
 use Rattle.clos_syntax.specs.declared.method.MethodDefinition.{MethodDefinition}
 use Rattle.clos_syntax.specs.declared.method.ParameterSpecializer.{ParameterSpecializer}
 use Rattle.clos_syntax.specs.declared.top.Top.{Top}
-use Rattle.clos_syntax.specs.declared.top.Top.TheVariants.{DefClass, DefGeneric, DefMethod, Defun, DefVar, RemoveMethod, AddDependent, RemoveDependent, InPackage, Expr}
-use Rattle.clos_syntax.proofs.WhereGiven.{passes, keeps, follows, either, one_for_each, all_of_each, Cases}
+use Rattle.clos_syntax.specs.declared.top.Top.TheVariants.{DefClass, DefGeneric, DefMethod, DefCombination, Defun, DefVar, RemoveMethod, AddDependent, RemoveDependent, InPackage, Expr}
+use Rattle.clos_syntax.proofs.WhereGiven.{nothing, passes, keeps, follows, either, one_for_each, all_of_each, Cases}
 
 -- ---- lambda lists keep their required parameters
 
@@ -105,7 +106,7 @@ with_methods l precedence combination =
     >>= λ ms. Some (record { precedence = precedence; combination = combination; methods = ms })
 
 abbrev with_combination : Dats → Option (List Name) → Option GenericOptions
-with_combination l precedence = option_in combination_in (codes "METHOD-COMBINATION") l >>= λ c. with_methods l precedence c
+with_combination l precedence = option_in combination_use_in (codes "METHOD-COMBINATION") l >>= λ c. with_methods l precedence c
 
 abbrev with_precedence : Dats → Option GenericOptions
 with_precedence l = option_in symbols_in (codes "ARGUMENT-PRECEDENCE-ORDER") l >>= λ p. with_combination l p
@@ -124,7 +125,7 @@ options_law l =
     passes OfOptions (each generic_option_in l) (λ known. with_documentation l)
     (λ known. passes OfOptions (option_in documentation_option_in (codes "DOCUMENTATION") l) (λ d. with_precedence l)
     (λ d. passes OfOptions (option_in symbols_in (codes "ARGUMENT-PRECEDENCE-ORDER") l) (λ p. with_combination l p)
-    (λ p. passes OfOptions (option_in combination_in (codes "METHOD-COMBINATION") l) (λ c. with_methods l p c)
+    (λ p. passes OfOptions (option_in combination_use_in (codes "METHOD-COMBINATION") l) (λ c. with_methods l p c)
     (λ c. methods_law l p c))))
 
 abbrev fitting : FunctionName → LambdaList → GenericOptions → Option GenericDefinition
@@ -150,16 +151,12 @@ defmethod_law (cons name l) =
     passes AreSpecialized (method_function_in name) (λ n. method_in l >>= λ m. Some (DefMethod n m))
     (λ n. keeps IsSpecialized AreSpecialized (method_in l) (λ m. Some (DefMethod n m)) (method_law l) (λ m p. p))
 
--- without methods
-nothing : {A : Type 0} (o : Option A) → IfSome o (λ a. ⊤)
-nothing (Some a) = tt
-nothing None = tt
-
 pub specialized_cases : Cases AreSpecialized
 specialized_cases = record {
   class = λ l. nothing (class_in l);
   generic = generic_law;
   defmethod = defmethod_law;
+  combination = λ l. nothing (combination_in l);
   function = λ l. nothing (function_in l);
   variable = λ definer l. nothing (variable_definition_in definer l);
   removal = λ l. nothing (two_forms_in l);

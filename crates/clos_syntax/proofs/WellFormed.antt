@@ -21,17 +21,18 @@ use Rattle.clos_lambda.specs.LambdaList.{all_variables, allowing, bare, generic_
 use Rattle.clos_lambda.specs.Lists.{list_in, or_none, single}
 use Rattle.clos_lambda.specs.Sections.{after, back, front, is_symbol_called, past}
 use Rattle.clos_lambda.specs.PlainForm.{form_in}
+use Rattle.clos_lambda.specs.Property.{anything, arguments_in, documentation_in, option_in, options_of, value_in, values_of}
 use Rattle.clos_lambda.specs.declared.lambda_list.Key.{Key}
 use Rattle.clos_lambda.specs.declared.lambda_list.Keys.{Keys}
 use Rattle.clos_lambda.specs.declared.lambda_list.LambdaList.{LambdaList}
 use Rattle.clos_lambda.specs.declared.lambda_list.Optional.{Optional}
+use Rattle.clos_combination.specs.Combination.{combination_in}
 use Rattle.clos_syntax.specs.Class.{class_in, class_option_in, class_options_in, class_with, default_names, default_with, defaults_from, defaults_in, documentation_option_in, if_distinct_defaults, if_distinct_slots, metaclass_in, new_class_in, slot_names, slots_in, superclasses_in}
 use Rattle.clos_syntax.specs.Function.{function_in, function_with}
 use Rattle.clos_syntax.specs.FunctionName.{method_function_in, new_function_in}
-use Rattle.clos_syntax.specs.Generic.{combination_in, fits, generic, generic_in, generic_option_in, generic_options_in, generic_with, method_option_in, symbols_in}
+use Rattle.clos_syntax.specs.Generic.{combination_use_in, fits, generic, generic_in, generic_option_in, generic_options_in, generic_with, method_option_in, symbols_in}
 use Rattle.clos_syntax.specs.Method.{eql_specializer, listed_specializer, method_in, method_with, past_qualifiers, qualified, qualifiers_in, required_in, specialized, specializer_in, specializer_named, specializers_in}
-use Rattle.clos_syntax.specs.Property.{arguments_in, option_in, options_of, value_in, values_of}
-use Rattle.clos_syntax.specs.Slot.{accessors_in, allocation_in, anything, are_slot_options, documentation_in, listed_slot, or_instance, slot_from, slot_in, slot_with}
+use Rattle.clos_syntax.specs.Slot.{accessors_in, allocation_in, are_slot_options, listed_slot, or_instance, slot_from, slot_in, slot_with}
 use Rattle.clos_syntax.specs.Top.{defmethod_in, two_forms_in}
 use Rattle.clos_syntax.specs.Variable.{documented, init_in, is_documentation, variable_definition_in}
 use Rattle.clos_syntax.specs.WellFormed.{AreWellFormed, HasInit, IsPlain, OfClass, OfDefault, OfFunction, OfGeneric, OfKey, OfKeys, OfLambdaList, OfMethod, OfOptional, OfSlot, OfSpecializer, OfVariable}
@@ -52,7 +53,7 @@ use Rattle.clos_syntax.specs.declared.top.Top.TheVariants.{DefMethod}
 use Rattle.clos_syntax.specs.declared.variable.Definer.{Definer}
 use Rattle.clos_syntax.specs.declared.variable.Definer.TheVariants.{DefVar, DefParameter}
 use Rattle.clos_syntax.specs.declared.variable.VariableDefinition.{VariableDefinition}
-use Rattle.clos_syntax.proofs.WhereGiven.{passes, keeps, either, all_of_each, single_law, each_given, Cases}
+use Rattle.clos_syntax.proofs.WhereGiven.{nothing, passes, keeps, either, all_of_each, single_law, each_given, Cases}
 
 form_law : (d : Dat) → IfSome (form_of Plain d) IsPlain
 form_law d = each_given IsPlain (form_of Plain d) (λ f e. form_is_well_formed full_room Plain d f e)
@@ -236,7 +237,7 @@ with_methods l precedence combination =
     >>= λ ms. Some (record { precedence = precedence; combination = combination; methods = ms })
 
 abbrev with_combination : Dats → Option (List Name) → Option GenericOptions
-with_combination l precedence = option_in combination_in (codes "METHOD-COMBINATION") l >>= λ c. with_methods l precedence c
+with_combination l precedence = option_in combination_use_in (codes "METHOD-COMBINATION") l >>= λ c. with_methods l precedence c
 
 abbrev with_precedence : Dats → Option GenericOptions
 with_precedence l = option_in symbols_in (codes "ARGUMENT-PRECEDENCE-ORDER") l >>= λ p. with_combination l p
@@ -255,7 +256,7 @@ options_law l =
     passes OfOptions (each generic_option_in l) (λ known. with_documentation l)
     (λ known. passes OfOptions (option_in documentation_option_in (codes "DOCUMENTATION") l) (λ d. with_precedence l)
     (λ d. passes OfOptions (option_in symbols_in (codes "ARGUMENT-PRECEDENCE-ORDER") l) (λ p. with_combination l p)
-    (λ p. passes OfOptions (option_in combination_in (codes "METHOD-COMBINATION") l) (λ c. with_methods l p c)
+    (λ p. passes OfOptions (option_in combination_use_in (codes "METHOD-COMBINATION") l) (λ c. with_methods l p c)
     (λ c. methods_law l p c))))
 
 abbrev fitting : FunctionName → LambdaList → GenericOptions → Option GenericDefinition
@@ -432,6 +433,7 @@ well_formed_cases = record {
   class = class_law;
   generic = generic_law;
   defmethod = defmethod_law;
+  combination = λ l. nothing (combination_in l);
   function = function_law;
   variable = variable_law;
   removal = two_forms_law;

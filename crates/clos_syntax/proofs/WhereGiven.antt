@@ -1,6 +1,6 @@
 -- What holds of a value that may be there, of each of a list, and of each top-level form.
 use Rattle.std.proofs.Common.{◌≡◌, Bool, true, false, List, [], ◌∷◌, All, Option, Some, None, Result, Ok, Err, length, refl, ap, sym, arith, rules}
-use Rattle.std.specs.Prelude.{IfSome, IfOk, codes, if◌then◌else◌}
+use Rattle.std.specs.Prelude.{IfSome, IfOk, ⊤, codes, if◌then◌else◌}
 use Rattle.std.proofs.lemmas.List.Elements.{All-nil, All-cons, All-head}
 use Rattle.std.proofs.lemmas.Option.{none-some}
 use Rattle.lisp_data.specs.Name.{Name}
@@ -12,17 +12,23 @@ use Rattle.clos_forms.specs.Part.{only_in}
 use Rattle.clos_forms.specs.declared.fault.SyntaxFault.{SyntaxFault}
 use Rattle.clos_lambda.specs.Lists.{single}
 use Rattle.clos_lambda.specs.PlainForm.{form_in}
+use Rattle.clos_combination.specs.Combination.{combination_in}
 use Rattle.clos_syntax.specs.Class.{class_in}
 use Rattle.clos_syntax.specs.Function.{function_in}
 use Rattle.clos_syntax.specs.Generic.{generic_in}
 use Rattle.clos_syntax.specs.Top.{any_top, defmethod_in, expression, headed_top, in_package, listed_top, named_top, other_top, two_forms_in}
 use Rattle.clos_syntax.specs.Variable.{variable_definition_in}
 use Rattle.clos_syntax.specs.declared.top.Top.{Top}
-use Rattle.clos_syntax.specs.declared.top.Top.TheVariants.{DefClass, DefGeneric, Defun, DefVar, RemoveMethod, AddDependent, RemoveDependent, InPackage, Expr}
+use Rattle.clos_syntax.specs.declared.top.Top.TheVariants.{DefClass, DefGeneric, DefCombination, Defun, DefVar, RemoveMethod, AddDependent, RemoveDependent, InPackage, Expr}
 use Rattle.clos_syntax.specs.declared.variable.Definer.{Definer}
 use Rattle.clos_syntax.specs.declared.variable.Definer.TheVariants.{DefVar as a_defvar, DefParameter as a_defparameter}
 
 -- ---- what holds of a value that may be there
+
+-- what holds of everything
+pub nothing : {A : Type 0} (o : Option A) → IfSome o (λ a. ⊤)
+nothing (Some a) = tt
+nothing None = tt
 
 pub passes : {A B : Type 0} (P : B → Type 0) (o : Option A) (k : A → Option B) → ((a : A) → IfSome (k a) P) → IfSome (o >>= k) P
 passes P (Some a) k h = h a
@@ -73,6 +79,7 @@ pub record Cases (P : Top → Type 0) : Type 0 where
   pub class : (l : Dats) → IfSome (class_in l) (λ c. P (DefClass c))
   pub generic : (l : Dats) → IfSome (generic_in l) (λ g. P (DefGeneric g))
   pub defmethod : (l : Dats) → IfSome (defmethod_in l) P
+  pub combination : (l : Dats) → IfSome (combination_in l) (λ c. P (DefCombination c))
   pub function : (l : Dats) → IfSome (function_in l) (λ f. P (Defun f))
   pub variable : (definer : Definer) (l : Dats) → IfSome (variable_definition_in definer l) (λ v. P (DefVar v))
   pub removal : (l : Dats) → IfSome (two_forms_in l) (λ p. P (RemoveMethod p.0 p.1))
@@ -103,7 +110,7 @@ other_law P h name l d =
     (as_top P (two_forms_in l) (λ p. RemoveDependent p.0 p.1) (h.dismissal l))
     (passes P (only_in l) (λ x. Some InPackage) (λ x. h.in_package)) (expression_law P h d)
 
--- the definitions after those of methods
+-- the definitions after those of methods and their combinations
 abbrev past_methods : Name → Dats → Dat → Option Top
 past_methods name l d =
     if is_called (codes "DEFUN") name then (function_in l >>= λ f. Some (Defun f))
@@ -121,10 +128,11 @@ past_methods_law P h name l d =
 
 named_law : (P : Top → Type 0) → Cases P → (name : Name) (l : Dats) (d : Dat) → IfSome (named_top name l d) P
 named_law P h name l d =
-    of_five P (is_called (codes "DEFCLASS") name) (is_called (codes "DEFGENERIC") name) (is_called (codes "DEFMETHOD") name) true
-    (class_in l >>= λ c. Some (DefClass c)) (generic_in l >>= λ g. Some (DefGeneric g)) (defmethod_in l) (past_methods name l d) None
+    of_five P (is_called (codes "DEFCLASS") name) (is_called (codes "DEFGENERIC") name) (is_called (codes "DEFMETHOD") name)
+    (is_called (codes "DEFINE-METHOD-COMBINATION") name) (class_in l >>= λ c. Some (DefClass c)) (generic_in l >>= λ g. Some (DefGeneric g))
+    (defmethod_in l) (combination_in l >>= λ c. Some (DefCombination c)) (past_methods name l d)
     (as_top P (class_in l) DefClass (h.class l)) (as_top P (generic_in l) DefGeneric (h.generic l)) (h.defmethod l)
-    (past_methods_law P h name l d) tt
+    (as_top P (combination_in l) DefCombination (h.combination l)) (past_methods_law P h name l d)
 
 headed_law : (P : Top → Type 0) → Cases P → (head : Dat) (l : Dats) (d : Dat) → IfSome (headed_top head l d) P
 headed_law P h (integer n) l d = expression_law P h d

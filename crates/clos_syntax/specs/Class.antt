@@ -11,8 +11,8 @@ use Rattle.clos_forms.specs.Part.{only_in}
 use Rattle.clos_lambda.specs.Lists.{list_in, or_none}
 use Rattle.clos_lambda.specs.Sections.{is_symbol_called}
 use Rattle.clos_lambda.specs.PlainForm.{form_in}
-use Rattle.clos_syntax.specs.Property.{is_option, option_in, arguments_in}
-use Rattle.clos_syntax.specs.Slot.{documentation_in, slot_in}
+use Rattle.clos_lambda.specs.Property.{documentation_in, is_option, option_in, arguments_in}
+use Rattle.clos_syntax.specs.Slot.{slot_in}
 use Rattle.clos_syntax.specs.declared.class.ClassDefinition.{ClassDefinition}
 use Rattle.clos_syntax.specs.declared.class.DefaultInitarg.{DefaultInitarg}
 use Rattle.clos_syntax.specs.declared.slot.SlotSpecifier.{SlotSpecifier}

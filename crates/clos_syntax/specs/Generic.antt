@@ -9,11 +9,11 @@ use Rattle.clos_forms.specs.Fault.{◌>>=◌}
 use Rattle.clos_forms.specs.FunctionName.{symbol_in}
 use Rattle.clos_forms.specs.declared.operator.FunctionName.{FunctionName}
 use Rattle.clos_lambda.specs.LambdaList.{generic_lambda_list_in}
+use Rattle.clos_lambda.specs.Property.{is_option, options_of, option_in, arguments_in}
 use Rattle.clos_lambda.specs.declared.lambda_list.LambdaList.{LambdaList}
 use Rattle.clos_syntax.specs.Class.{documentation_option_in}
 use Rattle.clos_syntax.specs.FunctionName.{new_function_in}
 use Rattle.clos_syntax.specs.Method.{method_in}
-use Rattle.clos_syntax.specs.Property.{is_option, options_of, option_in, arguments_in}
 use Rattle.clos_syntax.specs.declared.generic.CombinationUse.{CombinationUse}
 use Rattle.clos_syntax.specs.declared.generic.GenericDefinition.{GenericDefinition}
 use Rattle.clos_syntax.specs.declared.generic.GenericOptions.{GenericOptions}
@@ -34,8 +34,9 @@ abbrev pub combination_with : Dats → Option CombinationUse
 combination_with nil = None
 combination_with (cons name l) = symbol_in name >>= λ n. Some (record { name = n; arguments = l })
 
-abbrev pub combination_in : Dat → Option CombinationUse
-combination_in d = arguments_in d >>= combination_with
+-- the combination that a :method-combination option names
+abbrev pub combination_use_in : Dat → Option CombinationUse
+combination_use_in d = arguments_in d >>= combination_with
 
 abbrev pub method_option_in : Dat → Option MethodDefinition
 method_option_in d = arguments_in d >>= method_in
@@ -45,7 +46,7 @@ generic_options_in l =
     each generic_option_in l
     >>= λ known. option_in documentation_option_in (codes "DOCUMENTATION") l
     >>= λ documentation. option_in symbols_in (codes "ARGUMENT-PRECEDENCE-ORDER") l
-    >>= λ precedence. option_in combination_in (codes "METHOD-COMBINATION") l
+    >>= λ precedence. option_in combination_use_in (codes "METHOD-COMBINATION") l
     >>= λ combination. each method_option_in (options_of (codes "METHOD") l)
     >>= λ methods. Some (record { precedence = precedence; combination = combination; methods = methods })
 

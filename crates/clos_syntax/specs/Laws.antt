@@ -2,7 +2,7 @@
 use Rattle.std.specs.Prelude.{◌≡◌, All, ⊤, length}
 use Rattle.clos_syntax.specs.declared.method.MethodDefinition.{MethodDefinition}
 use Rattle.clos_syntax.specs.declared.top.Top.{Top}
-use Rattle.clos_syntax.specs.declared.top.Top.TheVariants.{DefClass, DefGeneric, DefMethod, Defun, DefVar, RemoveMethod, AddDependent, RemoveDependent, InPackage, Expr}
+use Rattle.clos_syntax.specs.declared.top.Top.TheVariants.{DefClass, DefGeneric, DefMethod, DefCombination, Defun, DefVar, RemoveMethod, AddDependent, RemoveDependent, InPackage, Expr}
 
 -- one specializer for each required parameter (7.6.2)
 abbrev pub IsSpecialized : MethodDefinition → Type 0
@@ -13,6 +13,7 @@ abbrev pub AreSpecialized : Top → Type 0
 AreSpecialized (DefClass c) = ⊤
 AreSpecialized (DefGeneric g) = All IsSpecialized g.methods
 AreSpecialized (DefMethod n m) = IsSpecialized m
+AreSpecialized (DefCombination c) = ⊤
 AreSpecialized (Defun f) = ⊤
 AreSpecialized (DefVar v) = ⊤
 AreSpecialized (RemoveMethod f g) = ⊤

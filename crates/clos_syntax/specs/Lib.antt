@@ -1,4 +1,3 @@
-pub mod Property
 pub mod FunctionName
 pub mod Method
 pub mod Function

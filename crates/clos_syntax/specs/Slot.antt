@@ -3,13 +3,12 @@ use Rattle.std.specs.Prelude.{List, [], ◌∷◌, ◌++◌, Bool, true, false, 
 use Rattle.lisp_data.specs.Name.{Name}
 use Rattle.lisp_data.specs.Datum.{Dat, integer, symbol, string, list, dotted, method, Dats, nil, cons}
 use Rattle.clos_forms.specs.Binding.{each}
-use Rattle.clos_forms.specs.Body.{is_string}
 use Rattle.clos_forms.specs.Fault.{◌>>=◌}
 use Rattle.clos_forms.specs.FunctionName.{symbol_in}
 use Rattle.clos_forms.specs.declared.operator.FunctionName.TheVariants.{Setf}
 use Rattle.clos_lambda.specs.PlainForm.{form_in}
+use Rattle.clos_lambda.specs.Property.{anything, documentation_in, is_key, values_of, value_in}
 use Rattle.clos_syntax.specs.FunctionName.{method_function_in, method_symbol_in}
-use Rattle.clos_syntax.specs.Property.{is_key, values_of, value_in}
 use Rattle.clos_syntax.specs.declared.slot.Accessor.{Accessor}
 use Rattle.clos_syntax.specs.declared.slot.Accessor.TheVariants.{Reader, Writer}
 use Rattle.clos_syntax.specs.declared.slot.Allocation.{Allocation}
@@ -56,13 +55,6 @@ are_slot_options (cons k (cons v l)) = is_slot_key k && are_slot_options l
 
 abbrev pub allocation_in : Dat → Option Allocation
 allocation_in d = if is_key (codes "INSTANCE") d then Some Instance else if is_key (codes "CLASS") d then Some Class else None
-
--- what is read and ignored
-abbrev pub anything : Dat → Option (Unit {0})
-anything d = Some tt
-
-abbrev pub documentation_in : Dat → Option (Unit {0})
-documentation_in d = if is_string d then Some tt else None
 
 abbrev pub or_instance : Option Allocation → Allocation
 or_instance None = Instance

@@ -7,6 +7,7 @@ use Rattle.clos_forms.specs.Form.{Form}
 use Rattle.clos_forms.specs.clos_names.Names.{is_called}
 use Rattle.clos_forms.specs.Part.{only_in}
 use Rattle.clos_lambda.specs.PlainForm.{form_in}
+use Rattle.clos_combination.specs.Combination.{combination_in}
 use Rattle.clos_syntax.specs.Class.{class_in}
 use Rattle.clos_syntax.specs.Function.{function_in}
 use Rattle.clos_syntax.specs.FunctionName.{method_function_in}
@@ -14,7 +15,7 @@ use Rattle.clos_syntax.specs.Generic.{generic_in}
 use Rattle.clos_syntax.specs.Method.{method_in}
 use Rattle.clos_syntax.specs.Variable.{variable_definition_in}
 use Rattle.clos_syntax.specs.declared.top.Top.{Top}
-use Rattle.clos_syntax.specs.declared.top.Top.TheVariants.{DefClass, DefGeneric, DefMethod, Defun, DefVar, RemoveMethod, AddDependent, RemoveDependent, InPackage, Expr}
+use Rattle.clos_syntax.specs.declared.top.Top.TheVariants.{DefClass, DefGeneric, DefMethod, DefCombination, Defun, DefVar, RemoveMethod, AddDependent, RemoveDependent, InPackage, Expr}
 use Rattle.clos_syntax.specs.declared.variable.Definer.TheVariants.{DefVar as a_defvar, DefParameter as a_defparameter}
 
 -- whether a method stands in the datum
@@ -57,12 +58,13 @@ other_top name rest whole =
     else if is_called (codes "IN-PACKAGE") name then in_package rest
     else expression whole
 
--- by the operator's name. DEFINE-METHOD-COMBINATION is not served yet: it is no expression either
+-- by the operator's name
 abbrev pub named_top : Name → Dats → Dat → Option Top
 named_top name rest whole =
     if is_called (codes "DEFCLASS") name then (class_in rest >>= λ c. Some (DefClass c))
     else if is_called (codes "DEFGENERIC") name then (generic_in rest >>= λ g. Some (DefGeneric g))
     else if is_called (codes "DEFMETHOD") name then defmethod_in rest
+    else if is_called (codes "DEFINE-METHOD-COMBINATION") name then (combination_in rest >>= λ c. Some (DefCombination c))
     else if is_called (codes "DEFUN") name then (function_in rest >>= λ f. Some (Defun f))
     else if is_called (codes "DEFVAR") name then (variable_definition_in a_defvar rest >>= λ v. Some (DefVar v))
     else if is_called (codes "DEFPARAMETER") name then (variable_definition_in a_defparameter rest >>= λ v. Some (DefVar v))

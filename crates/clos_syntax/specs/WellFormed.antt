@@ -17,7 +17,7 @@ use Rattle.clos_syntax.specs.declared.method.ParameterSpecializer.{ParameterSpec
 use Rattle.clos_syntax.specs.declared.method.ParameterSpecializer.TheVariants.{Class, Eql}
 use Rattle.clos_syntax.specs.declared.slot.SlotSpecifier.{SlotSpecifier}
 use Rattle.clos_syntax.specs.declared.top.Top.{Top}
-use Rattle.clos_syntax.specs.declared.top.Top.TheVariants.{DefClass, DefGeneric, DefMethod, Defun, DefVar, RemoveMethod, AddDependent, RemoveDependent, InPackage, Expr}
+use Rattle.clos_syntax.specs.declared.top.Top.TheVariants.{DefClass, DefGeneric, DefMethod, DefCombination, Defun, DefVar, RemoveMethod, AddDependent, RemoveDependent, InPackage, Expr}
 use Rattle.clos_syntax.specs.declared.variable.VariableDefinition.{VariableDefinition}
 
 -- a form outside of any method's body
@@ -70,6 +70,7 @@ abbrev pub AreWellFormed : Top → Type 0
 AreWellFormed (DefClass c) = OfClass c
 AreWellFormed (DefGeneric g) = OfGeneric g
 AreWellFormed (DefMethod n m) = OfMethod m
+AreWellFormed (DefCombination c) = ⊤
 AreWellFormed (Defun f) = OfFunction f
 AreWellFormed (DefVar v) = OfVariable v
 AreWellFormed (RemoveMethod f g) = IsPlain f × IsPlain g

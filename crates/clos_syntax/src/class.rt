@@ -6,11 +6,12 @@ ghost use Rattle.clos_forms.specs.clos_names.Names.{is_one_of};
 ghost use Rattle.clos_lambda.specs.Lists.{or_none};
 ghost use Rattle.clos_syntax.specs.Class.{class_in, class_option_in, class_options_in, class_with, default_names, default_with, defaults_from, defaults_in, documentation_option_in, if_distinct_defaults, metaclass_in, new_class_in, only_argument_in, predefined_classes, slot_names, slots_in, standard_class_in, superclasses_in};
 
-use crate::kind::{Symbols, parse_each, parse_option};
-use crate::property::{arguments, is_option};
-use crate::slot::{SlotSpecifier, Slots, parse_documentation};
+use crate::slot::{SlotSpecifier, Slots};
 use clos_forms::{Form, SyntaxFault, are_distinct, is_among, only};
-use clos_lambda::{Kind, Sequence, is_symbol_called, parse_list, parse_plain_form, parse_symbol};
+use clos_lambda::{
+    Kind, Sequence, Symbols, arguments, is_option, is_symbol_called, parse_documentation,
+    parse_each, parse_list, parse_option, parse_plain_form, parse_symbol,
+};
 use lisp_data::{Data, Datum, Name};
 use std::alloc::{AllocError, Global};
 

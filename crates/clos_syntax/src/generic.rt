@@ -3,15 +3,16 @@ ghost use Rattle.std.specs.Prelude.{◌≡◌, IfOk};
 ghost use Rattle.std.specs.Option.{option_copied};
 ghost use Rattle.lisp_data.specs.DatumView.{datum_of};
 ghost use Rattle.clos_forms.specs.Fault.{Gives};
-ghost use Rattle.clos_syntax.specs.Generic.{combination_in, combination_with, fits, generic_in, generic_option_in, generic_options_in, generic_with, method_option_in, orders, symbols_in};
+ghost use Rattle.clos_syntax.specs.Generic.{combination_use_in, combination_with, fits, generic_in, generic_option_in, generic_options_in, generic_with, method_option_in, orders, symbols_in};
 
 use crate::class::DocumentationOptions;
 use crate::function_name::parse_new_function;
-use crate::kind::{Symbols, parse_each, parse_option, parse_options};
 use crate::method::{MethodDefinition, parse_method};
-use crate::property::{arguments, is_option};
 use clos_forms::{FunctionName, SyntaxFault, are_among, are_distinct, is_declaration};
-use clos_lambda::{Kind, LambdaList, Sequence, parse_generic_lambda_list, parse_symbol};
+use clos_lambda::{
+    Kind, LambdaList, Sequence, Symbols, arguments, is_option, parse_each,
+    parse_generic_lambda_list, parse_option, parse_options, parse_symbol,
+};
 use lisp_data::{Data, Datum, Name};
 use std::alloc::{AllocError, Global};
 
@@ -77,7 +78,7 @@ impl Kind for Precedences {
 impl Kind for Combinations {
     type Item = CombinationUse;
 
-    ghost item_in = { combination_in };
+    ghost item_in = { combination_use_in };
 
     fn parse(_alloc: Global, datum: &Datum) -> Result<CombinationUse, SyntaxFault> {
         parse_combination(datum)
@@ -132,7 +133,7 @@ fn parse_combination_with(arguments: &Data) -> Result<CombinationUse, SyntaxFaul
 }
 
 fn parse_combination(option: &Datum) -> Result<CombinationUse, SyntaxFault>
-    ensures { Gives (λ c. c) result (combination_in (datum_of option.now)) }
+    ensures { Gives (λ c. c) result (combination_use_in (datum_of option.now)) }
 {
     match arguments(option) {
         None => Err(SyntaxFault::Program),

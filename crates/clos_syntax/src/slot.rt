@@ -2,13 +2,14 @@
 ghost use Rattle.std.specs.Prelude.{◌≡◌, ◌∷◌, [], Option, IfOk};
 ghost use Rattle.lisp_data.specs.DatumView.{datum_of};
 ghost use Rattle.clos_forms.specs.Fault.{Gives};
-ghost use Rattle.clos_syntax.specs.Slot.{accessor_in, accessors_at, accessors_in, allocation_in, anything, are_slot_options, documentation_in, is_slot_key, listed_slot, or_instance, reader_in, slot_from, slot_in, slot_with, writer_in};
+ghost use Rattle.clos_syntax.specs.Slot.{accessor_in, accessors_at, accessors_in, allocation_in, are_slot_options, is_slot_key, listed_slot, or_instance, reader_in, slot_from, slot_in, slot_with, writer_in};
 
 use crate::function_name::{parse_method_function, parse_method_symbol};
-use crate::kind::{PlainForms, Symbols, parse_value, parse_values};
-use crate::property::is_key;
-use clos_forms::{Form, FunctionName, SyntaxFault, is_string};
-use clos_lambda::{Kind, Sequence, parse_symbol};
+use clos_forms::{Form, FunctionName, SyntaxFault};
+use clos_lambda::{
+    Documentation, Ignored, Kind, PlainForms, Sequence, Symbols, is_key, parse_symbol, parse_value,
+    parse_values,
+};
 use lisp_data::{Data, Datum, Name};
 use std::alloc::{AllocError, Global};
 
@@ -43,12 +44,6 @@ pub(crate) struct Slots;
 /// Values of `:allocation`.
 struct Allocations;
 
-/// Values that are read and ignored.
-struct Ignored;
-
-/// Documentation strings, which are ignored.
-struct Documentation;
-
 impl Kind for Slots {
     type Item = SlotSpecifier;
 
@@ -69,26 +64,6 @@ impl Kind for Allocations {
     }
 }
 
-impl Kind for Ignored {
-    type Item = ();
-
-    ghost item_in = { anything };
-
-    fn parse(_alloc: Global, _datum: &Datum) -> Result<(), SyntaxFault> {
-        Ok(())
-    }
-}
-
-impl Kind for Documentation {
-    type Item = ();
-
-    ghost item_in = { documentation_in };
-
-    fn parse(_alloc: Global, datum: &Datum) -> Result<(), SyntaxFault> {
-        parse_documentation(datum)
-    }
-}
-
 fn parse_allocation(datum: &Datum) -> Result<Allocation, SyntaxFault>
     ensures { Gives (λ a. a) result (allocation_in (datum_of datum.now)) }
 {
@@ -99,15 +74,6 @@ fn parse_allocation(datum: &Datum) -> Result<Allocation, SyntaxFault>
         return Ok(Allocation::Class);
     }
     Err(SyntaxFault::Program)
-}
-
-pub(crate) fn parse_documentation(datum: &Datum) -> Result<(), SyntaxFault>
-    ensures { Gives (λ u. u) result (documentation_in (datum_of datum.now)) }
-{
-    if !is_string(datum) {
-        return Err(SyntaxFault::Program);
-    }
-    Ok(())
 }
 
 fn one_accessor(alloc: Global, accessor: Accessor) -> Result<Sequence<Accessor>, AllocError>

@@ -12,6 +12,7 @@ use crate::function_name::parse_method_function;
 use crate::generic::{GenericDefinition, parse_generic};
 use crate::method::{MethodDefinition, parse_method};
 use crate::variable::{Definer, VariableDefinition, parse_variable};
+use clos_combination::{CombinationDefinition, parse_combination};
 use clos_forms::{Form, FunctionName, SyntaxFault, is_the, only};
 use clos_lambda::parse_plain_form;
 use lisp_data::{Data, Datum, Name};
@@ -24,6 +25,7 @@ pub enum Top {
     DefGeneric(GenericDefinition),
     /// A method of the function of this name.
     DefMethod(FunctionName, MethodDefinition),
+    DefCombination(CombinationDefinition),
     Defun(FunctionDefinition),
     /// A `defvar` or a `defparameter`.
     DefVar(VariableDefinition),
@@ -145,6 +147,9 @@ fn parse_named(alloc: Global, name: &Name, rest: &Data, whole: &Datum) -> Result
         Ok(Top::DefGeneric(generic))
     } else if is_the(name, "DEFMETHOD") {
         parse_defmethod(alloc, rest)
+    } else if is_the(name, "DEFINE-METHOD-COMBINATION") {
+        let combination = parse_combination(alloc, rest)?;
+        Ok(Top::DefCombination(combination))
     } else if is_the(name, "DEFUN") {
         let function = parse_function(alloc, rest)?;
         Ok(Top::Defun(function))

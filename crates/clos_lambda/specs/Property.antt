@@ -1,9 +1,11 @@
 -- Names and values in turn, and options that their heads name.
-use Rattle.std.specs.Prelude.{ℕ, List, Bool, false, ◌&&◌, Option, Some, None, if◌then◌else◌}
+use Rattle.std.specs.Prelude.{ℕ, List, Bool, true, false, ◌&&◌, Option, Some, None, if◌then◌else◌}
+use Rattle.std.specs.List.{list_any}
 use Rattle.std.specs.Str.{bytes_eq}
 use Rattle.lisp_data.specs.Name.{Name}
 use Rattle.lisp_data.specs.Datum.{Dat, integer, symbol, string, list, dotted, method, Dats, nil, cons}
 use Rattle.clos_forms.specs.Binding.{each}
+use Rattle.clos_forms.specs.Body.{is_string}
 use Rattle.clos_forms.specs.Fault.{◌>>=◌}
 use Rattle.clos_lambda.specs.Lists.{single}
 
@@ -19,11 +21,28 @@ is_key text (list l) = false
 is_key text (dotted l d) = false
 is_key text (method n) = false
 
+-- the keyword of one of these texts
+abbrev pub is_any_key : List (List ℕ) → Dat → Bool
+is_any_key texts d = list_any (λ text. is_key text d) texts
+
+-- keywords of these texts and values in turn
+abbrev pub are_properties : List (List ℕ) → Dats → Bool
+are_properties texts nil = true
+are_properties texts (cons k nil) = false
+are_properties texts (cons k (cons v l)) = is_any_key texts k && are_properties texts l
+
 -- the values of this keyword, of keywords and values in turn
 abbrev pub values_of : List ℕ → Dats → Dats
 values_of text nil = nil
 values_of text (cons k nil) = nil
 values_of text (cons k (cons v l)) = if is_key text k then cons v (values_of text l) else values_of text l
+
+-- what is read and ignored
+abbrev pub anything : Dat → Option (Unit {0})
+anything d = Some tt
+
+abbrev pub documentation_in : Dat → Option (Unit {0})
+documentation_in d = if is_string d then Some tt else None
 
 -- what the only value of this keyword stands for, where it has one
 abbrev pub value_in : {A : Type 0} → (Dat → Option A) → List ℕ → Dats → Option (Option A)

@@ -1,0 +1,13 @@
+//! The definitions of method combinations: from data (HyperSpec 7.7 `define-method-combination`).
+#![tactic(auto)]
+
+pub mod combination;
+pub mod group;
+mod keyword;
+pub mod parameter;
+pub mod pattern;
+
+pub use combination::{CombinationDefinition, LongForm, ShortForm, parse_combination};
+pub use group::{GroupSpecifier, Order};
+pub use parameter::{OptionalParameter, Parameters};
+pub use pattern::Pattern;
