@@ -19,6 +19,13 @@ pub data Pattern : Type 0 where
   every : Pattern
   listed : List Wanted → Bool → Pattern  -- in order, and whether more may follow
 
+-- no qualifiers, or this one alone
+abbrev pub unqualified : Pattern
+unqualified = listed [] false
+
+abbrev pub qualified_by : Val → Pattern
+qualified_by v = listed (equal_to v ∷ []) false
+
 -- ---- the pattern that a datum is
 
 -- a qualifier that is equal to the value, where there is one

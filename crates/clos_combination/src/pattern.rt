@@ -3,7 +3,7 @@ ghost use Rattle.std.specs.Prelude.{◌≡◌, IfOk, map};
 ghost use Rattle.lisp_data.specs.DatumView.{datum_of};
 ghost use Rattle.lisp_data.specs.ValueView.{value_of};
 ghost use Rattle.clos_forms.specs.Fault.{Gives};
-ghost use Rattle.clos_combination.specs.Pattern.{are_wanted, dotted_pattern, every, is_wanted, listed, matches, named_pattern, pattern_in, wanted_by, wanted_in};
+ghost use Rattle.clos_combination.specs.Pattern.{are_wanted, dotted_pattern, every, is_wanted, listed, matches, named_pattern, pattern_in, qualified_by, unqualified, wanted_by, wanted_in};
 ghost use Rattle.clos_combination.specs.PatternView.{wanted_of};
 
 use clos_forms::{SyntaxFault, is_the, quoted_value};
@@ -65,6 +65,22 @@ impl Pattern {
         Pattern {
             shape: PatternShape::Listed(wanted, more),
         }
+    }
+
+    /// No qualifiers.
+    pub fn unqualified(alloc: Global) -> Pattern
+        ensures { result ≡ unqualified }
+    {
+        Pattern::listed(Sequence::new(alloc), false)
+    }
+
+    /// This qualifier alone.
+    pub fn qualified_by(alloc: Global, qualifier: Value) -> Result<Pattern, AllocError>
+        ensures { IfOk result (λ p. p ≡ qualified_by (value_of qualifier)) }
+    {
+        let mut wanted = Sequence::new(alloc);
+        wanted.push(Wanted::Equal(qualifier))?;
+        Ok(Pattern::listed(wanted, false))
     }
 
     /// Whether a method with these qualifiers is meant.
