@@ -59,6 +59,13 @@ impl Qualifiers {
         self.items.is_empty()
     }
 
+    /// All of them.
+    pub fn as_slice(&self) -> &[Value]
+        ensures { values_in result.now ≡ self.now }
+    {
+        self.items.as_slice()
+    }
+
     /// The one at this place, if there is one.
     pub fn get(&self, place: usize) -> Option<&Value>
         ensures { option_map (λ v. value_of v.now) result ≡ slice_get self.now place }

@@ -1,0 +1,3 @@
+mod Among
+mod Ambiguity
+pub mod First

@@ -1,0 +1,5 @@
+pub mod Group
+pub mod Key
+pub mod Refusal
+pub mod RefusalView
+pub mod Laws
