@@ -15,9 +15,11 @@ abbrev pub first_from : ℕ → List Group → List Val → Option ℕ
 first_from k [] qs = None
 first_from k (g ∷ gs) qs = if takes g qs then Some k else first_from (k + 1) gs qs
 
+-- the place of the group of a method with these qualifiers
 abbrev pub group_for : List Group → List Val → Option ℕ
 group_for gs qs = first_from 0 gs qs
 
+-- the place of the group of this method, where there is one
 abbrev pub group_with : List Group → Option Method → Option ℕ
 group_with gs None = None
 group_with gs (Some m) = group_for gs m.qualifiers
@@ -26,9 +28,11 @@ group_with gs (Some m) = group_for gs m.qualifiers
 abbrev pub group_of : List Method → List Group → ℕ → Option ℕ
 group_of methods gs m = group_with gs (slice_get methods m)
 
+-- whether a group takes the method of this number
 abbrev pub has_group : List Method → List Group → ℕ → Bool
 has_group methods gs m = is_some (group_of methods gs m)
 
+-- whether something was found, at this place
 abbrev pub is_the : Option ℕ → ℕ → Bool
 is_the None k = false
 is_the (Some j) k = j == k
@@ -43,6 +47,7 @@ members methods gs k ms = filter (is_in methods gs k) ms
 
 -- ---- the same as a relation: the group at this place takes the qualifiers, and none before it does
 
+-- whether there is a group, and it takes these qualifiers
 abbrev pub takes_at : List Val → Option Group → Bool
 takes_at qs None = false
 takes_at qs (Some g) = takes g qs

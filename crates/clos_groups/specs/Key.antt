@@ -9,11 +9,12 @@ use Rattle.lisp_data.specs.Print.{Specializer, on_class, on_eql}
 use Rattle.clos_method.specs.Specializer.{same_specializers}
 use Rattle.clos_method.specs.SpecializerLaws.{same_specializers-Decides}
 
+-- what one specializer feeds: the number of its class, or its object
 abbrev pub specializer_writes : Specializer → HashWrites
 specializer_writes (on_class c) = fed.u64 c
 specializer_writes (on_eql v) = value_writes v
 
--- each in turn
+-- what all of them feed, each in turn
 abbrev pub key_writes : List Specializer → HashWrites
 key_writes ss = flat_map specializer_writes ss
 

@@ -24,6 +24,7 @@ empty_from methods gs ms k (g ∷ rest) =
 
 -- ---- methods of equal specializers
 
+-- whether there is a method, and it has these specializers
 abbrev pub is_specialized_so : List Specializer → Option Method → Bool
 is_specialized_so ss None = false
 is_specialized_so ss (Some m) = same_specializers m.specializers ss
@@ -37,6 +38,7 @@ abbrev pub twin_of : List Method → Option Method → List ℕ → Option ℕ
 twin_of methods None ms = None
 twin_of methods (Some m) ms = specialized_so methods m.specializers ms
 
+-- the pair of this method and its twin, where it has one; else a later pair
 abbrev pub or_later : ℕ → Option ℕ → Option (ℕ × ℕ) → Option (ℕ × ℕ)
 or_later m (Some n) later = Some (m, n)
 or_later m None later = later
@@ -50,6 +52,7 @@ twins methods (m ∷ ms) = or_later m (twin_of methods (slice_get methods m) ms)
 abbrev pub among : List ℕ → List ℕ → List ℕ
 among ms added = filter (λ m. list_any (λ n. n == m) ms) added
 
+-- the pair of a group, where it has one; else that of a later group
 abbrev pub or_twins : Option (ℕ × ℕ) → Option (ℕ × ℕ) → Option (ℕ × ℕ)
 or_twins (Some p) later = Some p
 or_twins None later = later
@@ -62,14 +65,17 @@ ambiguous_from methods gs added ms k (g ∷ rest) =
 
 -- ---- the first of these that is so
 
+-- a pair is refused
 abbrev pub told_pair : Option (ℕ × ℕ) → Option Refusal
 told_pair None = None
 told_pair (Some p) = Some (ambiguous_methods p.0 p.1)
 
+-- an empty group comes before a pair
 abbrev pub or_ambiguous : Option ℕ → Option (ℕ × ℕ) → Option Refusal
 or_ambiguous (Some k) pair = Some (group_empty k)
 or_ambiguous None pair = told_pair pair
 
+-- a method without a group comes before an empty group
 abbrev pub or_empty : Option ℕ → Option ℕ → Option (ℕ × ℕ) → Option Refusal
 or_empty (Some m) empty pair = Some (invalid_method m)
 or_empty None empty pair = or_ambiguous empty pair
