@@ -13,13 +13,15 @@ use clos_forms::is_the;
 use lisp_data::{Data, Datum, Dot, ListFault, Name};
 use std::alloc::{AllocError, Global};
 
-pub(crate) fn nil_symbol() -> Datum
+/// The symbol NIL.
+pub fn nil_symbol() -> Datum
     ensures { datum_of result ≡ nil_symbol }
 {
     Datum::Sym(Name::fixed(&"NIL"))
 }
 
-pub(crate) fn truth(holds: bool) -> Datum
+/// The symbol T, or NIL.
+pub fn truth(holds: bool) -> Datum
     ensures { datum_of result ≡ truth holds }
 {
     if holds {
@@ -69,8 +71,8 @@ pub(crate) fn elements(datum: &Datum) -> Result<Data, ExpansionFault>
     }
 }
 
-/// The list of these elements.
-pub(crate) fn from_elements(elements: Data) -> Datum
+/// The list of these elements, which is the symbol NIL where there are none.
+pub fn from_elements(elements: Data) -> Datum
     ensures { datum_of result ≡ from_elements elements }
 {
     if elements.split_first().is_none() {

@@ -16,6 +16,7 @@ mod template;
 mod tree;
 mod word;
 
+pub use datum::{from_elements, nil_symbol, truth};
 pub use expansion::{MAX_CONSES, expand};
 pub use fault::ExpansionFault;
 pub use scope::Scope;

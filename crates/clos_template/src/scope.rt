@@ -55,7 +55,7 @@ impl Scope {
 
     /// Moves these names to the end, where they hide those that are the same.
     #[tactic(auto, using(crate::proofs::Scopes::more_names))]
-    pub(crate) fn append(&mut self, more: Scope) -> Result<(), AllocError>
+    pub fn append(&mut self, more: Scope) -> Result<(), AllocError>
         ensures { OnOk result (self.new ≡ self.old ++ more) }
     {
         let Scope { mut variables } = more;
@@ -79,7 +79,7 @@ impl Scope {
     }
 
     /// What the innermost of this name stands for.
-    pub(crate) fn value(&self, name: &Name) -> Option<&Datum>
+    pub fn value(&self, name: &Name) -> Option<&Datum>
         ensures { option_map (λ d. datum_of d.now) result ≡ value_of self.now name.now }
     {
         let mut left = self.variables.as_slice();
