@@ -7,6 +7,10 @@ mod keyword;
 pub mod parameter;
 pub mod pattern;
 
+pub use clos_lambda::{Sequence, is_key};
+pub use clos_template::{
+    ExpansionFault, MAX_CONSES, Scope, Template, expand, from_elements, nil_symbol, truth,
+};
 pub use combination::{CombinationDefinition, LongForm, ShortForm, parse_combination};
 pub use group::{GroupSpecifier, Order};
 pub use parameter::{OptionalParameter, Parameters};
