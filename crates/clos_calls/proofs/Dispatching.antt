@@ -1,8 +1,7 @@
 -- Calls of generic functions, with applicable methods and without.
 use Rattle.std.proofs.Common.{◌≡◌, ℕ, List, [], ◌∷◌, true, false, Option, Some, None, Result, Err, length, slice_get, arith, refl, ap, sym, ◌∙◌}
 use Rattle.std.specs.Prelude.{if◌then◌else◌, is_some, option_map}
-use Rattle.lisp_data.specs.Name.{Name}
-use Rattle.lisp_data.specs.Value.{Val, generic, method}
+use Rattle.lisp_data.specs.Value.{Val, generic}
 use Rattle.clos_machine.specs.clos_world.clos_generic.Table.{Function}
 use Rattle.clos_method.specs.Shape.{takes_count}
 use Rattle.clos_method.specs.System.{system_number}
@@ -10,7 +9,7 @@ use Rattle.clos_method.specs.declared.system.SystemFunction.TheVariants.{NoAppli
 use Rattle.clos_machine.specs.clos_world.Dispatch.{ordered}
 use Rattle.clos_machine.specs.clos_world.World.{State, unbound}
 use Rattle.clos_machine.specs.clos_world.declared.condition.Condition.{Condition}
-use Rattle.clos_machine.specs.clos_world.declared.condition.ConditionKind.TheVariants.{InvalidMethod, ProgramError}
+use Rattle.clos_machine.specs.clos_world.declared.condition.ConditionKind.TheVariants.{ProgramError}
 use Rattle.clos_machine.specs.clos_world.declared.condition.Stop.{Stop}
 use Rattle.clos_machine.specs.clos_world.declared.condition.Stop.TheVariants.{Refused, Storage}
 use Rattle.clos_machine.specs.clos_meaning.GenericCalls.{after_positional, called_generic, combined_run, keywords_fit, matched, matched_or, unmatched, unmatched_by}
@@ -24,9 +23,11 @@ use Rattle.clos_machine.specs.declared.machine.Machine.{Machine}
 use Rattle.clos_machine.specs.clos_meaning.Pair.{pair}
 use Rattle.clos_machine.proofs.Turns.{bare, bare_through, leads_same, stopped_through}
 use Rattle.clos_comb.specs.Effective as comb
-use Rattle.clos_comb.specs.Outcome.{Combined, group_empty, invalid_method}
+use Rattle.clos_comb.specs.Outcome.{Combined}
+use Rattle.clos_comb.specs.OutcomeView.{combined_of}
+use Rattle.clos_comb.specs.declared.outcome.Outcome.{Outcome}
 use Rattle.clos_machine.specs.Fault.{TellsCondition}
-use Rattle.clos_calls.specs.GenericCalls.{empty_group, takes_in}
+use Rattle.clos_calls.specs.GenericCalls.{takes_in}
 
 -- a function that takes so many arguments is there
 pub function_taken : (o : Option Function) (n : ℕ) → true ≡ takes_in o n → (f : Function) × (Some f ≡ o) × (takes_count f.shape n ≡ true)
@@ -127,26 +128,20 @@ module _ (m n : Machine) (ev : Eval) (w : State) where
           → Leads (inside m (matched ev vs g f ms)) w (Err (Refused c)) n
       keywords_wrong c e h =
           stops (matched ev vs g f ms) c
-          (λ t. ap (λ b. bare (if b then combined_run ev (in_call (record { generic = g; methods = ms }) vs) f (comb.effective w.generics g ms) (at m w) t else stopped ProgramError [] (at m w) t)) (sym e)) h
+          (λ t. ap (λ b. bare (if b then combined_run ev (in_call (record { generic = g; methods = ms }) vs) f (comb.effective w.combinations w.generics g ms) (at m w) t else stopped ProgramError [] (at m w) t)) (sym e)) h
 
-      pub keywords_right : (x : Combined) (r : Result Doing Stop) → true ≡ keywords_fit w.generics g ms (after_positional f.shape vs) → x ≡ comb.effective w.generics g ms
+      pub keywords_right : (x : Combined) (r : Result Doing Stop) → true ≡ keywords_fit w.generics g ms (after_positional f.shape vs) → x ≡ comb.effective w.combinations w.generics g ms
           → Leads (inside m (combined_run ev (in_call (record { generic = g; methods = ms }) vs) f x)) w r n → Leads (inside m (matched ev vs g f ms)) w r n
       keywords_right x r e h l =
           goes (combined_run ev (in_call (record { generic = g; methods = ms }) vs) f x) (matched ev vs g f ms) r
           (λ t. ap (λ y. bare (combined_run ev (in_call (record { generic = g; methods = ms }) vs) f y (at m w) t)) h
-          ∙ ap (λ b. bare (if b then combined_run ev (in_call (record { generic = g; methods = ms }) vs) f (comb.effective w.generics g ms) (at m w) t else stopped ProgramError [] (at m w) t)) e) l
+          ∙ ap (λ b. bare (if b then combined_run ev (in_call (record { generic = g; methods = ms }) vs) f (comb.effective w.combinations w.generics g ms) (at m w) t else stopped ProgramError [] (at m w) t)) e) l
 
   -- ---- the methods are not combined
 
-  pub invalid_told : (env : Context) (f : Function) (x : Combined) (k : ℕ) (c : Condition) → x ≡ invalid_method k → c ≡ record { kind = InvalidMethod; items = method k ∷ [] }
-      → Leads (inside m (combined_run ev env f x)) w (Err (Refused c)) n
-  invalid_told env f x k c e h = λ t.
-      ap (λ y. closed (resume m.levels m.context (combined_run ev env f y (at m w) t))) e
-      ∙ stopped_through m.levels m.context (record { kind = InvalidMethod; items = method k ∷ [] }) (at m w) t ∙ ap (λ y. Stopped y (unbound w) t) (sym h)
-
-  pub empty_told : (env : Context) (f : Function) (x : Combined) (group : Name) (stop : Stop) → x ≡ group_empty group.text → TellsCondition (empty_group f group) stop
-      → Leads (inside m (combined_run ev env f x)) w (Err stop) n
-  empty_told env f x group Storage e h = tt
-  empty_told env f x group (Refused c) e h = λ t.
-      ap (λ y. closed (resume m.levels m.context (combined_run ev env f y (at m w) t))) e
-      ∙ stopped_through m.levels m.context (empty_group f group) (at m w) t ∙ ap (λ y. Stopped y (unbound w) t) (sym h)
+  pub refusal_told : (env : Context) (f : Function) (o v : Outcome) (c : Condition) (stop : Stop) → o ≡ v → ((t : ℕ) → combined_run ev env f (combined_of v) (at m w) t ≡ Stopped c (at m w) t)
+      → TellsCondition c stop → Leads (inside m (combined_run ev env f (combined_of o))) w (Err stop) n
+  refusal_told env f o v c Storage is e h = tt
+  refusal_told env f o v c (Refused d) is e h = λ t.
+      ap (λ y. closed (resume m.levels m.context y)) (ap (λ x. combined_run ev env f (combined_of x) (at m w) t) is ∙ e t) ∙ stopped_through m.levels m.context c (at m w) t
+      ∙ ap (λ y. Stopped y (unbound w) t) (sym h)

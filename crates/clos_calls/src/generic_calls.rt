@@ -9,7 +9,7 @@ ghost use Rattle.clos_machine.specs.clos_meaning.GenericCalls.{called_generic, c
 ghost use Rattle.clos_machine.specs.Machine.{Leads, Grows, call_growth, here, Does};
 ghost use Rattle.clos_machine.specs.clos_meaning.Meaning.{meaning};
 ghost use Rattle.clos_machine.specs.Fault.{TellsCondition};
-ghost use Rattle.clos_calls.specs.GenericCalls.{empty_group, takes_in};
+ghost use Rattle.clos_calls.specs.GenericCalls.{about_function, takes_in};
 
 use crate::keywords::keywords_fit;
 use clos_comb::Outcome;
@@ -133,37 +133,61 @@ fn run_combined(
             let condition = about(alloc, ConditionKind::InvalidMethod, Value::Method(method))?;
             Err(Stop::Refused(condition))
         }
-        Outcome::RequiredGroupEmpty(group) => Err(refuse_empty(alloc, world, id, &group)),
+        Outcome::RequiredGroupEmpty(group) => {
+            let kind = ConditionKind::RequiredGroupEmpty;
+            Err(refuse_function(alloc, world, id, kind, Some(group)))
+        }
+        Outcome::AmbiguousMethods(earlier, later) => {
+            let earlier = Value::Method(earlier);
+            let kind = ConditionKind::AmbiguousMethods;
+            let condition = about_both(alloc, kind, earlier, Value::Method(later))?;
+            Err(Stop::Refused(condition))
+        }
+        Outcome::BadExpansion => {
+            let kind = ConditionKind::BadExpansion;
+            Err(refuse_function(alloc, world, id, kind, None))
+        }
+        Outcome::ExpansionLimit => {
+            let kind = ConditionKind::ExpansionLimit;
+            Err(refuse_function(alloc, world, id, kind, None))
+        }
     }
 }
 
-/// Why a function is not called whose combination wants a method in this group.
-fn refuse_empty(alloc: Global, world: &World, id: GenericId, group: &Name) -> Stop
-    ensures { (f : Function) → Some f ≡ slice_get (seen world.now).generics.functions id.0 → TellsCondition (empty_group f group.now) result }
+/// Why a function is not called of whose combination no effective method comes: a condition about the function, and the group
+/// that has to have a method, where it is one.
+fn refuse_function(
+    alloc: Global,
+    world: &World,
+    id: GenericId,
+    kind: ConditionKind,
+    group: Option<Name>,
+) -> Stop
+    ensures { (f : Function) → Some f ≡ slice_get (seen world.now).generics.functions id.0 → TellsCondition (about_function kind f group) result }
 {
-    match about_empty(alloc, world, id, group) {
+    match about_function(alloc, world, id, kind, group) {
         Ok(condition) => Stop::Refused(condition),
         Err(_) => Stop::Storage,
     }
 }
 
-fn about_empty(
+fn about_function(
     alloc: Global,
     world: &World,
     id: GenericId,
-    group: &Name,
+    kind: ConditionKind,
+    group: Option<Name>,
 ) -> Result<Condition, AllocError>
-    ensures { IfOk result (λ c. (f : Function) → Some f ≡ slice_get (seen world.now).generics.functions id.0 → c ≡ empty_group f group.now) }
+    ensures { IfOk result (λ c. (f : Function) → Some f ≡ slice_get (seen world.now).generics.functions id.0 → c ≡ about_function kind f group) }
 {
     match world.generics.function(id) {
         None => Ok(plain(alloc, ConditionKind::ProgramError)),
         Some(function) => {
-            let group = Value::Sym(Name::new(alloc, group.as_str(), false)?);
-            let Ok(name) = called_value(alloc, function.name()) else {
-                drop(group);
-                return Err(AllocError);
-            };
-            about_both(alloc, ConditionKind::RequiredGroupEmpty, name, group)
+            let name = called_value(alloc, function.name())?;
+            match group {
+                None => about(alloc, kind, name),
+                Some(group) => about_both(alloc, kind, name, Value::Sym(group)),
+            }
         }
     }
 }

@@ -1,1 +1,5 @@
-pub mod Primary
+pub mod Lists
+pub mod StandardForm
+pub mod Refused
+pub mod Tables
+pub mod Expanded

@@ -1,18 +1,20 @@
-//! Standard method combination (HyperSpec 7.6.6.2).
-ghost use Rattle.std.specs.Prelude.{◌≡◌, ◌++◌, ◌∷◌, [], true, false, IfOk, IsOk, is_some, map, reverse};
-ghost use Rattle.clos_forms.specs.Form.{cons, form, nil};
+//! Standard method combination (HyperSpec 7.6.6.2). Its forms are made at once: each is that of its datum.
+ghost use Rattle.std.specs.Prelude.{◌≡◌, ◌++◌, ◌∷◌, [], true, IfOk, IsOk, map, reverse};
+ghost use Rattle.clos_forms.specs.Form.{nil};
 ghost use Rattle.clos_forms.specs.Operator.{made, the_method};
-ghost use Rattle.clos_forms.specs.OperatorView.{operator_of};
-ghost use Rattle.clos_comb.specs.Numbers.{numbers};
+ghost use Rattle.clos_groups.specs.clos_method.MethodIds.{method_numbers};
+ghost use Rattle.clos_comb.specs.Effective.{combined_by, groups_refusal, is_free};
+ghost use Rattle.clos_comb.specs.Groups.{standard_groups};
 ghost use Rattle.clos_comb.specs.OutcomeView.{combined_of};
-ghost use Rattle.clos_comb.specs.Role.{has_primary, without_role};
-ghost use Rattle.clos_comb.specs.Standard.{alone, around_form, called_before, combined, main_form, method_called, with_primary};
+ghost use Rattle.clos_comb.specs.Standard.{standard_combined};
+ghost use Rattle.clos_comb.specs.Table.{standard};
+ghost use Rattle.clos_comb.specs.Tree.{alone, around_tree, called_before, main_tree, method_called, primary_called, standard_tree};
 
+use crate::arguments::is_no_data;
 use crate::outcome::Outcome;
-use crate::role::{Role, group, has_primary, without_role};
 use clos_forms::{CalledMethod, Form, Forms, NextMethods, Operator};
-use clos_method::Method;
-use lisp_data::{MethodId, Name};
+use clos_groups::{GroupSpecifier, Method, find_refusal, members};
+use lisp_data::{Data, MethodId};
 use std::alloc::{AllocError, Global};
 
 /// A call of this method with these next methods, of which one may be made of a form.
@@ -30,7 +32,7 @@ fn call_method(
 
 /// Calls of these methods, which have no next methods, in order, and then these forms.
 fn call_before(alloc: Global, methods: &[MethodId], forms: Forms) -> Result<Forms, AllocError>
-    ensures { IfOk result (λ r. r ≡ called_before (numbers methods.now) forms) }
+    ensures { IfOk result (λ r. r ≡ called_before (method_numbers methods.now) forms) }
 {
     let mut calls = forms;
     let mut left = methods.len();
@@ -44,7 +46,7 @@ fn call_before(alloc: Global, methods: &[MethodId], forms: Forms) -> Result<Form
 
 /// Calls of these methods, which have no next methods, the last one first.
 fn call_reversed(alloc: Global, methods: &[MethodId]) -> Result<Forms, AllocError>
-    ensures { IfOk result (λ r. r ≡ called_before (reverse (numbers methods.now)) nil) }
+    ensures { IfOk result (λ r. r ≡ called_before (reverse (method_numbers methods.now)) nil) }
 {
     let mut calls = Forms::new();
     for method in methods {
@@ -56,7 +58,7 @@ fn call_reversed(alloc: Global, methods: &[MethodId]) -> Result<Forms, AllocErro
 
 /// These methods as next methods.
 fn next_methods(alloc: Global, methods: &[MethodId]) -> Result<NextMethods, AllocError>
-    ensures { IfOk result (λ r. r ≡ map the_method (numbers methods.now)) }
+    ensures { IfOk result (λ r. r ≡ map the_method (method_numbers methods.now)) }
 {
     if methods.is_empty() {
         return Ok(NextMethods::none());
@@ -70,7 +72,7 @@ fn next_methods(alloc: Global, methods: &[MethodId]) -> Result<NextMethods, Allo
 
 /// These methods as next methods, and then one that is made of a form.
 fn next_methods_and_made(alloc: Global, methods: &[MethodId]) -> Result<NextMethods, AllocError>
-    ensures { IfOk result (λ r. r ≡ map the_method (numbers methods.now) ++ made ∷ []) }
+    ensures { IfOk result (λ r. r ≡ map the_method (method_numbers methods.now) ++ made ∷ []) }
 {
     let mut next = Vec::new(alloc);
     for method in methods {
@@ -86,22 +88,36 @@ fn form_alone(alloc: Global, form: Form) -> Result<Forms, AllocError>
     Forms::cons(alloc, form, Forms::new())
 }
 
-/// The form for the most specific primary method, the others, and before and after methods.
+/// A call of the most specific primary method, with the others as next methods.
+fn call_primary(alloc: Global, primary: &[MethodId]) -> Result<Forms, AllocError>
+    ensures { IfOk result (λ r. r ≡ primary_called (method_numbers primary.now)) }
+{
+    match primary.split_first() {
+        None => Ok(Forms::new()),
+        Some((first, others)) => {
+            let next = next_methods(alloc, others)?;
+            form_alone(alloc, call_method(alloc, *first, next, Forms::new())?)
+        }
+    }
+}
+
+/// The form for before, primary and after methods.
 fn main_form(
     alloc: Global,
-    primary: MethodId,
-    others: &[MethodId],
     before: &[MethodId],
+    primary: &[MethodId],
     after: &[MethodId],
 ) -> Result<Form, AllocError>
-    ensures { IfOk result (λ r. r ≡ main_form primary.0 (numbers others.now) (numbers before.now) (numbers after.now)) }
+    ensures { IfOk result (λ r. r ≡ main_tree (method_numbers before.now) (method_numbers primary.now) (method_numbers after.now)) }
 {
-    let next = next_methods(alloc, others)?;
-    let call = call_method(alloc, primary, next, Forms::new())?;
-    if others.is_empty() && before.is_empty() && after.is_empty() {
-        return Ok(call);
+    if before.is_empty() && after.is_empty() {
+        if let Some((only, others)) = primary.split_first() {
+            if others.is_empty() {
+                return call_method(alloc, *only, NextMethods::none(), Forms::new());
+            }
+        }
     }
-    let calls = call_before(alloc, before, form_alone(alloc, call)?)?;
+    let calls = call_before(alloc, before, call_primary(alloc, primary)?)?;
     let first = Form::new(alloc, Operator::Progn, calls)?;
     let forms = Forms::cons(alloc, first, call_reversed(alloc, after)?)?;
     Form::new(alloc, Operator::Prog1, forms)
@@ -109,7 +125,7 @@ fn main_form(
 
 /// The form within around methods.
 fn around_form(alloc: Global, around: &[MethodId], form: Form) -> Result<Form, AllocError>
-    ensures { IfOk result (λ r. r ≡ around_form (numbers around.now) form) }
+    ensures { IfOk result (λ r. r ≡ around_tree (method_numbers around.now) form) }
 {
     match around.split_first() {
         None => Ok(form),
@@ -120,45 +136,59 @@ fn around_form(alloc: Global, around: &[MethodId], form: Form) -> Result<Form, A
     }
 }
 
-/// These groups of methods combined.
-fn combine_groups(
+/// The form for around, before, primary and after methods.
+fn standard_form(
     alloc: Global,
     around: &[MethodId],
     before: &[MethodId],
     primary: &[MethodId],
     after: &[MethodId],
-) -> Result<Outcome, AllocError>
-    ensures { IfOk result (λ r. combined_of r ≡ with_primary (numbers around.now) (numbers before.now) (numbers primary.now) (numbers after.now)) }
+) -> Result<Form, AllocError>
+    ensures { IfOk result (λ r. r ≡ standard_tree (method_numbers around.now) (method_numbers before.now) (method_numbers primary.now) (method_numbers after.now)) }
 {
-    match primary.split_first() {
-        None => Ok(Outcome::RequiredGroupEmpty(Name::fixed(&"PRIMARY"))),
-        Some((first, others)) => {
-            let form = main_form(alloc, *first, others, before, after)?;
-            Ok(Outcome::Effective(around_form(alloc, around, form)?))
-        }
-    }
+    let form = main_form(alloc, before, primary, after)?;
+    around_form(alloc, around, form)
 }
 
-/// These methods, the most specific first, combined by standard method combination. To refuse them takes no memory.
-#[tactic(auto, using(crate::proofs::Primary::no_primary))]
+/// These methods, the most specific first, combined by these groups, which are the standard combination's.
+#[tactic(auto, using(crate::proofs::StandardForm::makes_its_form))]
+fn combine_groups(
+    alloc: Global,
+    methods: &[Method],
+    groups: &[GroupSpecifier],
+    arguments: &Data,
+    ids: &[MethodId],
+) -> Result<Outcome, AllocError>
+    requires { groups.now ≡ standard_groups }
+    ensures { IfOk result (λ r. combined_of r ≡ standard_combined methods.now arguments.now (method_numbers ids.now)) }
+{
+    if !is_no_data(arguments) {
+        return Ok(Outcome::BadExpansion);
+    }
+    let around = members(alloc, methods, groups, 0, ids)?;
+    let before = members(alloc, methods, groups, 1, ids)?;
+    let primary = members(alloc, methods, groups, 2, ids)?;
+    let after = members(alloc, methods, groups, 3, ids)?;
+    let form = standard_form(alloc, &around, &before, &primary, &after)?;
+    Ok(Outcome::Effective(form))
+}
+
+/// These methods, the most specific first, combined by these groups, which are the standard combination's, unless the groups
+/// refuse them. The function's methods are in order of addition.
 pub(crate) fn combine_standard(
     alloc: Global,
     methods: &[Method],
+    groups: &[GroupSpecifier],
+    added: &[MethodId],
+    arguments: &Data,
     ids: &[MethodId],
 ) -> Result<Outcome, AllocError>
-    ensures outcome { IfOk result (λ r. combined_of r ≡ combined methods.now (numbers ids.now)) }
-    ensures invalid { is_some (without_role methods.now (numbers ids.now)) ≡ true → IsOk result }
-    ensures empty { has_primary methods.now (numbers ids.now) ≡ false → IsOk result }
+    requires { groups.now ≡ standard_groups }
+    ensures outcome { IfOk result (λ r. combined_of r ≡ combined_by standard methods.now (method_numbers added.now) arguments.now (method_numbers ids.now)) }
+    ensures free { is_free standard (groups_refusal standard methods.now (method_numbers added.now) (method_numbers ids.now)) ≡ true → IsOk result }
 {
-    if let Some(invalid) = without_role(methods, ids) {
-        return Ok(Outcome::InvalidMethod(invalid));
+    match find_refusal(alloc, methods, groups, added, ids)? {
+        Some(refusal) => Ok(Outcome::refused_primary(refusal)),
+        None => combine_groups(alloc, methods, groups, arguments, ids),
     }
-    if !has_primary(methods, ids) {
-        return Ok(Outcome::RequiredGroupEmpty(Name::fixed(&"PRIMARY")));
-    }
-    let around = group(alloc, methods, Role::Around, ids)?;
-    let before = group(alloc, methods, Role::Before, ids)?;
-    let primary = group(alloc, methods, Role::Primary, ids)?;
-    let after = group(alloc, methods, Role::After, ids)?;
-    combine_groups(alloc, &around, &before, &primary, &after)
 }

@@ -1,7 +1,8 @@
 -- Qualifier patterns (HyperSpec 7.7 define-method-combination).
 use Rattle.std.specs.Prelude.{List, [], ◌∷◌, Bool, true, false, ◌&&◌, codes, Option, Some, None, if◌then◌else◌}
-use Rattle.lisp_data.specs.Name.{Name}
+use Rattle.lisp_data.specs.Name.{Name, same_name}
 use Rattle.lisp_data.specs.Keys.{same_value}
+use Rattle.lisp_data.specs.Value as value
 use Rattle.lisp_data.specs.Value.{Val}
 use Rattle.lisp_data.specs.Datum.{Dat, integer, symbol, string, list, dotted, method, Dats, nil, cons}
 use Rattle.clos_forms.specs.Quotation.{quotation}
@@ -62,10 +63,20 @@ pattern_in (method n) = None
 
 -- ---- the qualifiers that it matches
 
+-- whether a value is the symbol of this name
+abbrev pub is_symbol_named : Name → Val → Bool
+is_symbol_named name (value.symbol other) = same_name name other
+is_symbol_named name _ = false
+
+-- whether both are equal (5.3): symbols by their names, other values by what they are made of
+abbrev pub are_equal : Val → Val → Bool
+are_equal (value.symbol name) q = is_symbol_named name q
+are_equal v q = same_value v q
+
 -- whether a qualifier is what an element asks
 abbrev pub is_wanted : Wanted → Val → Bool
 is_wanted anything q = true
-is_wanted (equal_to v) q = same_value v q
+is_wanted (equal_to v) q = are_equal v q
 is_wanted nothing q = false
 
 -- one for each qualifier, in order. Perhaps more may follow

@@ -3,7 +3,7 @@ ghost use Rattle.std.specs.Prelude.{◌≡◌, IfOk, map};
 ghost use Rattle.lisp_data.specs.DatumView.{datum_of};
 ghost use Rattle.lisp_data.specs.ValueView.{value_of};
 ghost use Rattle.clos_forms.specs.Fault.{Gives};
-ghost use Rattle.clos_combination.specs.Pattern.{are_wanted, dotted_pattern, every, is_wanted, listed, matches, named_pattern, pattern_in, qualified_by, unqualified, wanted_by, wanted_in};
+ghost use Rattle.clos_combination.specs.Pattern.{are_equal, are_wanted, dotted_pattern, every, is_wanted, listed, matches, named_pattern, pattern_in, qualified_by, unqualified, wanted_by, wanted_in};
 ghost use Rattle.clos_combination.specs.PatternView.{wanted_of};
 
 use clos_forms::{SyntaxFault, is_the, quoted_value};
@@ -101,9 +101,16 @@ fn is_wanted(wanted: &Wanted, qualifier: &Value) -> bool
 {
     match wanted {
         Wanted::Anything => true,
-        Wanted::Equal(value) => value == qualifier,
+        Wanted::Equal(value) => are_equal(value, qualifier),
         Wanted::Nothing => false,
     }
+}
+
+#[tactic(auto, using(crate::proofs::Equal::same_are_equal))]
+fn are_equal(value: &Value, qualifier: &Value) -> bool
+    ensures { result ≡ are_equal (value_of value.now) (value_of qualifier.now) }
+{
+    value == qualifier
 }
 
 /// Whether these qualifiers are what is asked, one by one. Perhaps more may follow.

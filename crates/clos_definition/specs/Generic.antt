@@ -1,7 +1,6 @@
 -- Generic functions that are defined (HyperSpec 7.7 defgeneric).
-use Rattle.std.specs.Prelude.{ℕ, Bool, true, false, not, List, [], ◌∷◌, ◌++◌, Option, Some, None, drop, length, map, position, slice_get, unwrap_or}
+use Rattle.std.specs.Prelude.{ℕ, Bool, true, false, not, List, [], ◌∷◌, ◌++◌, Option, Some, None, drop, length, map, option_map, position, slice_get, unwrap_or}
 use Rattle.std.specs.List.{filter}
-use Rattle.lisp_data.specs.Datum.{Dats, nil, cons}
 use Rattle.lisp_data.specs.Name.{Name, same_name}
 use Rattle.lisp_data.specs.Value.{Val}
 use Rattle.clos_class.specs.Table as classes
@@ -17,8 +16,11 @@ use Rattle.clos_generic.specs.declared.changes.Removal.{Removal}
 use Rattle.clos_generic.specs.declared.options.Options.{Options}
 use Rattle.clos_method.specs.Shape.{shape_of}
 use Rattle.clos_method.specs.declared.method.Method.{Method}
+use Rattle.clos_forms.specs.Quotation.{name_value}
+use Rattle.clos_world.specs.clos_comb.Fault.{Misuse, undefined, arguments, misuse}
 use Rattle.clos_world.specs.World.{State}
 use Rattle.clos_world.specs.declared.condition.Condition.{Condition}
+use Rattle.clos_world.specs.declared.condition.ConditionKind.TheVariants.{UndefinedCombination}
 use Rattle.clos_definition.specs.Effect.{changed, changes_of}
 use Rattle.clos_definition.specs.Method.{eql_form, method_with, open_addition, specializers_refusal}
 use Rattle.clos_definition.specs.Refusal.{or_else, program_error, table_refusal, taken_refusal, when}
@@ -44,14 +46,15 @@ options_of d = record {
 abbrev pub definition_of : GenericDefinition → Definition
 definition_of d = record { name = d.name; options = options_of d }
 
-abbrev pub is_no_data : Dats → Bool
-is_no_data nil = true
-is_no_data (cons d l) = false
+-- why a function does not use a method combination: there is none of this name, or it does not take these arguments
+abbrev pub misuse_told : Name → Misuse → Condition
+misuse_told name undefined = record { kind = UndefinedCombination; items = name_value name ∷ [] }
+misuse_told name arguments = program_error
 
--- Standard method combination takes no arguments.
-abbrev pub combination_refusal : Option CombinationUse → Option Condition
-combination_refusal None = None
-combination_refusal (Some c) = when (not (is_no_data c.arguments)) program_error
+-- its method combination is not defined as it is used
+abbrev pub combination_refusal : Option CombinationUse → State → Option Condition
+combination_refusal None w = None
+combination_refusal (Some c) w = option_map (misuse_told c.name) (misuse w.combinations c.name c.arguments)
 
 -- ---- methods of an earlier defgeneric, which go if they are still there
 
@@ -103,9 +106,9 @@ generic_changes d None w = record {
 }
 generic_changes d (Some vs) w = changes_of (earlier_methods w.generics (named w.generics d.name)) (definition_of d ∷ []) (initial_methods d vs w)
 
--- what is wrong by itself: the name is a function's, the combination does not take its arguments, or a class is not defined
+-- what is wrong by itself: the name is a function's, the combination is not defined or does not take its arguments, or a class is not defined
 abbrev pub names_refusal : GenericDefinition → State → Option Condition
-names_refusal d w = or_else (taken_refusal d.name w) (or_else (combination_refusal d.combination) (methods_refusal d.methods w))
+names_refusal d w = or_else (taken_refusal d.name w) (or_else (combination_refusal d.combination w) (methods_refusal d.methods w))
 
 -- why it can't be defined: that, or what the table of generic functions refuses
 abbrev pub generic_refusal : GenericDefinition → Option (List (Option Val)) → State → Option Condition

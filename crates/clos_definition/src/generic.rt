@@ -22,13 +22,13 @@ use clos_generic::{
 use clos_method::Shape;
 use clos_store::Slot;
 use clos_syntax::{CombinationUse, GenericDefinition, MethodDefinition, Sequence};
-use clos_world::{ConditionKind, Stop, World, plain};
+use clos_world::{ConditionKind, Stop, UseFault, World, about_name, plain};
 use lisp_data::{GenericId, MethodId, Name};
 use std::alloc::{AllocError, Global};
 use std::collections::VecDeque;
 
 /// Whether a generic function may be defined, as far as this is known before the forms of the specializers of its methods are
-/// evaluated: the name is not that of a function, its method combination takes its arguments, the classes are defined, and the lambda
+/// evaluated: the name is not that of a function, its method combination is defined and takes its arguments, the classes are defined, and the lambda
 /// lists of its methods, and of those that stay, are congruent with it.
 pub fn check_generic(
     alloc: Global,
@@ -92,22 +92,30 @@ fn refuse_generic(alloc: Global, world: &World, definition: &GenericDefinition) 
     ensures { Allows (names_refusal definition.now (seen world.now)) result }
 {
     refuse_taken(alloc, world, &definition.name)?;
-    refuse_combination(alloc, &definition.combination)?;
+    refuse_combination(alloc, world, &definition.combination)?;
     refuse_methods(alloc, world, definition.methods.as_slice())
 }
 
-/// A program error where standard method combination is given arguments.
-fn refuse_combination(alloc: Global, combination: &Option<CombinationUse>) -> Result<(), Stop>
-    ensures { Allows (combination_refusal combination.now) result }
+/// A condition where its method combination is not defined, or does not take its arguments.
+fn refuse_combination(
+    alloc: Global,
+    world: &World,
+    combination: &Option<CombinationUse>,
+) -> Result<(), Stop>
+    ensures { Allows (combination_refusal combination.now (seen world.now)) result }
 {
     match combination {
         None => Ok(()),
-        Some(combination) => {
-            if combination.arguments.split_first().is_some() {
-                return Err(Stop::Refused(plain(alloc, ConditionKind::ProgramError)));
+        Some(used) => match world.combinations.fits(&used.name, &used.arguments) {
+            Ok(()) => Ok(()),
+            Err(UseFault::Undefined) => {
+                let kind = ConditionKind::UndefinedCombination;
+                Err(Stop::Refused(about_name(alloc, kind, &used.name)?))
             }
-            Ok(())
-        }
+            Err(UseFault::Arguments) => {
+                Err(Stop::Refused(plain(alloc, ConditionKind::ProgramError)))
+            }
+        },
     }
 }
 

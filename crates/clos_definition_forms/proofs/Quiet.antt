@@ -1,8 +1,11 @@
 -- With no step left a definition changes nothing.
-use Rattle.std.proofs.Common.{◌≡◌, ℕ, List, [], ◌∷◌, Option, Some, None, Result, Ok, Err, map, length, refl}
+use Rattle.std.proofs.Common.{◌≡◌, ℕ, List, [], ◌∷◌, Bool, true, false, Option, Some, None, Result, Ok, Err, map, length, refl}
+use Rattle.std.specs.Prelude.{if◌then◌else◌}
 use Rattle.lisp_data.specs.Value.{Val, class, generic, method}
 use Rattle.clos_forms.specs.Form.{Form}
 use Rattle.clos_forms.specs.declared.operator.FunctionName.{FunctionName}
+use Rattle.clos_machine.specs.clos_world.clos_comb.Table.{has_room, is_predefined, name_of}
+use Rattle.clos_machine.specs.clos_world.clos_comb.clos_combination.declared.combination.CombinationDefinition.{CombinationDefinition}
 use Rattle.clos_machine.specs.clos_world.clos_generic.Table.{number}
 use Rattle.clos_syntax.specs.declared.class.ClassDefinition.{ClassDefinition}
 use Rattle.clos_syntax.specs.declared.generic.GenericDefinition.{GenericDefinition}
@@ -13,7 +16,8 @@ use Rattle.clos_definition.specs.Class.{cells_needed, class_number, class_refusa
 use Rattle.clos_definition.specs.Generic.{eql_forms, generic_refusal, with_defined_generic}
 use Rattle.clos_definition.specs.Method.{eql_form, method_refusal, with_defined_method}
 use Rattle.clos_definition.specs.Removal.{removable}
-use Rattle.clos_machine.specs.clos_meaning.Outcome.{Run, leaves}
+use Rattle.clos_machine.specs.clos_meaning.Outcome.{Out, Run, leaves}
+use Rattle.clos_definition_forms.specs.Combination.{define_combination}
 use Rattle.clos_definition_forms.specs.Definition.{class_made, define_class, define_generic, define_method, generic_made, method_made, new_class, removed_if, remove_method, takes_effect, unless, value_at, values_removed}
 use Rattle.clos_definition_forms.specs.Forms.{forms_evaluated}
 use Rattle.clos_definition_forms.proofs.Evaluated.{forms_quiet}
@@ -76,3 +80,14 @@ values_removed_quiet vs w = removed_quiet (value_at vs 0) (removable (value_at v
 
 pub remove_method_quiet : (f m : Form) (w : State) → w.locals ≡ [] → leaves (remove_method f m w 0) w 0
 remove_method_quiet f m w e = forms_quiet (Some f ∷ Some m ∷ []) [] values_removed w e (λ vs. values_removed_quiet vs w)
+
+-- ---- define-method-combination
+
+-- whichever of two it is
+either : (b : Bool) (x y : Out) (w : State) → leaves x w 0 → leaves y w 0 → leaves (if b then x else y) w 0
+either true x y w h g = h
+either false x y w h g = g
+
+pub define_combination_quiet : (d : CombinationDefinition) (w : State) → leaves (define_combination d w 0) w 0
+define_combination_quiet d w =
+    either (is_predefined (name_of d)) _ _ w (refl, refl) (either (has_room w.combinations (name_of d)) _ _ w (refl, refl) (refl, refl))

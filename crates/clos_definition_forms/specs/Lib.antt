@@ -2,6 +2,7 @@ pub mod Variable
 pub mod Forms
 pub mod Function
 pub mod Definition
+pub mod Combination
 pub use Rattle.clos_machine.specs as clos_machine
 pub use Rattle.clos_machine.specs.clos_world as clos_world
 pub use Rattle.clos_definition.specs as clos_definition

@@ -1,6 +1,7 @@
 //! Definition forms: what each evaluates, and the one step of its effect.
 #![tactic(auto)]
 
+mod combination;
 mod definition;
 mod forms;
 mod function;
@@ -8,6 +9,7 @@ mod variable;
 
 pub use clos_eval::evaluate;
 pub use clos_machine::{Condition, ConditionKind, Limits, Stop, Values, World, plain};
+pub use combination::define_combination;
 pub use definition::{defclass, defgeneric, defmethod, remove_method};
 pub use function::defun;
 pub use variable::define_variable;

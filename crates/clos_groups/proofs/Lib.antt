@@ -1,3 +1,3 @@
 mod Among
-mod Ambiguity
+pub mod Ambiguity
 pub mod First

@@ -2,8 +2,8 @@
 use Rattle.std.specs.Prelude.{◌≡◌, ◌↔◌, ℕ, List, Some}
 use Rattle.lisp_data.specs.Value.{Val}
 use Rattle.clos_groups.specs.Group.{IsFirstToTake, group_for}
-use Rattle.clos_groups.specs.declared.group.Group.{Group}
+use Rattle.clos_combination.specs.declared.group.GroupSpecifier.{GroupSpecifier}
 
 -- the group at a place is the one of these qualifiers exactly where it takes them, and none before it does
 abbrev pub TakesFirst : Type 0
-TakesFirst = (gs : List Group) (qs : List Val) (k : ℕ) → (group_for gs qs ≡ Some k) ↔ IsFirstToTake gs qs k
+TakesFirst = (gs : List GroupSpecifier) (qs : List Val) (k : ℕ) → (group_for gs qs ≡ Some k) ↔ IsFirstToTake gs qs k

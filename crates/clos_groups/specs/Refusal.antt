@@ -5,7 +5,7 @@ use Rattle.lisp_data.specs.Print.{Specializer}
 use Rattle.clos_method.specs.Specializer.{same_specializers}
 use Rattle.clos_method.specs.declared.method.Method.{Method}
 use Rattle.clos_groups.specs.Group.{has_group, is_in, members}
-use Rattle.clos_groups.specs.declared.group.Group.{Group}
+use Rattle.clos_combination.specs.declared.group.GroupSpecifier.{GroupSpecifier}
 
 pub data Refusal : Type 0 where
   invalid_method : ℕ → Refusal  -- no group takes this method
@@ -13,11 +13,11 @@ pub data Refusal : Type 0 where
   ambiguous_methods : ℕ → ℕ → Refusal  -- these are of one group, and their specializers are equal
 
 -- the first method that no group takes
-abbrev pub ungrouped : List Method → List Group → List ℕ → Option ℕ
+abbrev pub ungrouped : List Method → List GroupSpecifier → List ℕ → Option ℕ
 ungrouped methods gs ms = find (λ m. not (has_group methods gs m)) ms
 
 -- the place of the first group from this place on that has no method, and has to have one
-abbrev pub empty_from : List Method → List Group → List ℕ → ℕ → List Group → Option ℕ
+abbrev pub empty_from : List Method → List GroupSpecifier → List ℕ → ℕ → List GroupSpecifier → Option ℕ
 empty_from methods gs ms k [] = None
 empty_from methods gs ms k (g ∷ rest) =
     if g.required && not (list_any (is_in methods gs k) ms) then Some k else empty_from methods gs ms (k + 1) rest
@@ -57,11 +57,10 @@ abbrev pub or_twins : Option (ℕ × ℕ) → Option (ℕ × ℕ) → Option (�
 or_twins (Some p) later = Some p
 or_twins None later = later
 
--- the pair of the first group from this place on that has one
-abbrev pub ambiguous_from : List Method → List Group → List ℕ → List ℕ → ℕ → List Group → Option (ℕ × ℕ)
-ambiguous_from methods gs added ms k [] = None
-ambiguous_from methods gs added ms k (g ∷ rest) =
-    or_twins (twins methods (among (members methods gs k ms) added)) (ambiguous_from methods gs added ms (k + 1) rest)
+-- the pair of the first group from this place on that has one; these methods are in order of addition
+abbrev pub ambiguous_from : List Method → List GroupSpecifier → List ℕ → ℕ → List GroupSpecifier → Option (ℕ × ℕ)
+ambiguous_from methods gs ms k [] = None
+ambiguous_from methods gs ms k (g ∷ rest) = or_twins (twins methods (members methods gs k ms)) (ambiguous_from methods gs ms (k + 1) rest)
 
 -- ---- the first of these that is so
 
@@ -81,6 +80,6 @@ or_empty (Some m) empty pair = Some (invalid_method m)
 or_empty None empty pair = or_ambiguous empty pair
 
 -- Why these methods of a function, of which these were added in this order, are not combined by groups.
-abbrev pub refusal : List Method → List Group → List ℕ → List ℕ → Option Refusal
+abbrev pub refusal : List Method → List GroupSpecifier → List ℕ → List ℕ → Option Refusal
 refusal methods gs added ms =
-    or_empty (ungrouped methods gs ms) (empty_from methods gs ms 0 gs) (ambiguous_from methods gs added ms 0 gs)
+    or_empty (ungrouped methods gs ms) (empty_from methods gs ms 0 gs) (ambiguous_from methods gs (among ms added) 0 gs)

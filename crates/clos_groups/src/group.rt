@@ -5,35 +5,15 @@ ghost use Rattle.lisp_data.specs.ValueView.{value_of};
 ghost use Rattle.clos_combination.specs.Pattern.{matches};
 ghost use Rattle.clos_groups.specs.Group.{group_for, group_of, has_group, is_in, is_the, takes};
 
-use clos_combination::Pattern;
-use clos_lambda::Sequence;
+use clos_combination::{GroupSpecifier, Pattern};
 use clos_method::{Method, method_numbered};
-use lisp_data::{MethodId, Name, Value};
+use lisp_data::{MethodId, Value};
 
-/// The order of the methods of a group (HyperSpec 7.7 `define-method-combination`).
-#[derive(Clone, Copy, Debug, Drop, PartialEq, Eq)]
-pub enum Direction {
-    MostSpecificFirst,
-    MostSpecificLast,
-}
-
-/// A group of methods: those whose qualifiers one of its patterns matches, and no group before it takes.
-#[derive(Drop)]
-pub struct Group {
-    pub name: Name,
-    pub patterns: Sequence<Pattern>,
-    pub direction: Direction,
-    /// Whether there has to be a method.
-    pub required: bool,
-}
-
-impl Group {
-    /// Whether one of its patterns matches these qualifiers.
-    pub fn takes(&self, qualifiers: &[Value]) -> bool
-        ensures { result ≡ takes self.now (map value_of qualifiers.now) }
-    {
-        any_matches(self.patterns.as_slice(), qualifiers)
-    }
+/// Whether one of its patterns matches these qualifiers.
+pub fn takes(group: &GroupSpecifier, qualifiers: &[Value]) -> bool
+    ensures { result ≡ takes group.now (map value_of qualifiers.now) }
+{
+    any_matches(group.patterns.as_slice(), qualifiers)
 }
 
 fn any_matches(patterns: &[Pattern], qualifiers: &[Value]) -> bool
@@ -43,11 +23,11 @@ fn any_matches(patterns: &[Pattern], qualifiers: &[Value]) -> bool
 }
 
 /// The place of the first group that takes these qualifiers.
-pub(crate) fn group_for(groups: &[Group], qualifiers: &[Value]) -> Option<usize>
+pub(crate) fn group_for(groups: &[GroupSpecifier], qualifiers: &[Value]) -> Option<usize>
     ensures { result ≡ group_for groups.now (map value_of qualifiers.now) }
 {
     for place in 0..groups.len() {
-        if groups[place].takes(qualifiers) {
+        if takes(&groups[place], qualifiers) {
             return Some(place);
         }
     }
@@ -55,7 +35,7 @@ pub(crate) fn group_for(groups: &[Group], qualifiers: &[Value]) -> Option<usize>
 }
 
 /// The place of the group of the method of this number.
-pub(crate) fn group_of(methods: &[Method], groups: &[Group], id: MethodId) -> Option<usize>
+pub(crate) fn group_of(methods: &[Method], groups: &[GroupSpecifier], id: MethodId) -> Option<usize>
     ensures { result ≡ group_of methods.now groups.now id.0 }
 {
     match method_numbered(methods, id) {
@@ -65,14 +45,19 @@ pub(crate) fn group_of(methods: &[Method], groups: &[Group], id: MethodId) -> Op
 }
 
 /// Whether a method has a group.
-pub(crate) fn has_group(methods: &[Method], groups: &[Group], id: MethodId) -> bool
+pub(crate) fn has_group(methods: &[Method], groups: &[GroupSpecifier], id: MethodId) -> bool
     ensures { result ≡ has_group methods.now groups.now id.0 }
 {
     group_of(methods, groups, id).is_some()
 }
 
 /// Whether a method is of the group at this place.
-pub(crate) fn is_in(methods: &[Method], groups: &[Group], place: usize, id: MethodId) -> bool
+pub(crate) fn is_in(
+    methods: &[Method],
+    groups: &[GroupSpecifier],
+    place: usize,
+    id: MethodId,
+) -> bool
     ensures { result ≡ is_in methods.now groups.now place id.0 }
 {
     is_the(group_of(methods, groups, id), place)

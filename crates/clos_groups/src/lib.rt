@@ -9,6 +9,12 @@ mod member;
 pub mod refusal;
 mod twins;
 
-pub use group::{Direction, Group};
-pub use member::members;
+pub use clos_combination::{
+    CombinationDefinition, ExpansionFault, GroupSpecifier, LongForm, MAX_CONSES, OptionalParameter,
+    Order, Parameters, Pattern, Scope, Sequence, ShortForm, Template, expand, from_elements,
+    is_key, nil_symbol, truth,
+};
+pub use clos_method::Method;
+pub use group::takes;
+pub use member::{has_all, members};
 pub use refusal::{GroupRefusal, find_refusal};

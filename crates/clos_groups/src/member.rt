@@ -2,11 +2,12 @@
 ghost use Rattle.std.specs.Prelude.{◌≡◌, ◌==◌, ℕ, IfOk, nat_eq};
 ghost use Rattle.clos_method.specs.MethodIds.{method_numbers};
 ghost use Rattle.std.specs.HashSet.{contains};
-ghost use Rattle.std.specs.List.{list_any};
+ghost use Rattle.std.specs.List.{list_all, list_any};
 ghost use Rattle.clos_groups.specs.Group.{members};
 ghost use Rattle.clos_groups.specs.Refusal.{among};
 
-use crate::group::{Group, is_in};
+use crate::group::is_in;
+use clos_combination::GroupSpecifier;
 use clos_method::Method;
 use lisp_data::MethodId;
 use std::alloc::{AllocError, Global};
@@ -16,7 +17,7 @@ use std::collections::HashSet;
 pub fn members(
     alloc: Global,
     methods: &[Method],
-    groups: &[Group],
+    groups: &[GroupSpecifier],
     place: usize,
     ids: &[MethodId],
 ) -> Result<Vec<MethodId>, AllocError>
@@ -47,6 +48,19 @@ pub(crate) fn among(
         }
     }
     Ok(members)
+}
+
+/// Whether each of these methods is among those.
+pub fn has_all(alloc: Global, ids: &[MethodId], called: &[MethodId]) -> Result<bool, AllocError>
+    ensures { IfOk result (λ b. b ≡ list_all (λ m. list_any (λ n. n == m) (method_numbers ids.now)) (method_numbers called.now)) }
+{
+    let known = numbers_of(alloc, ids)?;
+    for id in called {
+        if !known.contains(&id.0) {
+            return Ok(false);
+        }
+    }
+    Ok(true)
 }
 
 fn numbers_of(alloc: Global, ids: &[MethodId]) -> Result<HashSet<u64>, AllocError>

@@ -6,9 +6,10 @@ ghost use Rattle.clos_groups.specs.Group.{is_in};
 ghost use Rattle.clos_groups.specs.Refusal.{ambiguous_from, empty_from, refusal, ungrouped};
 ghost use Rattle.clos_groups.specs.RefusalView.{pair_of, refusal_of};
 
-use crate::group::{Group, has_group, is_in};
+use crate::group::{has_group, is_in};
 use crate::member::{among, members};
 use crate::twins::twins;
+use clos_combination::GroupSpecifier;
 use clos_method::Method;
 use lisp_data::MethodId;
 use std::alloc::{AllocError, Global};
@@ -30,7 +31,7 @@ pub enum GroupRefusal {
 pub fn find_refusal(
     alloc: Global,
     methods: &[Method],
-    groups: &[Group],
+    groups: &[GroupSpecifier],
     added: &[MethodId],
     ids: &[MethodId],
 ) -> Result<Option<GroupRefusal>, AllocError>
@@ -44,14 +45,15 @@ pub fn find_refusal(
     if let Some(place) = empty_group(methods, groups, ids) {
         return Ok(Some(GroupRefusal::GroupEmpty(place)));
     }
-    match ambiguous(alloc, methods, groups, added, ids)? {
+    let in_order = among(alloc, ids, added)?;
+    match ambiguous(alloc, methods, groups, &in_order)? {
         None => Ok(None),
         Some((earlier, later)) => Ok(Some(GroupRefusal::AmbiguousMethods(earlier, later))),
     }
 }
 
 /// The first of these methods that no group takes.
-fn ungrouped(methods: &[Method], groups: &[Group], ids: &[MethodId]) -> Option<MethodId>
+fn ungrouped(methods: &[Method], groups: &[GroupSpecifier], ids: &[MethodId]) -> Option<MethodId>
     ensures { option_map (λ m. m.0) result ≡ ungrouped methods.now groups.now (method_numbers ids.now) }
 {
     for id in ids {
@@ -63,7 +65,7 @@ fn ungrouped(methods: &[Method], groups: &[Group], ids: &[MethodId]) -> Option<M
 }
 
 /// The place of the first group that has none of these methods, and has to have one.
-fn empty_group(methods: &[Method], groups: &[Group], ids: &[MethodId]) -> Option<usize>
+fn empty_group(methods: &[Method], groups: &[GroupSpecifier], ids: &[MethodId]) -> Option<usize>
     ensures { result ≡ empty_from methods.now groups.now (method_numbers ids.now) 0 groups.now }
 {
     for place in 0..groups.len() {
@@ -75,7 +77,7 @@ fn empty_group(methods: &[Method], groups: &[Group], ids: &[MethodId]) -> Option
 }
 
 /// Whether one of these methods is of the group at this place.
-fn has_member(methods: &[Method], groups: &[Group], place: usize, ids: &[MethodId]) -> bool
+fn has_member(methods: &[Method], groups: &[GroupSpecifier], place: usize, ids: &[MethodId]) -> bool
     ensures { result ≡ list_any (is_in methods.now groups.now place) (method_numbers ids.now) }
 {
     for id in ids {
@@ -86,19 +88,17 @@ fn has_member(methods: &[Method], groups: &[Group], place: usize, ids: &[MethodI
     false
 }
 
-/// The pair of the first group that has two of these methods with equal specializers.
+/// The pair of the first group that has two of these methods with equal specializers. They are in order of addition.
 fn ambiguous(
     alloc: Global,
     methods: &[Method],
-    groups: &[Group],
-    added: &[MethodId],
+    groups: &[GroupSpecifier],
     ids: &[MethodId],
 ) -> Result<Option<(MethodId, MethodId)>, AllocError>
-    ensures { IfOk result (λ r. option_map pair_of r ≡ ambiguous_from methods.now groups.now (method_numbers added.now) (method_numbers ids.now) 0 groups.now) }
+    ensures { IfOk result (λ r. option_map pair_of r ≡ ambiguous_from methods.now groups.now (method_numbers ids.now) 0 groups.now) }
 {
     for place in 0..groups.len() {
         let members = members(alloc, methods, groups, place, ids)?;
-        let members = among(alloc, &members, added)?;
         if let Some(pair) = twins(alloc, methods, &members)? {
             return Ok(Some(pair));
         }

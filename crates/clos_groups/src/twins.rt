@@ -12,6 +12,7 @@ use std::collections::HashMap;
 
 /// Of the pairs of these methods whose specializers are equal the one whose earlier method, and then whose later one, comes
 /// first: found in time that grows with the number of methods.
+#[tactic(auto, using(crate::proofs::Ambiguity::alone))]
 pub(crate) fn twins(
     alloc: Global,
     methods: &[Method],
@@ -19,6 +20,9 @@ pub(crate) fn twins(
 ) -> Result<Option<(MethodId, MethodId)>, AllocError>
     ensures { IfOk result (λ r. option_map pair_of r ≡ twins methods.now (method_numbers ids.now)) }
 {
+    if ids.len() < 2 {
+        return Ok(None);
+    }
     let mut next = HashMap::new(alloc);
     let mut found = None;
     let mut at = ids.len();

@@ -13,6 +13,7 @@ pub mod truth;
 
 pub use clos_forms::{ClassFunction, Output, SlotFunction};
 pub use clos_meaning::{
-    Arguments, Condition, ConditionKind, Context, Dispatch, Function, Limits, Running, Stop,
-    Values, World, about, about_both, about_name, called_value, plain, setter_value,
+    Arguments, CombinationDefinition, Condition, ConditionKind, Context, Dispatch, Function,
+    Limits, Running, Stop, Values, World, about, about_both, about_name, called_value, name_of,
+    plain, setter_value,
 };

@@ -79,10 +79,10 @@ use Rattle.clos_forms.specs.clos_names.declared.callee.Callee.TheVariants.{Outpu
 use Rattle.clos_forms.specs.clos_names.declared.callee.Output as output
 
 pub same : (w : State) → Same w w
-same w = (refl, refl, refl, refl)
+same w = (refl, refl, refl, refl, refl)
 
 pub same_then : (w u t : State) → Same w u → Same u t → Same w t
-same_then w u t h g = (g.0 ∙ h.0, g.1 ∙ h.1, g.2 ∙ h.2, g.3 ∙ h.3)
+same_then w u t h g = (g.0 ∙ h.0, g.1 ∙ h.1, g.2 ∙ h.2, g.3 ∙ h.3, g.4 ∙ h.4)
 
 -- the definitions after it are those before
 abbrev pub SameAfter : State → Out → Type 0
@@ -309,13 +309,16 @@ module _ (ev : Eval) (h : Keeps ev) where
   combined_kept env f (outcome.effective e) w k = restored w.locals w k (ev env e (bound_as [] w) k) (h env e (bound_as [] w) k)
   combined_kept env f (outcome.invalid_method m) w k = still w k
   combined_kept env f (outcome.group_empty name) w k = still w k
+  combined_kept env f (outcome.ambiguous_methods m n) w k = still w k
+  combined_kept env f outcome.bad_expansion w k = still w k
+  combined_kept env f outcome.expansion_limit w k = still w k
 
   matched_kept : (vs : List Val) (g : ℕ) (f : generics.Function) (other : Run) (ms : List ℕ) (w : State) (k : ℕ) → Kept w k (other w k)
       → Kept w k (matched_or ev vs g f other ms w k)
   matched_kept vs g f other [] w k e = e
   matched_kept vs g f other (m ∷ ms) w k e =
       choice_kept (keywords_fit w.generics g (m ∷ ms) (after_positional f.shape vs)) w k _ _
-      (combined_kept (in_call (record { generic = g; methods = m ∷ ms }) vs) f (comb.effective w.generics g (m ∷ ms)) w k) (still w k)
+      (combined_kept (in_call (record { generic = g; methods = m ∷ ms }) vs) f (comb.effective w.combinations w.generics g (m ∷ ms)) w k) (still w k)
 
   unmatched_kept : (vs : List Val) (o : Option generics.Function) (w : State) (k : ℕ) → Kept w k (unmatched_by ev vs o w k)
   unmatched_kept vs None w k = still w k

@@ -3,7 +3,7 @@ use Rattle.std.specs.Prelude.{ℕ, ◌+◌, Bool, true, false, not, ◌&&◌, �
 use Rattle.lisp_data.specs.Name.{Name}
 use Rattle.lisp_data.specs.Value.{Val, generic, method, symbol}
 use Rattle.clos_world.specs.clos_comb.Effective as comb
-use Rattle.clos_world.specs.clos_comb.Outcome.{Combined, effective, invalid_method, group_empty}
+use Rattle.clos_world.specs.clos_comb.Outcome.{Combined, effective, invalid_method, group_empty, ambiguous_methods, bad_expansion, expansion_limit}
 use Rattle.clos_world.specs.clos_generic.Calls.{accepts, allows_all, checks_keywords}
 use Rattle.clos_world.specs.clos_generic.Table.{Function, Table}
 use Rattle.clos_world.specs.clos_method.Shape.{takes_count}
@@ -13,7 +13,7 @@ use Rattle.clos_world.specs.clos_method.declared.system.SystemFunction.{SystemFu
 use Rattle.clos_world.specs.clos_method.declared.system.SystemFunction.TheVariants.{NoApplicableMethod}
 use Rattle.clos_world.specs.Dispatch.{ordered}
 use Rattle.clos_world.specs.FunctionName.{called_value}
-use Rattle.clos_world.specs.declared.condition.ConditionKind.TheVariants.{InvalidMethod, ProgramError, RequiredGroupEmpty}
+use Rattle.clos_world.specs.declared.condition.ConditionKind.TheVariants.{AmbiguousMethods, BadExpansion, ExpansionLimit, InvalidMethod, ProgramError, RequiredGroupEmpty}
 use Rattle.clos_meaning.specs.Bodies.{scoped}
 use Rattle.clos_meaning.specs.ClassFunctions.{symbol_in}
 use Rattle.clos_meaning.specs.Contexts.{in_call}
@@ -53,13 +53,16 @@ keywords_fit t g ms vs = not (checks_keywords t g ms) || keys_fit t g ms vs
 abbrev pub combined_run : Eval → Context → Function → Combined → Run
 combined_run ev env f (effective e) w s = scoped (ev env e) [] w s
 combined_run ev env f (invalid_method m) w s = stopped InvalidMethod (method m ∷ []) w s
-combined_run ev env f (group_empty name) w s = stopped RequiredGroupEmpty (called_value f.name ∷ symbol (record { text = name; keyword = false }) ∷ []) w s
+combined_run ev env f (group_empty name) w s = stopped RequiredGroupEmpty (called_value f.name ∷ symbol name ∷ []) w s
+combined_run ev env f (ambiguous_methods m n) w s = stopped AmbiguousMethods (method m ∷ method n ∷ []) w s
+combined_run ev env f bad_expansion w s = stopped BadExpansion (called_value f.name ∷ []) w s
+combined_run ev env f expansion_limit w s = stopped ExpansionLimit (called_value f.name ∷ []) w s
 
 -- a call for which these methods are applicable
 abbrev pub matched : Eval → List Val → ℕ → Function → List ℕ → Run
 matched ev vs g f ms w s =
     if keywords_fit w.generics g ms (after_positional f.shape vs)
-    then combined_run ev (in_call (record { generic = g; methods = ms }) vs) f (comb.effective w.generics g ms) w s
+    then combined_run ev (in_call (record { generic = g; methods = ms }) vs) f (comb.effective w.combinations w.generics g ms) w s
     else stopped ProgramError [] w s
 
 -- where there are any

@@ -6,7 +6,7 @@ pub mod arguments;
 
 pub use arguments::{Arguments, Context, Dispatch, Running};
 pub use clos_world::{
-    Condition, ConditionKind, Effective, EffectiveSlot, Function, Layout, Limits, Stop,
-    SystemFunction, Values, World, about, about_both, about_name, called_value, plain,
-    setter_value,
+    CombinationDefinition, Condition, ConditionKind, Effective, EffectiveSlot, Function, Layout,
+    Limits, Stop, SystemFunction, Values, World, about, about_both, about_name, called_value,
+    name_of, plain, setter_value,
 };

@@ -33,8 +33,12 @@ use Rattle.clos_definition_forms.proofs.clos_machine.clos_meaning.Kept.{same, sa
 use Rattle.clos_definition_forms.specs.Definition.{class_made, define_class, define_generic, define_method, generic_made, method_made, remove_method, removed_if, takes_effect, unless, value_at, values_removed}
 use Rattle.clos_session.specs.Definitions.{DefinesNothing}
 use Rattle.clos_definition_forms.specs.Forms.{form_evaluated, forms_evaluated}
+use Rattle.clos_definition_forms.specs.Combination.{combination_defined, define_combination}
+use Rattle.clos_definition_forms.specs.clos_world.clos_comb.Table as combinations
+use Rattle.clos_definition_forms.specs.clos_world.clos_comb.Table.{is_predefined, name_of}
+use Rattle.clos_definition_forms.specs.clos_world.clos_comb.clos_combination.declared.combination.CombinationDefinition.{CombinationDefinition}
 use Rattle.clos_definition_forms.specs.Function.{has_room, function_defined, setter_defined, define_function}
-use Rattle.clos_session.specs.Served.{is_combination, is_served_top}
+use Rattle.clos_session.specs.Served.{is_served_top}
 use Rattle.clos_session.specs.Session.{Replies}
 use Rattle.clos_session.specs.Step.{checked, performed, room_of, step}
 use Rattle.clos_definition_forms.specs.Variable.{room_below, keeps_value, named as defined_name, declared, value_given, new_value, variable_defined}
@@ -131,6 +135,12 @@ function_refuses (Setf name) f w k =
     (choice_refuses (is_some (function_in w.setters name) || has_room w) w (step_then (setter_defined name f) w k) _
     (step_refuses (setter_defined name f) w k (λ j. tt)) (same w))
 
+combination_refuses : (d : CombinationDefinition) (w : State) (k : ℕ) → Refuses w (define_combination d w k)
+combination_refuses d w k =
+    choice_refuses (is_predefined (name_of d)) w _ _ (same w)
+    (choice_refuses (combinations.has_room w.combinations (name_of d)) w (step_then (combination_defined d) w k) _
+    (step_refuses (combination_defined d) w k (λ j. tt)) (same w))
+
 -- ---- variables
 
 -- a step after an evaluation
@@ -157,7 +167,7 @@ performed_refuses : (top : Top) (w : State) (k : ℕ) → Refuses w (performed t
 performed_refuses (DefClass d) w k = class_refuses d (named w.classes d.name) w k
 performed_refuses (DefGeneric d) w k = generic_refuses d w k
 performed_refuses (DefMethod name m) w k = method_refuses name m w k
-performed_refuses (DefCombination c) w k = same w
+performed_refuses (DefCombination c) w k = combination_refuses c w k
 performed_refuses (Defun f) w k = function_refuses f.name (record { lambda_list = f.lambda_list; body = f.body }) w k
 performed_refuses (DefVar d) w k = variable_refuses d w k
 performed_refuses (RemoveMethod function m) w k = removal_refuses function m w k
@@ -171,7 +181,7 @@ checked_refuses None w k = same w
 checked_refuses (Some top) w k = choice_refuses (is_served_top top) w (performed top w k) _ (performed_refuses top w k) (same w)
 
 step_refused : (d : Dat) (w : State) (k : ℕ) → Refuses w (step d w k)
-step_refused d w k = choice_refuses (is_combination d) w _ (checked (top_of d) w k) (same w) (checked_refuses (top_of d) w k)
+step_refused d w k = checked_refuses (top_of d) w k
 
 -- what a session replies
 pub defines_nothing : (d : Dat) (s : ℕ) (w u : State) (r : Reply) → Replies (step d) s w r u → DefinesNothing r w u

@@ -26,10 +26,10 @@ use Rattle.clos_definition_forms.specs.clos_machine.clos_meaning.Meaning.{evalua
 use Rattle.clos_definition_forms.specs.clos_machine.clos_meaning.Outcome.{Noted, Out, Gave, Stopped, Run, then_do, step_then, leaves}
 use Rattle.clos_definition_forms.proofs.clos_machine.clos_meaning.Quiet.{evaluation_quiet}
 use Rattle.clos_definition_forms.specs.Function.{has_room, define_function}
-use Rattle.clos_session.specs.Served.{is_combination, is_served_top}
+use Rattle.clos_session.specs.Served.{is_served_top}
 use Rattle.clos_session.specs.Step.{checked, performed, room_of, step}
 use Rattle.clos_definition_forms.specs.Variable.{room_below, keeps_value, value_given, new_value, variable_defined}
-use Rattle.clos_definition_forms.proofs.Quiet.{define_class_quiet, define_generic_quiet, define_method_quiet, remove_method_quiet}
+use Rattle.clos_definition_forms.proofs.Quiet.{define_class_quiet, define_combination_quiet, define_generic_quiet, define_method_quiet, remove_method_quiet}
 
 either : (b : Bool) (x y : Out) (w : State) → leaves x w 0 → leaves y w 0 → leaves (if b then x else y) w 0
 either true x y w p q = p
@@ -65,7 +65,7 @@ performed_quiet : (top : Top) (w : World) → leaves (performed top (seen w) 0) 
 performed_quiet (DefClass d) w = define_class_quiet d (named (seen w).classes d.name) (seen w) refl
 performed_quiet (DefGeneric d) w = define_generic_quiet d (seen w) refl
 performed_quiet (DefMethod name m) w = define_method_quiet name m (seen w) refl
-performed_quiet (DefCombination c) w = (refl, refl)
+performed_quiet (DefCombination c) w = define_combination_quiet c (seen w)
 performed_quiet (Defun f) w = function_quiet f.name (record { lambda_list = f.lambda_list; body = f.body }) (seen w)
 performed_quiet (DefVar d) w = variable_quiet d w
 performed_quiet (RemoveMethod function m) w = remove_method_quiet function m (seen w) refl
@@ -79,7 +79,7 @@ checked_quiet None w = (refl, refl)
 checked_quiet (Some top) w = either (is_served_top top) (performed top (seen w) 0) _ (seen w) (performed_quiet top w) (refl, refl)
 
 pub step_quiet : (d : Dat) (w : World) → leaves (step d (seen w) 0) (seen w) 0
-step_quiet d w = either (is_combination d) _ (checked (top_of d) (seen w) 0) (seen w) (refl, refl) (checked_quiet (top_of d) w)
+step_quiet d w = checked_quiet (top_of d) w
 
 -- where memory was refused, the steps taken are those that are gone
 pub stored : (run : Run) (w w' : State) (s s' : ℕ) (stop : Stop) → stop ≡ Storage → Answers run w s (Err stop) w' s'

@@ -2,8 +2,6 @@
 use Rattle.std.specs.Prelude.{Bool, true, false, not, ◌&&◌, ◌||◌, Option, Some, None, codes}
 use Rattle.std.specs.List.{list_all}
 use Rattle.lisp_data.specs.Name.{Name}
-use Rattle.lisp_data.specs.Datum.{Dat, integer, symbol, string, list, dotted, method, Dats}
-use Rattle.lisp_data.specs.Datum as datum
 use Rattle.clos_forms.specs.Form.{Form, form, Forms, nil, cons, operator_in}
 use Rattle.clos_forms.specs.clos_names.Names.{is_called, is_one_of, functions}
 use Rattle.clos_forms.specs.Operator.{Operator, call_place}
@@ -12,7 +10,6 @@ use Rattle.clos_lambda.specs.LambdaList.{entries_of}
 use Rattle.clos_lambda.specs.declared.lambda_list.LambdaList.{LambdaList}
 use Rattle.clos_lambda.specs.declared.lambda_list.Optional.{Optional}
 use Rattle.clos_syntax.specs.declared.class.ClassDefinition.{ClassDefinition}
-use Rattle.clos_syntax.specs.declared.generic.CombinationUse.{CombinationUse}
 use Rattle.clos_syntax.specs.declared.generic.GenericDefinition.{GenericDefinition}
 use Rattle.clos_syntax.specs.declared.method.MethodDefinition.{MethodDefinition}
 use Rattle.clos_syntax.specs.declared.top.Top.{Top}
@@ -90,21 +87,16 @@ is_served_function l body = are_inits_served l && are_served body
 abbrev pub is_served_method : MethodDefinition → Bool
 is_served_method m = list_all (λ s. is_served_if_any (eql_form s)) m.specializers && is_served_function m.lambda_list m.body
 
--- The standard method combination alone is served.
-abbrev pub is_standard : Option CombinationUse → Bool
-is_standard None = true
-is_standard (Some c) = is_called (codes "STANDARD") c.name
-
--- its method combination, and the methods of its :method options
+-- the methods of its :method options
 abbrev pub is_served_generic : GenericDefinition → Bool
-is_served_generic g = is_standard g.combination && list_all is_served_method g.methods
+is_served_generic g = list_all is_served_method g.methods
 
--- all forms that stand in it, evaluated at once or later; define-method-combination, add-dependent and remove-dependent are not
+-- all forms that stand in it, evaluated at once or later; add-dependent and remove-dependent are not
 abbrev pub is_served_top : Top → Bool
 is_served_top (DefClass c) = is_served_class c
 is_served_top (DefGeneric g) = is_served_generic g
 is_served_top (DefMethod f m) = is_served_method m
-is_served_top (DefCombination c) = false
+is_served_top (DefCombination c) = true
 is_served_top (Defun f) = is_served_function f.lambda_list f.body
 is_served_top (DefVar v) = is_served_if_any v.form
 is_served_top (RemoveMethod f m) = is_served f && is_served m
@@ -112,26 +104,3 @@ is_served_top (AddDependent f d) = false
 is_served_top (RemoveDependent f d) = false
 is_served_top InPackage = true
 is_served_top (Expr f) = is_served f
-
--- a define-method-combination, which is not served, nor checked
-abbrev pub names_combination : Dat → Bool
-names_combination (integer n) = false
-names_combination (symbol s) = is_called (codes "DEFINE-METHOD-COMBINATION") s
-names_combination (string s) = false
-names_combination (list l) = false
-names_combination (dotted l d) = false
-names_combination (method n) = false
-
--- by the first element of a list
-abbrev pub heads_combination : Dats → Bool
-heads_combination datum.nil = false
-heads_combination (datum.cons d l) = names_combination d
-
--- a list that begins with that name, well-formed or not; no other datum
-abbrev pub is_combination : Dat → Bool
-is_combination (integer n) = false
-is_combination (symbol s) = false
-is_combination (string s) = false
-is_combination (list l) = heads_combination l
-is_combination (dotted l d) = false
-is_combination (method n) = false

@@ -10,9 +10,10 @@ use Rattle.clos_definition_forms.specs.clos_world.World.{State}
 use Rattle.clos_definition_forms.specs.clos_world.declared.condition.ConditionKind.TheVariants.{ProgramError, Unsupported}
 use Rattle.clos_definition_forms.specs.clos_machine.clos_meaning.Meaning.{evaluation}
 use Rattle.clos_definition_forms.specs.clos_machine.clos_meaning.Outcome.{Gave, Run, stopped}
+use Rattle.clos_definition_forms.specs.Combination.{define_combination}
 use Rattle.clos_definition_forms.specs.Definition.{define_class, define_generic, define_method, remove_method}
 use Rattle.clos_definition_forms.specs.Function.{define_function}
-use Rattle.clos_session.specs.Served.{is_combination, is_served_top}
+use Rattle.clos_session.specs.Served.{is_served_top}
 use Rattle.clos_definition_forms.specs.Variable.{variable_defined}
 
 -- how deep its forms may nest
@@ -24,7 +25,7 @@ abbrev pub performed : Top → Run
 performed (DefClass d) w k = define_class d (named w.classes d.name) w k
 performed (DefGeneric d) w k = define_generic d w k
 performed (DefMethod name m) w k = define_method name m w k
-performed (DefCombination c) w k = stopped Unsupported [] w k
+performed (DefCombination c) w k = define_combination c w k
 performed (Defun f) w k = define_function f.name (record { lambda_list = f.lambda_list; body = f.body }) w k
 performed (DefVar d) w k = variable_defined d w k
 performed (RemoveMethod function m) w k = remove_method function m w k
@@ -40,4 +41,4 @@ checked (Some top) w k = if is_served_top top then performed top w k else stoppe
 
 -- the step of a top-level form: the value or the condition, and the state after
 abbrev pub step : Dat → Run
-step d w k = if is_combination d then stopped Unsupported [] w k else checked (top_of d) w k
+step d w k = checked (top_of d) w k

@@ -1,18 +1,17 @@
 //! Which forms are served.
 ghost use Rattle.std.specs.Prelude.{◌≡◌};
 ghost use Rattle.std.specs.List.{list_all};
-ghost use Rattle.lisp_data.specs.DatumView.{datum_of};
 ghost use Rattle.clos_forms.specs.OperatorView.{operator_of};
 ghost use Rattle.clos_lambda.specs.LambdaList.{entries_of};
 ghost use Rattle.clos_definition_forms.specs.clos_definition.Method.{eql_form};
-ghost use Rattle.clos_session.specs.Served.{are_inits_served, are_served, calls, is_combination, is_served, is_served_as, is_served_class, is_served_function, is_served_generic, is_served_if_any, is_served_method, is_served_optional, is_served_top, is_standard, is_update, reads, reads_first, serves};
+ghost use Rattle.clos_session.specs.Served.{are_inits_served, are_served, calls, is_served, is_served_as, is_served_class, is_served_function, is_served_generic, is_served_if_any, is_served_method, is_served_optional, is_served_top, is_update, reads, reads_first, serves};
 
 use clos_forms::{CalledName, Callee, Form, Forms, Operator, Place, is_function, is_the};
 use clos_syntax::{
-    ClassDefinition, CombinationUse, DefaultInitarg, GenericDefinition, Key, Keys, LambdaList,
-    MethodDefinition, Optional, ParameterSpecializer, SlotSpecifier, Top,
+    ClassDefinition, DefaultInitarg, GenericDefinition, Key, Keys, LambdaList, MethodDefinition,
+    Optional, ParameterSpecializer, SlotSpecifier, Top,
 };
-use lisp_data::{Datum, Name};
+use lisp_data::Name;
 
 /// Whether a top-level form is served.
 pub fn is_served_top(top: &Top) -> bool
@@ -22,7 +21,7 @@ pub fn is_served_top(top: &Top) -> bool
         Top::DefClass(class) => is_served_class(class),
         Top::DefGeneric(generic) => is_served_generic(generic),
         Top::DefMethod(_, method) => is_served_method(method),
-        Top::DefCombination(_) => false,
+        Top::DefCombination(_) => true,
         Top::Defun(function) => is_served_function(&function.lambda_list, &function.body),
         Top::DefVar(variable) => is_served_if_any(&variable.form),
         Top::RemoveMethod(function, method) => is_served(function) && is_served(method),
@@ -30,22 +29,6 @@ pub fn is_served_top(top: &Top) -> bool
         Top::RemoveDependent(_, _) => false,
         Top::InPackage => true,
         Top::Expr(form) => is_served(form),
-    }
-}
-
-/// Whether a datum is a `define-method-combination`, which is not served, nor checked.
-pub fn is_combination(datum: &Datum) -> bool
-    ensures { result ≡ is_combination (datum_of datum.now) }
-{
-    match datum {
-        Datum::List(elements) => match elements.split_first() {
-            None => false,
-            Some((head, _)) => match head {
-                Datum::Sym(name) => is_the(name, "DEFINE-METHOD-COMBINATION"),
-                _ => false,
-            },
-        },
-        _ => false,
     }
 }
 
@@ -68,26 +51,17 @@ fn are_defaults_served(defaults: &[DefaultInitarg]) -> bool
     defaults.iter().all(|default| is_served(&default.form))
 }
 
-/// A generic function with the standard method combination, whose methods are served.
+/// A generic function whose methods are served.
 fn is_served_generic(generic: &GenericDefinition) -> bool
     ensures { result ≡ is_served_generic generic.now }
 {
-    is_standard(&generic.combination) && are_methods_served(generic.methods.as_slice())
+    are_methods_served(generic.methods.as_slice())
 }
 
 fn are_methods_served(methods: &[MethodDefinition]) -> bool
     ensures { result ≡ list_all is_served_method methods.now }
 {
     methods.iter().all(|method| is_served_method(method))
-}
-
-fn is_standard(combination: &Option<CombinationUse>) -> bool
-    ensures { result ≡ is_standard combination.now }
-{
-    match combination {
-        None => true,
-        Some(combination) => is_the(&combination.name, "STANDARD"),
-    }
 }
 
 /// A method whose eql forms, init forms and body are served.

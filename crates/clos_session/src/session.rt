@@ -8,10 +8,10 @@ ghost use Rattle.clos_definition_forms.specs.clos_world.Initial.{initial};
 ghost use Rattle.clos_session.specs.Definitions.{DefinesNothing};
 ghost use Rattle.clos_session.specs.Session.{built_of, state_of, Replies};
 
-use crate::served::{is_combination, is_served_top};
+use crate::served::is_served_top;
 use clos_definition_forms::{
-    ConditionKind, Limits, Stop, Values, World, defclass, defgeneric, define_variable, defmethod,
-    defun, evaluate, plain, remove_method,
+    ConditionKind, Limits, Stop, Values, World, defclass, defgeneric, define_combination,
+    define_variable, defmethod, defun, evaluate, plain, remove_method,
 };
 use clos_forms::SyntaxFault;
 use clos_syntax::{Top, parse_top};
@@ -114,9 +114,6 @@ impl Session {
 fn perform(alloc: Global, world: &mut World, datum: &Datum, steps: &mut u64) -> Result<Value, Stop>
     ensures { Answers (step (datum_of datum.now)) (seen world.old) steps.old result (seen world.new) steps.new }
 {
-    if is_combination(datum) {
-        return Err(Stop::Refused(plain(alloc, ConditionKind::Unsupported)));
-    }
     match parse_top(alloc, datum) {
         Ok(top) => perform_top(alloc, world, top, steps),
         Err(SyntaxFault::Program) => Err(Stop::Refused(plain(alloc, ConditionKind::ProgramError))),
@@ -145,7 +142,7 @@ fn perform_served(
         Top::DefClass(definition) => defclass(alloc, world, &definition, steps),
         Top::DefGeneric(definition) => defgeneric(alloc, world, definition, steps),
         Top::DefMethod(name, definition) => defmethod(alloc, world, name, definition, steps),
-        Top::DefCombination(_) => { Err(Stop::Refused(plain(alloc, ConditionKind::Unsupported))) }
+        Top::DefCombination(definition) => define_combination(alloc, world, definition, steps),
         Top::Defun(function) => defun(alloc, world, function, steps),
         Top::DefVar(variable) => define_variable(alloc, world, variable, steps),
         Top::RemoveMethod(function, method) => {

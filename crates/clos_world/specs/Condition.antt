@@ -2,7 +2,7 @@
 use Rattle.std.specs.Prelude.{ℕ, List, false, codes}
 use Rattle.lisp_data.specs.Name.{Name}
 use Rattle.clos_world.specs.declared.condition.ConditionKind.{ConditionKind}
-use Rattle.clos_world.specs.declared.condition.ConditionKind.TheVariants.{ProgramError, UnboundVariable, UndefinedFunction, TypeError, IntegerRange, DivisionByZero, UndefinedClass, InvalidSuperclass, InconsistentPrecedence, SuperclassCycle, IncompleteClass, LambdaListCongruence, NoApplicableMethod, RequiredGroupEmpty, InvalidMethod, NoNextMethod, NextArguments, UnboundSlot, MissingSlot, InvalidInitarg, NoSuchMethod, Unsupported, StepLimit, DepthLimit, TableLimit}
+use Rattle.clos_world.specs.declared.condition.ConditionKind.TheVariants.{ProgramError, UnboundVariable, UndefinedFunction, TypeError, IntegerRange, DivisionByZero, UndefinedClass, InvalidSuperclass, InconsistentPrecedence, SuperclassCycle, IncompleteClass, LambdaListCongruence, UndefinedCombination, NoApplicableMethod, RequiredGroupEmpty, InvalidMethod, AmbiguousMethods, BadExpansion, ExpansionLimit, NoNextMethod, NextArguments, UnboundSlot, MissingSlot, InvalidInitarg, NoSuchMethod, Unsupported, StepLimit, DepthLimit, TableLimit}
 
 abbrev pub number_of : ConditionKind → ℕ
 number_of ProgramError = 1
@@ -17,9 +17,13 @@ number_of InconsistentPrecedence = 9
 number_of SuperclassCycle = 10
 number_of IncompleteClass = 11
 number_of LambdaListCongruence = 12
+number_of UndefinedCombination = 13
 number_of NoApplicableMethod = 14
 number_of RequiredGroupEmpty = 15
 number_of InvalidMethod = 16
+number_of AmbiguousMethods = 17
+number_of BadExpansion = 18
+number_of ExpansionLimit = 19
 number_of NoNextMethod = 20
 number_of NextArguments = 21
 number_of UnboundSlot = 22
@@ -44,9 +48,13 @@ condition_name InconsistentPrecedence = codes "INCONSISTENT-PRECEDENCE"
 condition_name SuperclassCycle = codes "SUPERCLASS-CYCLE"
 condition_name IncompleteClass = codes "INCOMPLETE-CLASS"
 condition_name LambdaListCongruence = codes "LAMBDA-LIST-CONGRUENCE"
+condition_name UndefinedCombination = codes "UNDEFINED-COMBINATION"
 condition_name NoApplicableMethod = codes "NO-APPLICABLE-METHOD"
 condition_name RequiredGroupEmpty = codes "REQUIRED-GROUP-EMPTY"
 condition_name InvalidMethod = codes "INVALID-METHOD"
+condition_name AmbiguousMethods = codes "AMBIGUOUS-METHODS"
+condition_name BadExpansion = codes "BAD-EXPANSION"
+condition_name ExpansionLimit = codes "EXPANSION-LIMIT"
 condition_name NoNextMethod = codes "NO-NEXT-METHOD"
 condition_name NextArguments = codes "NEXT-ARGUMENTS"
 condition_name UnboundSlot = codes "UNBOUND-SLOT"

@@ -1,6 +1,7 @@
 -- A session that begins.
 use Rattle.std.specs.Prelude.{[]}
 use Rattle.clos_class.specs.Table as classes
+use Rattle.clos_comb.specs.Table as combinations
 use Rattle.clos_generic.specs.Initial as generics
 use Rattle.clos_store.specs.Store.{empty}
 use Rattle.clos_world.specs.World.{State}
@@ -10,6 +11,7 @@ abbrev pub initial : Limits → State
 initial limits = record {
   classes = classes.initial limits.classes;
   generics = generics.initial limits.generics limits.methods;
+  combinations = combinations.initial limits.combinations;
   functions = [];
   setters = [];
   globals = [];

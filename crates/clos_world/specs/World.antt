@@ -4,6 +4,7 @@ use Rattle.lisp_data.specs.Name.{Name, same_name}
 use Rattle.lisp_data.specs.Value.{Val, integer, symbol, string, list, class, generic, method, instance, nil, cons}
 use Rattle.lisp_data.specs.Print.{Names, MethodParts}
 use Rattle.clos_forms.specs.OperatorView.{called_of}
+use Rattle.clos_comb.specs.Table as combinations
 use Rattle.clos_generic.specs.Table as generics
 use Rattle.clos_method.specs.declared.method.Method.{Method}
 use Rattle.clos_world.specs.declared.limits.Limits.{Limits}
@@ -28,6 +29,7 @@ Local = Name × Denoted
 pub record State : Type 0 where
   pub classes : Table
   pub generics : generics.Table  -- with all methods ever made
+  pub combinations : combinations.Table  -- the program's method combinations
   pub functions : List (Name × Function)  -- by symbols, in order of definition
   pub setters : List (Name × Function)  -- the functions (setf name), by that name
   pub globals : Variables  -- in order of definition
@@ -41,6 +43,7 @@ abbrev pub seen : World → State
 seen w = record {
   classes = w.classes;
   generics = w.generics.table;
+  combinations = w.combinations;
   functions = w.functions;
   setters = w.setters;
   globals = w.globals;

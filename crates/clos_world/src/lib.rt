@@ -11,6 +11,7 @@ pub mod values;
 pub mod world;
 
 pub use clos_class::{Effective, EffectiveSlot, Layout};
+pub use clos_comb::{CombinationDefinition, UseFault, name_of};
 pub use clos_method::{MethodIds, SystemFunction};
 pub use condition::{
     Condition, ConditionKind, Stop, about, about_both, about_call, about_name, about_names, plain,

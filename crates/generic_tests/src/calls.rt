@@ -2,7 +2,7 @@
 ghost use Rattle.std.specs.Prelude.{◌≡◌, IfOk};
 
 use clos_class::Classes;
-use clos_comb::{Combinations, Outcome};
+use clos_comb::{CombinationFault, Combinations, Outcome, ShortForm, UseFault};
 use clos_forms::{FunctionName, Operator};
 use clos_generic::{GenericFault, Generics, Options, Positions};
 use clos_hierarchy::numbers;
@@ -108,8 +108,25 @@ fn combined(
         },
         Outcome::InvalidMethod(_) => "an invalid method",
         Outcome::RequiredGroupEmpty(_) => "an empty group",
+        Outcome::AmbiguousMethods(_, _) => "ambiguous methods",
+        Outcome::BadExpansion => "a bad expansion",
+        Outcome::ExpansionLimit => "too large an expansion",
     };
     Ok((told, meter.count()))
+}
+
+/// Defines a short form whose operator is that of its name.
+fn define(
+    alloc: Global,
+    combinations: &mut Combinations,
+    name: Name,
+) -> Result<(), CombinationFault> {
+    let form = ShortForm {
+        operator: name.copy()?,
+        name,
+        identity: false,
+    };
+    combinations.define_short(alloc, form)
 }
 
 #[test]
@@ -144,5 +161,21 @@ fn methods_are_combined(rt: HostRuntime) -> Result<(), Fail> {
     assert_eq!(rt; two.0, "multiple-value-prog1");
     let none = combined(rt.alloc(), &generics, generic, &[])?;
     assert_eq!(rt; none.0, "an empty group");
+    Ok(())
+}
+
+#[test]
+fn combinations_are_defined(rt: HostRuntime) -> Result<(), Fail> {
+    let (mut combinations, _meter) = Combinations::new(rt.alloc(), 1)?;
+    let system = define(rt.alloc(), &mut combinations, Name::fixed(&"AND"));
+    assert_eq!(rt; system.err(), Some(CombinationFault::Predefined));
+    let first = define(rt.alloc(), &mut combinations, Name::fixed(&"MINE"));
+    assert_eq!(rt; first.err(), None);
+    let second = define(rt.alloc(), &mut combinations, Name::fixed(&"YOURS"));
+    assert_eq!(rt; second.err(), Some(CombinationFault::TableLimit));
+    let used = combinations.fits(&Name::fixed(&"MINE"), &Data::new());
+    assert!(rt; used.is_ok());
+    let unknown = combinations.fits(&Name::fixed(&"YOURS"), &Data::new());
+    assert_eq!(rt; unknown.err(), Some(UseFault::Undefined));
     Ok(())
 }

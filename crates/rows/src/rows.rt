@@ -24,6 +24,7 @@ fn limits(setting: &str) -> Limits {
         "steps" => limits.steps = number,
         "depth" => limits.depth = number,
         "methods" => limits.methods = number,
+        "combinations" => limits.combinations = number,
         "functions" => limits.functions = number,
         "globals" => limits.globals = number,
         "cells" => limits.cells = number,

@@ -22,4 +22,4 @@ returns-clause-leads c = λ f e.
     (sym c.if-not-keywords_fit.false ∙ c.keywords_fit.ensures f e
     ∙ ap (λ ms. keywords_fit (seen c.args.world.now).generics c.args.id.0 ms (after_positional f.shape (map value_of c.as_slice-2.result.now))) c.as_slice.ensures
     ∙ ap (λ vs. keywords_fit (seen c.args.world.now).generics c.args.id.0 c.args.methods (after_positional f.shape vs)) c.as_slice-2.ensures)
-    (c.in_ok-outcome.ensures.outcome ∙ ap (comb.effective (seen c.args.world.now).generics c.args.id.0) c.as_slice-3.ensures) (c.run_combined.ensures.leads f e)
+    (c.in_ok-outcome.ensures.outcome ∙ ap (comb.effective (seen c.args.world.now).combinations (seen c.args.world.now).generics c.args.id.0) c.as_slice-3.ensures) (c.run_combined.ensures.leads f e)

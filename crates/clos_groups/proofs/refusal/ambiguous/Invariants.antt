@@ -5,5 +5,5 @@ use Rattle.clos_groups.proofs.refusal.ambiguous.Given as goal
 
 abbrev pub invariant-loop-place : goal.invariant-loop-place
 invariant-loop-place l =
-    ambiguous_from l.methods l.groups (method_numbers l.added) (method_numbers l.ids) l.place (drop l.place l.groups)
-    ≡ ambiguous_from l.methods l.groups (method_numbers l.added) (method_numbers l.ids) 0 l.groups
+    ambiguous_from l.methods l.groups (method_numbers l.ids) l.place (drop l.place l.groups)
+    ≡ ambiguous_from l.methods l.groups (method_numbers l.ids) 0 l.groups

@@ -1,0 +1,39 @@
+//! What a `define-method-combination` does (HyperSpec 7.7). It takes one step for the whole of its effect.
+ghost use Rattle.std.specs.Prelude.{◌≡◌};
+ghost use Rattle.clos_machine.specs.clos_world.World.{seen};
+ghost use Rattle.clos_machine.specs.Machine.{Answers};
+ghost use Rattle.clos_definition_forms.specs.Combination.{define_combination};
+
+use clos_forms::value_named;
+use clos_machine::{CombinationDefinition, ConditionKind, Stop, World, name_of, plain};
+use lisp_data::Value;
+use std::alloc::Global;
+
+/// Defines a method combination, in place of an older one of its name.
+pub fn define_combination(
+    alloc: Global,
+    world: &mut World,
+    definition: CombinationDefinition,
+    steps: &mut u64,
+) -> Result<Value, Stop>
+    ensures { Answers (define_combination definition) (seen world.old) steps.old result (seen world.new) steps.new }
+{
+    let name = name_of(&definition);
+    if world.combinations.is_predefined(name) {
+        return Err(Stop::Refused(plain(alloc, ConditionKind::ProgramError)));
+    }
+    if !world.combinations.has_room(name) {
+        return Err(Stop::Refused(plain(alloc, ConditionKind::TableLimit)));
+    }
+    if *steps == 0 {
+        return Err(Stop::Refused(plain(alloc, ConditionKind::StepLimit)));
+    }
+    let Ok(value) = value_named(name) else {
+        return Err(Stop::Storage);
+    };
+    let Ok(()) = world.combinations.define(alloc, definition) else {
+        return Err(Stop::Storage);
+    };
+    *steps -= 1;
+    Ok(value)
+}
