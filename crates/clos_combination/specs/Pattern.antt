@@ -24,6 +24,7 @@ pub data Pattern : Type 0 where
 abbrev pub unqualified : Pattern
 unqualified = listed [] false
 
+-- exactly one qualifier, which is equal to this value
 abbrev pub qualified_by : Val → Pattern
 qualified_by v = listed (equal_to v ∷ []) false
 

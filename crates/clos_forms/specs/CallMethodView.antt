@@ -7,6 +7,7 @@ use Rattle.clos_forms.specs.Operator.{Callable, the_method, made}
 use Rattle.clos_forms.specs.declared.call_method.CalledMethod.{CalledMethod}
 use Rattle.clos_forms.specs.declared.call_method.CalledMethod.TheVariants.{Method, Made}
 
+-- a method by the number in its id, or one that is made of a form
 abbrev pub callable : CalledMethod → Callable
 callable (Method id) = the_method id.0
 callable Made = made

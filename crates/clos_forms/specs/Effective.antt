@@ -10,6 +10,7 @@ use Rattle.clos_forms.specs.declared.part.Context.TheVariants.{Effective}
 
 -- the methods that stand in a datum, from left to right, wherever they stand
 abbrev mutual
+  -- a method is one, other atoms have none; a list has those of its elements, and then of the atom after its dot
   pub methods_of : Dat → List ℕ
   methods_of (integer n) = []
   methods_of (symbol name) = []
@@ -18,6 +19,7 @@ abbrev mutual
   methods_of (dotted l d) = methods_in_all l ++ methods_of d
   methods_of (method n) = n ∷ []
 
+  -- those of the first datum, and then of the others
   pub methods_in_all : Dats → List ℕ
   methods_in_all given.nil = []
   methods_in_all (given.cons d l) = methods_of d ++ methods_in_all l
@@ -27,6 +29,7 @@ abbrev pub number_of : Callable → List ℕ
 number_of (the_method n) = n ∷ []
 number_of made = []
 
+-- the same of all of these, in order
 abbrev pub numbers_of : List Callable → List ℕ
 numbers_of [] = []
 numbers_of (m ∷ ms) = number_of m ++ numbers_of ms
@@ -38,9 +41,11 @@ called_at _ = []
 
 -- the methods that a form calls or has as next methods: those of its operator, then those of its parts
 abbrev mutual
+  -- what its operator calls before what its parts do; a method that is called twice counts twice
   pub called_by : Form → List ℕ
   called_by (form o parts) = called_at o ++ called_by_all parts
 
+  -- those of the first form, and then of the others
   pub called_by_all : Forms → List ℕ
   called_by_all nil = []
   called_by_all (cons f fs) = called_by f ++ called_by_all fs

@@ -7,6 +7,7 @@ use Rattle.clos_forms.specs.Effective.{effective_form}
 use Rattle.clos_forms.specs.Form.{Form, form, nil, cons}
 use Rattle.clos_forms.specs.Operator.{the_method, made, constant, call, call_method}
 
+-- these characters name a symbol that is no keyword
 abbrev name : List ℕ → Name
 name text = record { text = text; keyword = false }
 
@@ -14,6 +15,7 @@ name text = record { text = text; keyword = false }
 abbrev after_name : List ℕ → List Dat → Dat
 after_name text ds = list (list_from (symbol (name text) ∷ ds))
 
+-- (call-method ..), with these data after the name
 abbrev calling : List Dat → Dat
 calling ds = after_name (codes "CALL-METHOD") ds
 

@@ -5,6 +5,7 @@ use Rattle.clos_forms.specs.declared.fault.SyntaxFault.TheVariants.{Program, Mem
 
 -- It goes on where something is given.
 infixl 10 ◌>>=◌
+-- where nothing is given, nothing comes of it
 abbrev pub ◌>>=◌ : {A B : Type 0} → Option A → (A → Option B) → Option B
 (Some x) >>= f = f x
 None >>= f = None

@@ -7,6 +7,7 @@ use Rattle.clos_forms.specs.Fault.{◌>>=◌}
 use Rattle.clos_names.specs.Names.{is_called, is_constant}
 use Rattle.clos_forms.specs.Part.{only_in}
 
+-- the name of any symbol, also of NIL, T or a keyword
 abbrev pub symbol_in : Dat → Option Name
 symbol_in (integer n) = None
 symbol_in (symbol name) = Some name
@@ -15,6 +16,7 @@ symbol_in (list l) = None
 symbol_in (dotted l d) = None
 symbol_in (method n) = None
 
+-- a name other than NIL, T and the keywords, which may not be bound or set (3.1.2.1.1.3)
 abbrev pub unless_constant : Name → Option Name
 unless_constant name = if is_constant name then None else Some name
 
@@ -30,6 +32,7 @@ only_symbol_in l = only_in l >>= symbol_in
 abbrev pub setf_name : Name → Dats → Option Called
 setf_name head rest = if is_called (codes "SETF") head then only_symbol_in rest >>= (λ n. Some (by_setf n)) else None
 
+-- (setf symbol), and no other list
 abbrev pub listed_name : Dats → Option Called
 listed_name nil = None
 listed_name (cons head rest) = symbol_in head >>= λ n. setf_name n rest

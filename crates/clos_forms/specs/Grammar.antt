@@ -21,12 +21,15 @@ tree_at zero context p = None
 tree_at (suc room) context p =
     shape_of context p.role p.datum >>= λ s. each_part (tree_at room context) s.parts (Some nil) >>= λ fs. Some (form s.operator fs)
 
+-- a form for each part, in the same order, where each has one that this room suffices for
 abbrev pub trees_at : ℕ → Context → List Part → Option Forms
 trees_at room context ps = each_part (tree_at room context) ps (Some nil)
 
+-- one more than the deepest datum nests
 abbrev pub full_room : ℕ
 full_room = suc most_nesting
 
+-- what a datum is as an expression that stands in this context
 abbrev pub form_of : Context → Dat → Option Form
 form_of context d = tree_at full_room context (record { role = Expression; datum = d })
 

@@ -24,6 +24,7 @@ abbrev pub form_in : NamedMethod → Option Dat
 form_in (numbered n) = None
 form_in (made_of d) = Some d
 
+-- the same of each, in order
 abbrev pub callables_of : List NamedMethod → List Callable
 callables_of [] = []
 callables_of (m ∷ ms) = callable_of m ∷ callables_of ms
@@ -37,6 +38,7 @@ made_parts (m ∷ ms) = optional (form_in m) ++ made_parts ms
 abbrev pub headed_method : Name → Dats → Option NamedMethod
 headed_method head rest = if is_called (codes "MAKE-METHOD") head then only_in rest >>= (λ d. Some (made_of d)) else None
 
+-- (make-method form), and no other list
 abbrev pub listed_method : Dats → Option NamedMethod
 listed_method nil = None
 listed_method (cons head rest) = symbol_in head >>= λ n. headed_method n rest
@@ -50,6 +52,7 @@ method_in (list l) = listed_method l
 method_in (dotted l d) = None
 method_in (method n) = Some (numbered n)
 
+-- a list of methods, which may be written NIL; where none is given there are no methods
 abbrev pub methods_if_any : Option Dat → Option (List NamedMethod)
 methods_if_any None = Some []
 methods_if_any (Some d) = each_in method_in d

@@ -11,15 +11,18 @@ use Rattle.clos_forms.specs.declared.operator.Place.TheVariants.{Variable as Var
 use Rattle.clos_forms.specs.declared.operator.Operator as coded
 use Rattle.clos_forms.specs.declared.operator.Operator.TheVariants.{Constant, NoValue, Variable, Function, If, Cond, Clause, When, Unless, And, Or, Progn, Prog1, Let, LetInOrder, Setq, Setf, Incf, Decf, Place as Subforms, Dotimes, WithSlots, CallNextMethod, NextMethodP, Call, CallMethod}
 
+-- a symbol or (setf symbol), with the same name
 abbrev pub called_of : named.FunctionName → Called
 called_of (Symbol name) = by_symbol name
 called_of (Setter name) = by_setf name
 
+-- each variant as its kind of place, with the same name of a variable or function
 abbrev pub place_of : in_code.Place → Place
 place_of (VariablePlace name) = of.variable_place name
 place_of SlotValue = of.slot_value_place
 place_of (CallPlace name) = of.call_place name
 
+-- each variant as its operator, with the same names and flags, and what the code's values and methods stand for
 abbrev pub operator_of : coded.Operator → Operator
 operator_of (Constant value) = of.constant (value_of value)
 operator_of NoValue = of.no_value

@@ -12,6 +12,7 @@ pub record Part : Type 0 where
   pub role : Role
   pub datum : Dat
 
+-- one level of a form: its operator, and the data of which its parts are still to be made
 pub record Shape : Type 0 where
   pub operator : Operator
   pub parts : List Part
@@ -28,12 +29,15 @@ in_effective Plain = false
 in_effective Method = false
 in_effective Effective = true
 
+-- the parts are those that the operator takes, in its order
 abbrev pub shape : Operator → List Part → Shape
 shape o ps = record { operator = o; parts = ps }
 
+-- the role says how the datum is read: as an expression, as a clause of cond, or as a place
 abbrev pub in_role : Role → Dat → Part
 in_role role d = record { role = role; datum = d }
 
+-- each of these data in this one role, in order
 abbrev pub in_roles : Role → Dats → List Part
 in_roles role nil = []
 in_roles role (cons d l) = in_role role d ∷ in_roles role l

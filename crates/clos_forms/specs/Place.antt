@@ -17,10 +17,12 @@ named_place name rest =
     else if is_one_of special_operators name || is_one_of definitions name then None
     else Some (operation (place (call_place name)) rest)
 
+-- a symbol, and then the subforms of the place that it names
 abbrev pub listed_place : Dats → Option Shape
 listed_place nil = None
 listed_place (cons head rest) = symbol_in head >>= λ n. named_place n rest
 
+-- a variable that may be set, or a list that begins with a symbol (5.1.2)
 abbrev pub place_shape : Dat → Option Shape
 place_shape (integer n) = None
 place_shape (symbol name) = unless_constant name >>= λ n. Some (shape (place (variable_place n)) [])
@@ -35,6 +37,7 @@ setf_parts nil = Some []
 setf_parts (cons p nil) = None
 setf_parts (cons p (cons d l)) = setf_parts l >>= λ ps. Some (in_role Place p ∷ (in_role Expression d ∷ ps))
 
+-- any number of places, each with its new value (5.3 setf)
 abbrev pub setf_shape : Dats → Option Shape
 setf_shape l = setf_parts l >>= λ ps. Some (shape setf ps)
 

@@ -14,6 +14,7 @@ name_value name = if is_called (codes "NIL") name then value.list value.nil else
 abbrev pub within_limits : Vals → Option Vals
 within_limits l = if is_within_limits l then Some l else None
 
+-- a value before others, where all have one and the longer list is within the limits
 abbrev pub with_front : Option Val → Option Vals → Option Vals
 with_front (Some v) (Some l) = within_limits (value.cons v l)
 with_front (Some v) None = None
@@ -21,6 +22,7 @@ with_front None l = None
 
 -- the value of a quoted datum: a dotted list, one too long or too deep, and a method have none
 abbrev mutual
+  -- an integer and a string are themselves, NIL is the empty list; a list has a value where all in it have one
   pub quotation : Dat → Option Val
   quotation (integer n) = Some (value.integer n)
   quotation (symbol name) = Some (name_value name)
@@ -29,6 +31,7 @@ abbrev mutual
   quotation (dotted l d) = None
   quotation (method n) = None
 
+  -- the values of all of these, in order, where they are within the limits of a list
   pub quotations : Dats → Option Vals
   quotations nil = Some value.nil
   quotations (cons d l) = with_front (quotation d) (quotations l)

@@ -21,9 +21,11 @@ use Rattle.clos_forms.specs.declared.part.Role.TheVariants.{Expression, Clause, 
 use Rattle.clos_names.specs.declared.special.Special.{Special}
 use Rattle.clos_names.specs.declared.special.Special.TheVariants.{Quote, Function, If, Cond, When, Unless, And, Or, Progn, Prog1, Let, LetInOrder, Setq, Setf, Incf, Decf, Dotimes, WithSlots, CallNextMethod, NextMethodP}
 
+-- a form in which no other stands
 abbrev pub atom : Operator → Shape
 atom o = shape o []
 
+-- a datum that is no value may be quoted; the form is refused only where it is evaluated
 abbrev pub quoting : Option Val → Operator
 quoting (Some v) = constant v
 quoting None = no_value
@@ -52,6 +54,7 @@ call_next_method_shape context l = if in_method context then Some (operation cal
 abbrev pub next_method_p_shape : Context → Dats → Option Shape
 next_method_p_shape context l = if in_method context && nat_le (length_of l) 0 then Some (atom next_method_p) else None
 
+-- what must follow a name with this meaning, in this context
 abbrev pub special_shape : Context → Special → Dats → Option Shape
 special_shape context Quote l = quote_shape l
 special_shape context Function l = function_shape l
@@ -85,10 +88,12 @@ call_shape context name l =
     if is_one_of definitions name then None
     else if calls_method context name then call_method_shape l else Some (operation (call name) l)
 
+-- a name that means something special by its own rule; any other is called
 abbrev pub named_shape : Option Special → Context → Name → Dats → Option Shape
 named_shape (Some s) context name l = special_shape context s l
 named_shape None context name l = call_shape context name l
 
+-- a symbol at the head; a lambda form, which has a list there, is no form here (3.1.2.1.2.4)
 abbrev pub headed_shape : Context → Dat → Dats → Option Shape
 headed_shape context (integer n) l = None
 headed_shape context (symbol name) l = named_shape (special_of name) context name l
@@ -97,6 +102,7 @@ headed_shape context (list m) l = None
 headed_shape context (dotted m d) l = None
 headed_shape context (method n) l = None
 
+-- NIL, T and keywords stand for themselves, another symbol is a variable (3.1.2.1.1)
 abbrev pub symbol_operator : Name → Operator
 symbol_operator name = if is_constant name then constant (name_value name) else variable name
 
@@ -105,6 +111,7 @@ abbrev pub listed_shape : Context → Dats → Option Shape
 listed_shape context nil = Some (atom (constant (value.list value.nil)))
 listed_shape context (cons head rest) = headed_shape context head rest
 
+-- an atom is a constant or a variable, a list has an operator; a dotted list and a method are no forms
 abbrev pub expression_shape : Context → Dat → Option Shape
 expression_shape context (integer n) = Some (atom (constant (value.integer n)))
 expression_shape context (symbol name) = Some (atom (symbol_operator name))

@@ -38,25 +38,30 @@ role_of next_method_p = Expression
 role_of (call n) = Expression
 role_of (call_method m ns) = Expression
 
+-- evaluated as it stands: neither a clause nor a place
 abbrev pub is_expression : Role → Bool
 is_expression Expression = true
 is_expression Clause = false
 is_expression InPlace = false
 
+-- what cond has as its parts
 abbrev pub is_clause : Role → Bool
 is_clause Expression = false
 is_clause Clause = true
 is_clause InPlace = false
 
+-- what setf, incf and decf store into
 abbrev pub is_place : Role → Bool
 is_place Expression = false
 is_place Clause = false
 is_place InPlace = true
 
+-- any number of expressions, and nothing else
 abbrev pub are_expressions : List Role → Bool
 are_expressions [] = true
 are_expressions (r ∷ rs) = is_expression r && are_expressions rs
 
+-- any number of clauses, and nothing else
 abbrev pub are_clauses : List Role → Bool
 are_clauses [] = true
 are_clauses (r ∷ rs) = is_clause r && are_clauses rs
@@ -65,6 +70,7 @@ are_clauses (r ∷ rs) = is_clause r && are_clauses rs
 abbrev pub at_least : ℕ → List Role → Bool
 at_least n rs = are_expressions rs && nat_le n (length rs)
 
+-- no parts at all, as of a constant
 abbrev pub none : List Role → Bool
 none [] = true
 none (r ∷ rs) = false
@@ -149,15 +155,18 @@ takes context next_method_p rs = in_method context && none rs
 takes context (call n) rs = are_expressions rs
 takes context (call_method m ns) rs = in_effective context && forms_of_made (m ∷ ns) rs
 
+-- for each form the role in which its operator lets it stand
 abbrev pub roles_of : Forms → List Role
 roles_of nil = []
 roles_of (cons f fs) = role_of (operator_in f) ∷ roles_of fs
 
 -- whether each form in it has the parts that it may have
 abbrev mutual
+  -- its operator takes parts in their roles here, and each of them is made well itself
   pub is_made_well : Context → Form → Bool
   is_made_well context (form o parts) = takes context o (roles_of parts) && are_made_well context parts
 
+  -- each by itself, whatever its role
   pub are_made_well : Context → Forms → Bool
   are_made_well context nil = true
   are_made_well context (cons f fs) = is_made_well context f && are_made_well context fs

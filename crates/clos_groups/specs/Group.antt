@@ -52,6 +52,7 @@ abbrev pub takes_at : List Val → Option GroupSpecifier → Bool
 takes_at qs None = false
 takes_at qs (Some g) = takes g qs
 
+-- these qualifiers are of the group at this place: it takes them, and no group before it does
 pub record IsFirstToTake (gs : List GroupSpecifier) (qs : List Val) (k : ℕ) : Type 0 where
   pub takes_it : takes_at qs (slice_get gs k) ≡ true
   pub none_before : (j : ℕ) → j < k → takes_at qs (slice_get gs j) ≡ false

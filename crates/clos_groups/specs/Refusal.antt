@@ -7,6 +7,7 @@ use Rattle.clos_method.specs.declared.method.Method.{Method}
 use Rattle.clos_groups.specs.Group.{has_group, is_in, members}
 use Rattle.clos_combination.specs.declared.group.GroupSpecifier.{GroupSpecifier}
 
+-- why methods are not combined, with the method, the group or the pair that is at fault
 pub data Refusal : Type 0 where
   invalid_method : ℕ → Refusal  -- no group takes this method
   group_empty : ℕ → Refusal  -- there has to be a method in the group at this place

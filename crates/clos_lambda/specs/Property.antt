@@ -13,6 +13,7 @@ use Rattle.clos_lambda.specs.Lists.{single}
 abbrev pub is_keyword_called : List ℕ → Name → Bool
 is_keyword_called text name = name.keyword && bytes_eq name.text text
 
+-- a symbol that is the keyword of these characters, which don't include its colon
 abbrev pub is_key : List ℕ → Dat → Bool
 is_key text (integer n) = false
 is_key text (symbol name) = is_keyword_called text name
@@ -41,6 +42,7 @@ values_of text (cons k (cons v l)) = if is_key text k then cons v (values_of tex
 abbrev pub anything : Dat → Option (Unit {0})
 anything d = Some tt
 
+-- a string, which is read and ignored
 abbrev pub documentation_in : Dat → Option (Unit {0})
 documentation_in d = if is_string d then Some tt else None
 
@@ -48,6 +50,7 @@ documentation_in d = if is_string d then Some tt else None
 abbrev pub value_in : {A : Type 0} → (Dat → Option A) → List ℕ → Dats → Option (Option A)
 value_in f text l = each f (values_of text l) >>= single
 
+-- the elements of a list that begins with this keyword
 abbrev pub heads_option : List ℕ → Dats → Bool
 heads_option text nil = false
 heads_option text (cons head l) = is_key text head
@@ -70,6 +73,7 @@ options_of text (cons d l) = if is_option text d then cons d (options_of text l)
 abbrev pub option_in : {A : Type 0} → (Dat → Option A) → List ℕ → Dats → Option (Option A)
 option_in f text l = each f (options_of text l) >>= single
 
+-- what follows the first element, where there is one
 abbrev pub tail_of : Dats → Option Dats
 tail_of nil = None
 tail_of (cons head l) = Some l

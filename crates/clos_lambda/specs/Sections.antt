@@ -9,9 +9,11 @@ abbrev pub lambda_list_keywords : List (List ℕ)
 lambda_list_keywords =
     codes "&OPTIONAL" ∷ codes "&REST" ∷ codes "&KEY" ∷ codes "&ALLOW-OTHER-KEYS" ∷ codes "&AUX" ∷ codes "&BODY" ∷ codes "&WHOLE" ∷ codes "&ENVIRONMENT" ∷ []
 
+-- one of these names, also one that the language does not serve
 abbrev pub is_lambda_list_keyword : Name → Bool
 is_lambda_list_keyword name = is_one_of lambda_list_keywords name
 
+-- a lambda list keyword, before which the section ends
 abbrev pub ends_section : Dat → Bool
 ends_section (integer n) = false
 ends_section (symbol name) = is_lambda_list_keyword name
@@ -30,6 +32,7 @@ abbrev pub back : Dats → Dats
 back nil = nil
 back (cons d l) = if ends_section d then cons d l else back l
 
+-- a symbol of these characters that is no keyword
 abbrev pub is_symbol_called : List ℕ → Dat → Bool
 is_symbol_called text (integer n) = false
 is_symbol_called text (symbol name) = is_called text name

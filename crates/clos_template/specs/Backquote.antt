@@ -14,6 +14,7 @@ pub record Element : Type 0 where
   pub spliced : Bool
   pub part : Part
 
+-- where the flag is set, the elements of what this part gives stand in its place; else what it gives does
 abbrev pub element : Bool → Part → Element
 element b p = record { spliced = b; part = p }
 
@@ -28,6 +29,7 @@ listed_element (cons head rest) =
     if is_symbol_called (codes "UNQUOTE-SPLICING") head then (only_in rest >>= λ d. Some (element true (in_role Template d)))
     else Some (standing (list (cons head rest)))
 
+-- only a list may be one that is spliced, which its head says; any other datum stands as it is
 abbrev pub element_in : Dat → Option Element
 element_in (integer n) = Some (standing (integer n))
 element_in (symbol name) = Some (standing (symbol name))
@@ -36,10 +38,12 @@ element_in (list l) = listed_element l
 element_in (dotted l d) = Some (standing (dotted l d))
 element_in (method n) = Some (standing (method n))
 
+-- for each element whether it is spliced
 abbrev pub flags_of : List Element → List Bool
 flags_of [] = []
 flags_of (e ∷ es) = e.spliced ∷ flags_of es
 
+-- what is expanded for each element
 abbrev pub parts_of : List Element → List Part
 parts_of [] = []
 parts_of (e ∷ es) = e.part ∷ parts_of es
@@ -57,6 +61,7 @@ quoted_list (cons head rest) =
     else if is_symbol_called (codes "UNQUOTE-SPLICING") head then None
     else written_shape (cons head rest) None
 
+-- an atom stands for itself, a list for one in which what is unquoted is expanded; a method may not stand here
 abbrev pub quoted_shape : Dat → Option Shape
 quoted_shape (integer n) = Some (atom (constant (integer n)))
 quoted_shape (symbol name) = Some (atom (constant (symbol name)))

@@ -8,12 +8,15 @@ use Rattle.clos_template.specs.Meaning.{meaning}
 use Rattle.clos_template.specs.Scope.{Env, bound}
 use Rattle.clos_template.specs.Template.{Template}
 
+-- these characters name a symbol that is no keyword
 abbrev name : List ℕ → Name
 name text = record { text = text; keyword = false }
 
+-- such a symbol as a datum
 abbrev named : List ℕ → Dat
 named text = symbol (name text)
 
+-- these data in parentheses, without a dot
 abbrev listed : List Dat → Dat
 listed ds = list (list_from ds)
 
@@ -44,9 +47,11 @@ abbrev a_list_of_calls : Dat
 a_list_of_calls =
     after_name (codes "QUASIQUOTE") (after_name (codes "LIST") (after_name (codes "UNQUOTE-SPLICING") (the_calls ∷ []) ∷ []) ∷ [])
 
+-- ALL stands for the list of the methods M1 and M2
 abbrev two_methods : Env
 two_methods = bound (name (codes "ALL")) (listed (method 1 ∷ method 2 ∷ [])) ∷ []
 
+-- (call-method M), where M is the method of this number
 abbrev called : ℕ → Dat
 called m = after_name (codes "CALL-METHOD") (method m ∷ [])
 

@@ -7,6 +7,7 @@ use Rattle.lisp_data.specs.declared.datum.Datum.{Datum}
 use Rattle.clos_template.specs.declared.fault.ExpansionFault.{ExpansionFault}
 use Rattle.clos_template.specs.declared.fault.ExpansionFault.TheVariants.{Bad, Beyond, Memory}
 
+-- the datum for which a template stands, and what may be made after it; or why there is none
 pub data Expansion : Type 0 where
   made : Dat → ℕ → Expansion  -- this datum; so many conses may still be made
   bad : Expansion  -- nothing: a name is unknown, or an argument has a wrong type

@@ -11,9 +11,11 @@ use Rattle.clos_template.specs.Expansion.{Expansion, made, bad, built}
 use Rattle.clos_template.specs.declared.operator.Function.{Function}
 use Rattle.clos_template.specs.declared.operator.Function.TheVariants as function
 
+-- NIL where it is made, not taken from data: the symbol, and not a list without elements
 abbrev pub nil_symbol : Dat
 nil_symbol = symbol (record { text = codes "NIL"; keyword = false })
 
+-- T or NIL, as a predicate answers
 abbrev pub truth : Bool → Dat
 truth true = symbol (record { text = codes "T"; keyword = false })
 truth false = nil_symbol
@@ -28,6 +30,7 @@ is_nil (list (cons d l)) = false
 is_nil (dotted l d) = false
 is_nil (method n) = false
 
+-- what parentheses are written around, with or without a dot; the symbol NIL is none
 abbrev pub is_list : Dat → Bool
 is_list (integer n) = false
 is_list (symbol name) = false
@@ -50,10 +53,12 @@ with_elements (Some l) go = go l
 abbrev pub argument : List Dat → ℕ → Dat
 argument ds n = unwrap_or (slice_get ds n) nil_symbol
 
+-- the first of these elements, or NIL where there are none (14.2 first)
 abbrev pub first_in : Dats → Dat
 first_in nil = nil_symbol
 first_in (cons d l) = d
 
+-- the elements after the first; none where there is no first (14.2 rest)
 abbrev pub rest_in : Dats → Dats
 rest_in nil = nil
 rest_in (cons d l) = l
@@ -69,6 +74,7 @@ one_object a b =
     if is_nil a || is_nil b then Some (is_nil a && is_nil b)
     else if (is_string a && is_string b) || (is_list a && is_list b) then None else Some (same_datum a b)
 
+-- an answer of EQ; where it does not tell, the arguments have a wrong type
 abbrev pub told : Option Bool → ℕ → Expansion
 told None n = bad
 told (Some b) n = made (truth b) n
@@ -103,6 +109,7 @@ abbrev pub elements_of_all : List Dat → Option (List Dat)
 elements_of_all [] = Some []
 elements_of_all (d ∷ ds) = list_in d >>= λ l. elements_of_all ds >>= λ es. Some (elements l ++ es)
 
+-- the elements of the earlier lists before those of this one; nothing where one of them is no list
 abbrev pub before_list : Option (List Dat) → Dat → ℕ → Expansion
 before_list None d n = bad
 before_list (Some es) d n = with_elements (list_in d) (λ l. prepended es l n)

@@ -18,9 +18,11 @@ abbrev pub tree_at : ℕ → Part → Option Template
 tree_at zero p = None
 tree_at (suc room) p = shape_of p.role p.datum >>= λ s. each_part (tree_at room) s.parts (Some nil) >>= λ ts. Some (template s.operator ts)
 
+-- a template for each part, in the same order, where each has one that this room suffices for
 abbrev pub trees_at : ℕ → List Part → Option Templates
 trees_at room ps = each_part (tree_at room) ps (Some nil)
 
+-- one more than the deepest datum nests
 abbrev pub full_room : ℕ
 full_room = suc most_nesting
 

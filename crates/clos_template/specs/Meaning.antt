@@ -24,6 +24,7 @@ part [] k env n = made nil_symbol n
 part (m ∷ ms) zero env n = m env n
 part (m ∷ ms) (suc k) env n = part ms k env n
 
+-- what a name stands for costs no cons; a name that stands for nothing is a fault
 abbrev pub known : Option Dat → ℕ → Expansion
 known None n = bad
 known (Some d) n = made d n
@@ -89,6 +90,7 @@ ended ds None = from_elements (ahead ds nil)
 ended [] (Some d) = d
 ended (e ∷ ds) (Some d) = dotted (ahead (e ∷ ds) nil) d
 
+-- where no flags are left, nothing is spliced, as of the arguments of a function
 abbrev pub first_flag : List Bool → Bool
 first_flag [] = false
 first_flag (b ∷ bs) = b
@@ -121,9 +123,11 @@ operated (call f) ms env n = gather [] ms env [] (answer f) n
 operated (written bs last) ms env n = gather bs ms env [] (λ ds k. built (length ds) (ended ds last) k) n
 
 abbrev mutual
+  -- the operator says which of the parts are expanded, and what names stand for in them
   pub meaning : Template → Meaning
   meaning (template o parts) = operated o (meanings parts)
 
+  -- each by itself, in order: none is expanded before the operator asks for it
   pub meanings : Templates → List Meaning
   meanings none = []
   meanings (more t ts) = meaning t ∷ meanings ts

@@ -5,6 +5,7 @@ use Rattle.clos_template.specs.Operator as of
 use Rattle.clos_template.specs.declared.operator.Operator.{Operator}
 use Rattle.clos_template.specs.declared.operator.Operator.TheVariants.{Constant, Variable, If, Cond, And, Or, Let, LetInOrder, MapCar, Call, Written}
 
+-- each variant as its operator, with the same names and flags, and the datum that the code's stands for
 abbrev pub operator_of : Operator → of.Operator
 operator_of (Constant d) = of.constant (datum_of d)
 operator_of (Variable n) = of.variable n

@@ -12,13 +12,16 @@ pub record Part : Type 0 where
   pub role : Role
   pub datum : Dat
 
+-- one level of a template: its operator, and the data of which its parts are still to be made
 pub record Shape : Type 0 where
   pub operator : Operator
   pub parts : List Part
 
+-- the parts are those that the operator takes, in its order
 abbrev pub shape : Operator → List Part → Shape
 shape o ps = record { operator = o; parts = ps }
 
+-- the role says how the datum is read: as a template, in a backquote, or as the body of a clause
 abbrev pub in_role : Role → Dat → Part
 in_role role d = record { role = role; datum = d }
 
@@ -27,6 +30,7 @@ abbrev pub templates_in : Dats → List Part
 templates_in nil = []
 templates_in (cons d l) = in_role Template d ∷ templates_in l
 
+-- a constant or a name, in which no other template stands
 abbrev pub atom : Operator → Shape
 atom o = shape o []
 

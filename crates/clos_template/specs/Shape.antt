@@ -39,10 +39,12 @@ pub record Clause : Type 0 where
   pub whole : Dat
   pub has_body : Bool
 
+-- whether anything follows the test of a clause
 abbrev is_some_data : Dats → Bool
 is_some_data nil = false
 is_some_data (cons d l) = true
 
+-- the first datum is the test; the clause is kept whole, since its body is read from it
 abbrev pub listed_clause : Dats → Option Clause
 listed_clause nil = None
 listed_clause (cons t l) = Some (record { test = t; whole = list (cons t l); has_body = is_some_data l })
@@ -56,29 +58,36 @@ clause_in (list l) = listed_clause l
 clause_in (dotted l d) = None
 clause_in (method n) = None
 
+-- the whole clause in the role of a body, where it has one
 abbrev pub body_part : Clause → List Part
 body_part c = if c.has_body then in_role Body c.whole ∷ [] else []
 
+-- of each clause the test, and the body where it has one, before those of the next
 abbrev pub parts_of_all : List Clause → List Part
 parts_of_all [] = []
 parts_of_all (c ∷ cs) = in_role Template c.test ∷ (body_part c ++ parts_of_all cs)
 
+-- for each clause whether it has a body, which tells its parts from those of the next
 abbrev pub bodies_of : List Clause → List Bool
 bodies_of [] = []
 bodies_of (c ∷ cs) = c.has_body ∷ bodies_of cs
 
+-- the operator says which clauses have a body; their tests and bodies are the parts
 abbrev pub cond_with : List Clause → Shape
 cond_with cs = shape (cond (bodies_of cs)) (parts_of_all cs)
 
+-- any number of clauses, also none (5.3 cond)
 abbrev pub cond_shape : Dats → Option Shape
 cond_shape l = each clause_in l >>= λ cs. Some (cond_with cs)
 
 -- ---- let and let*
 
+-- all at once, no name may be bound twice; the values are parts, and then the body
 abbrev pub let_with : List Entry → Dats → Option Shape
 let_with es body =
     if are_distinct (names_of es) then Some (shape (let_form (bounds_of es)) (inits_of es ++ body_parts body)) else None
 
+-- the variables in a list, which may be written NIL, and then the body
 abbrev pub let_shape : Dats → Option Shape
 let_shape nil = None
 let_shape (cons bindings body) = each_in binding_in bindings >>= λ es. let_with es body
@@ -120,6 +129,7 @@ after_head text (list (cons head rest)) = symbol_in head >>= λ n. if is_called 
 after_head text (dotted l d) = None
 after_head text (method n) = None
 
+-- (lambda (v) template), where v may be bound
 abbrev pub lambda_in : Dat → Option Lambda
 lambda_in d = after_head (codes "LAMBDA") d >>= lambda_with
 
@@ -132,6 +142,7 @@ or_itself d (Some l) = only_in l
 abbrev pub mapped_by : Dat → Option Lambda
 mapped_by d = or_itself d (after_head (codes "FUNCTION") d) >>= lambda_in
 
+-- the parts are the list, and then what is given for each of its elements
 abbrev pub mapcar_with : Lambda → Dat → Shape
 mapcar_with f d = shape (mapcar f.variable) (in_role Template d ∷ in_role Template f.body ∷ [])
 
@@ -146,6 +157,7 @@ mapcar_shape (cons f l) = mapped_by f >>= λ g. only_in l >>= λ d. Some (mapcar
 abbrev pub call_shape : Function → Dats → Option Shape
 call_shape f l = if takes f (length_of l) then Some (operation (call f) l) else None
 
+-- what must follow a name with this meaning
 abbrev pub worded_shape : Word → Dats → Option Shape
 worded_shape Quote l = quote_shape l
 worded_shape Quasiquote l = quasiquote_shape l
@@ -158,9 +170,11 @@ worded_shape LetInOrder l = let_in_order_shape l
 worded_shape MapCar l = mapcar_shape l
 worded_shape (Calls f) l = call_shape f l
 
+-- a symbol at the head that names an operator of templates; nothing else may be called
 abbrev pub headed_shape : Dat → Dats → Option Shape
 headed_shape head l = symbol_in head >>= word_of >>= λ w. worded_shape w l
 
+-- NIL, T and keywords stand for themselves, another symbol for what is bound to it
 abbrev pub symbol_operator : Name → Operator
 symbol_operator name = if is_constant name then constant (symbol name) else variable name
 
@@ -169,6 +183,7 @@ abbrev pub listed_shape : Dats → Option Shape
 listed_shape nil = Some (atom (constant (list nil)))
 listed_shape (cons head rest) = headed_shape head rest
 
+-- an atom is a constant or a name, a list has an operator; a dotted list and a method are no templates
 abbrev pub template_shape : Dat → Option Shape
 template_shape (integer n) = Some (atom (constant (integer n)))
 template_shape (symbol name) = Some (atom (symbol_operator name))

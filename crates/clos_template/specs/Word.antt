@@ -8,6 +8,7 @@ use Rattle.clos_template.specs.declared.operator.Function.TheVariants as functio
 use Rattle.clos_template.specs.declared.word.Word.{Word}
 use Rattle.clos_template.specs.declared.word.Word.TheVariants.{Quote, Quasiquote, If, Cond, And, Or, Let, LetInOrder, MapCar, Function as Calls}
 
+-- a line of the table: the characters of a name, in upper case, and what it means
 abbrev entry : List ℕ → Word → List ℕ × Word
 entry text w = (text, w)
 

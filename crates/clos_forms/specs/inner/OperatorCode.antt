@@ -10,18 +10,22 @@ use Rattle.lisp_data.specs.Value.{Val}
 use Rattle.lisp_data.specs.inner.ValueCode.{value_code}
 use Rattle.clos_forms.specs.Operator.{Bound, BoundSlot, Callable, the_method, made, Place, variable_place, slot_value_place, call_place, Operator, constant, no_value, variable, function, if_form, cond, clause, when, unless, and_form, or_form, progn, prog1, let_form, let_in_order, setq, setf, incf, decf, place, dotimes, with_slots, call_next_method, next_method_p, call, call_method}
 
+-- of each variable a pair of its name and its flag
 abbrev pub bounds_code : Coded (List Bound)
 bounds_code =
     coded_list (code_by (Name × Bool) (coded× name_code coded_bool) (λ b. (b.name, b.has_init)) (λ p. record { name = p.0; has_init = p.1 }) (λ _. refl))
 
+-- of each variable a pair of its name and its slot's
 abbrev pub bound_slots_code : Coded (List BoundSlot)
 bound_slots_code =
     coded_list (code_by (Name × Name) (coded× name_code name_code) (λ b. (b.variable, b.slot)) (λ p. record { variable = p.0; slot = p.1 }) (λ _. refl))
 
+-- a method by its number, one that is made of a form by nothing
 abbrev callable_to : Callable → ℕ ⊎ Unit {0}
 callable_to (the_method n) = inl n
 callable_to made = inr tt
 
+-- back from these: a method of a number, or one that is made of a form
 abbrev callable_from : ℕ ⊎ Unit {0} → Callable
 callable_from (inl n) = the_method n
 callable_from (inr u) = made
@@ -30,16 +34,20 @@ pub callable_back : (c : Callable) → callable_from (callable_to c) ≡ c
 callable_back (the_method n) = refl
 callable_back made = refl
 
+-- a method that is called is stored as one of the two, from which it comes back
 abbrev callable_code : Coded Callable
 callable_code = code_by (ℕ ⊎ Unit {0}) (coded⊎ coded_ℕ coded_unit) callable_to callable_from callable_back
 
+-- next methods are stored as a list of these
 abbrev pub callables_code : Coded (List Callable)
 callables_code = coded_list callable_code
 
+-- the name of a symbol on the left, that of a list (setf symbol) on the right
 abbrev called_to : Called → Name ⊎ Name
 called_to (by_symbol n) = inl n
 called_to (by_setf n) = inr n
 
+-- back from these: a symbol from the left, (setf symbol) from the right
 abbrev called_from : Name ⊎ Name → Called
 called_from (inl n) = by_symbol n
 called_from (inr n) = by_setf n
@@ -48,14 +56,17 @@ pub called_back : (c : Called) → called_from (called_to c) ≡ c
 called_back (by_symbol n) = refl
 called_back (by_setf n) = refl
 
+-- the name of a function is stored as one of the two, from which it comes back
 abbrev called_code : Coded Called
 called_code = code_by (Name ⊎ Name) (coded⊎ name_code name_code) called_to called_from called_back
 
+-- a variable's name, the name of a function, or nothing of slot-value
 abbrev place_to : Place → Name ⊎ (Name ⊎ Unit {0})
 place_to (variable_place n) = inl n
 place_to slot_value_place = inr (inr tt)
 place_to (call_place n) = inr (inl n)
 
+-- back from these: a variable, a call, or slot-value
 abbrev place_from : Name ⊎ (Name ⊎ Unit {0}) → Place
 place_from (inl n) = variable_place n
 place_from (inr (inl n)) = call_place n
@@ -66,18 +77,22 @@ place_back (variable_place n) = refl
 place_back slot_value_place = refl
 place_back (call_place n) = refl
 
+-- a place is stored as one of the three, from which it comes back
 abbrev place_code : Coded Place
 place_code = code_by (Name ⊎ (Name ⊎ Unit {0})) (coded⊎ name_code (coded⊎ name_code coded_unit)) place_to place_from place_back
 
+-- the number of an operator that carries nothing, or what an operator of each other kind carries
 abbrev Kind : Type 0
 Kind =
     ℕ ⊎ (Val ⊎ (Name ⊎ (Called ⊎ (List Bound ⊎ (List Bound ⊎ (List Name ⊎ (Place ⊎ ((Name × Bool) ⊎ (List BoundSlot ⊎ (Name ⊎ (Callable × List Callable)))))))))))
 
+-- each part of this sum by its own code, from left to right
 abbrev kind_code : Coded Kind
 kind_code =
     coded⊎ coded_ℕ (coded⊎ value_code (coded⊎ name_code (coded⊎ called_code (coded⊎ bounds_code (coded⊎ bounds_code (coded⊎ (coded_list name_code)
     (coded⊎ place_code (coded⊎ (coded× name_code coded_bool) (coded⊎ bound_slots_code (coded⊎ name_code (coded× callable_code callables_code)))))))))))
 
+-- an operator that carries nothing by its number, the others by what they carry
 abbrev kind_of : Operator → Kind
 kind_of no_value = inl 0
 kind_of if_form = inl 1
@@ -111,11 +126,13 @@ abbrev bare : List Operator
 bare =
     no_value ∷ if_form ∷ cond ∷ clause ∷ when ∷ unless ∷ and_form ∷ or_form ∷ progn ∷ prog1 ∷ setf ∷ incf ∷ decf ∷ call_next_method ∷ next_method_p ∷ []
 
+-- the operator at a place of a list; past its end that of a quotation without a value
 abbrev numbered : List Operator → ℕ → Operator
 numbered [] n = no_value
 numbered (o ∷ os) zero = o
 numbered (o ∷ os) (suc n) = numbered os n
 
+-- back from the kind; a number of no operator is read as a quotation without a value
 abbrev of_kind : Kind → Operator
 of_kind (inl n) = numbered bare n
 of_kind (inr (inl v)) = constant v
@@ -158,5 +175,6 @@ of_kind_back (with_slots bs) = refl
 of_kind_back (call n) = refl
 of_kind_back (call_method m ns) = refl
 
+-- an operator is stored as its kind, from which it comes back
 abbrev pub operator_code : Coded Operator
 operator_code = code_by Kind kind_code kind_of of_kind of_kind_back

@@ -12,14 +12,17 @@ use Rattle.clos_template.specs.Operator.{Operator, constant, variable, if_form, 
 use Rattle.clos_template.specs.declared.operator.Function.{Function}
 use Rattle.clos_template.specs.declared.operator.Function.TheVariants.{Not, Endp, Eq, First, Second, Rest, Reverse, Length, List as ListOf, ListStar, Cons, Append}
 
+-- the number of an operator that carries nothing, or what an operator of each other kind carries
 abbrev Kind : Type 0
 Kind = ℕ ⊎ (Dat ⊎ (Name ⊎ (List Bool ⊎ (List Bound ⊎ (List Bound ⊎ (Name ⊎ (ℕ ⊎ (List Bool × Option Dat))))))))
 
+-- each part of this sum by its own code, from left to right
 abbrev kind_code : Coded Kind
 kind_code =
     coded⊎ coded_ℕ (coded⊎ datum_code (coded⊎ name_code (coded⊎ (coded_list coded_bool) (coded⊎ bounds_code (coded⊎ bounds_code
     (coded⊎ name_code (coded⊎ coded_ℕ (coded× (coded_list coded_bool) (coded_option datum_code)))))))))
 
+-- the place of a function among all functions, from 0 on
 abbrev function_number : Function → ℕ
 function_number Not = 0
 function_number Endp = 1
@@ -38,11 +41,13 @@ function_number Append = 11
 abbrev all_functions : List Function
 all_functions = Not ∷ Endp ∷ Eq ∷ First ∷ Second ∷ Rest ∷ Reverse ∷ Length ∷ ListOf ∷ ListStar ∷ Cons ∷ Append ∷ []
 
+-- what stands at a place of a list, or the given thing where the list ends before it
 abbrev numbered : {A : Type 0} → A → List A → ℕ → A
 numbered x [] n = x
 numbered x (o ∷ os) zero = o
 numbered x (o ∷ os) (suc n) = numbered x os n
 
+-- IF, AND and OR by their numbers, a call by its function's number, the others by what they carry
 abbrev kind_of : Operator → Kind
 kind_of if_form = inl 0
 kind_of and_form = inl 1
@@ -56,9 +61,11 @@ kind_of (mapcar n) = inr (inr (inr (inr (inr (inr (inl n))))))
 kind_of (call f) = inr (inr (inr (inr (inr (inr (inr (inl (function_number f))))))))
 kind_of (written bs d) = inr (inr (inr (inr (inr (inr (inr (inr (bs, d))))))))
 
+-- the operators that carry nothing, in the order of their numbers
 abbrev bare : List Operator
 bare = if_form ∷ and_form ∷ or_form ∷ []
 
+-- back from the kind; a number of no operator is read as IF, and one of no function as NOT
 abbrev of_kind : Kind → Operator
 of_kind (inl n) = numbered if_form bare n
 of_kind (inr (inl d)) = constant d
@@ -94,5 +101,6 @@ of_kind_back (call Cons) = refl
 of_kind_back (call Append) = refl
 of_kind_back (written bs d) = refl
 
+-- an operator is stored as its kind, from which it comes back
 abbrev pub operator_code : Coded Operator
 operator_code = code_by Kind kind_code kind_of of_kind of_kind_back

@@ -7,5 +7,6 @@ use Rattle.lisp_data.specs.Datum.{Dat}
 use Rattle.lisp_data.specs.inner.DatumCode.{datum_code}
 use Rattle.clos_template.specs.Scope.{Binding, bound}
 
+-- a binding is stored as the pair of its name and its datum
 abbrev pub binding_code : Coded Binding
 binding_code = code_by (Name × Dat) (coded× name_code datum_code) (λ b. (b.name, b.value)) (λ p. bound p.0 p.1) (λ _. refl)
