@@ -18,12 +18,15 @@ use Rattle.clos_comb.specs.Groups.{plain}
 use Rattle.clos_comb.specs.Outcome.{Combined, effective, group_empty, ambiguous_methods, bad_expansion}
 use Rattle.clos_comb.specs.Table.{short, built_in_form, combination_of}
 
+-- the keyword of these characters
 abbrev key : List ℕ → Name
 key text = record { text = text; keyword = true }
 
+-- the symbol of these characters, which is no keyword
 abbrev named : List ℕ → Dat
 named text = symbol (plain text)
 
+-- the list of these data
 abbrev listed : List Dat → Dat
 listed ds = list (list_from ds)
 
@@ -35,6 +38,7 @@ after_name text ds = listed (named text ∷ ds)
 abbrev on : List Val → ℕ → Method
 on qualifiers class = record (system_method SlotUnbound) { qualifiers = qualifiers; specializers = on_class class ∷ [] }
 
+-- the symbol of these characters as a qualifier
 abbrev qualifier : List ℕ → Val
 qualifier text = value.symbol (plain text)
 
@@ -73,6 +77,7 @@ a_call = after_name (codes "QUASIQUOTE") (after_name (codes "CALL-METHOD") (afte
 abbrev the_calls : Dat
 the_calls = after_name (codes "MAPCAR") (after_name (codes "LAMBDA") (listed (named (codes "M") ∷ []) ∷ a_call ∷ []) ∷ named (codes "ALL") ∷ [])
 
+-- ((extra (:extra)) (all (a . *) :order :most-specific-last :required t))
 abbrev groups : Dat
 groups =
     listed
@@ -80,6 +85,7 @@ groups =
     ∷ after_name (codes "ALL") (dotted (list_from (named (codes "A") ∷ [])) (named (codes "*")) ∷ symbol (key (codes "ORDER")) ∷ symbol (key (codes "MOST-SPECIFIC-LAST")) ∷ symbol (key (codes "REQUIRED")) ∷ named (codes "T") ∷ [])
     ∷ [])
 
+-- what follows DEFINE-METHOD-COMBINATION: the name, no parameters, the groups, and the template
 abbrev tags : Dats
 tags = list_from (named (codes "TAGS") ∷ named (codes "NIL") ∷ groups ∷ after_name (codes "QUASIQUOTE") (after_name (codes "LIST") (after_name (codes "UNQUOTE-SPLICING") (the_calls ∷ []) ∷ []) ∷ []) ∷ [])
 

@@ -30,6 +30,7 @@ initial limit = record { defined = []; limit = limit }
 
 -- ---- the system's combinations
 
+-- the names of the built-in short forms (7.6.6.4)
 abbrev pub built_in_names : List (List ℕ)
 built_in_names =
     codes "+" ∷ codes "AND" ∷ codes "APPEND" ∷ codes "LIST" ∷ codes "MAX" ∷ codes "MIN" ∷ codes "NCONC" ∷ codes "OR" ∷ codes "PROGN" ∷ []

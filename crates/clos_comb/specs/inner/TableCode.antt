@@ -7,9 +7,11 @@ use Rattle.clos_groups.specs.clos_combination.contracts.combination.CombinationD
 use Rattle.clos_groups.specs.clos_combination.declared.combination.CombinationDefinition.{CombinationDefinition}
 use Rattle.clos_comb.specs.Table.{Table}
 
+-- the entries, and how many there may be
 abbrev Parts : Type 0
 Parts = List (Name × CombinationDefinition) × ℕ
 
+-- a table as these two
 abbrev pub table_code : Coded Table
 table_code =
     code_by Parts (coded× (coded_list (coded× name_code definition.the_row.coded)) coded_ℕ)
