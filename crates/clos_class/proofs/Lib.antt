@@ -14,3 +14,4 @@ pub mod Needed
 pub mod Gathered
 pub mod Preparing
 pub mod Standing
+pub mod Told

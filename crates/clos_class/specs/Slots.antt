@@ -1,7 +1,8 @@
 -- The slots of a class, by its class precedence list (HyperSpec 4.3.4, 7.5.3). Classes are known by their numbers, and the most
 -- specific one stands first in the list.
-use Rattle.std.specs.Prelude.{ℕ, List, [], ◌∷◌, Bool, true, false, not, Option, Some, None, map, option_map, reverse}
-use Rattle.std.specs.List.{filter, filter_map, flat_map}
+use Rattle.std.specs.Prelude.{ℕ, ◌==◌, ◌&&◌, List, [], ◌∷◌, Bool, true, false, not, Option, Some, None, map, option_map, reverse}
+use Rattle.std.specs.List.{filter, filter_map, flat_map, list_all, pointwise}
+use Rattle.std.specs.Map.{keys_of, lookup}
 use Rattle.lisp_data.specs.Name.{Name, same_name}
 use Rattle.lisp_data.specs.declared.ids.CellId.{CellId}
 use Rattle.clos_forms.specs.Form.{Form}
@@ -99,6 +100,28 @@ layout_of of l = record {
   locals = filter (λ n. is_local (allocation of l n)) (accessible of l);
   shared = filter_map (λ n. shared_in n (allocation of l n)) (accessible of l);
 }
+
+-- ---- whether two layouts are one: the local slots are compared in order, the shared ones as a map from names to cells
+
+abbrev pub same_names : List Name → List Name → Bool
+same_names = pointwise same_name
+
+abbrev pub same_cell : Option CellId → Option CellId → Bool
+same_cell None None = true
+same_cell None (Some d) = false
+same_cell (Some c) None = false
+same_cell (Some c) (Some d) = c.0 == d.0
+
+-- whether a name has the same cell in both, or none in both
+abbrev pub agrees_on : List (Name × CellId) → List (Name × CellId) → Name → Bool
+agrees_on a b name = same_cell (lookup (same_name name) a) (lookup (same_name name) b)
+
+-- whether all names of both do
+abbrev pub same_cells : List (Name × CellId) → List (Name × CellId) → Bool
+same_cells a b = list_all (agrees_on a b) (keys_of a) && list_all (agrees_on a b) (keys_of b)
+
+abbrev pub same_layout : Layout → Layout → Bool
+same_layout a b = same_names a.locals b.locals && same_cells a.shared b.shared
 
 -- ---- effective slots (AMOP 5.4): the accessible slots, as the instances of a class have them
 

@@ -1,5 +1,5 @@
 //! Laws of the definitions.
-ghost use Rattle.clos_class.specs.Laws.{HasNoneTwice, PlacesSlots};
+ghost use Rattle.clos_class.specs.Laws.{HasNoneTwice, PlacesSlots, TellsLayouts};
 
 /// A slot is local in a layout, or shared in a cell, exactly where its most specific specifier says so.
 pub fn places_slots()
@@ -9,4 +9,9 @@ pub fn places_slots()
 /// No slot stands twice in a layout.
 pub fn has_none_twice()
     ensures { HasNoneTwice }
+{}
+
+/// Layouts are compared by the order of their local slots, and by the map from their shared slots to cells.
+pub fn tells_layouts()
+    ensures { TellsLayouts }
 {}

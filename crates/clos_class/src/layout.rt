@@ -1,8 +1,10 @@
 //! Layouts: where the slots of an instance are kept (HyperSpec 7.5.3).
 ghost use Rattle.std.specs.Prelude.{◌≡◌, IfOk, OnOk, length, option_copied, option_map, position, slice_get};
-ghost use Rattle.std.specs.Map.{lookup};
+ghost use Rattle.std.specs.List.{list_all};
+ghost use Rattle.std.specs.Map.{keys_of, lookup};
 ghost use Rattle.std.specs.HashMap.{get};
 ghost use Rattle.lisp_data.specs.Name.{same_name};
+ghost use Rattle.clos_class.specs.Slots.{agrees_on, same_cell, same_layout, same_names};
 ghost use Rattle.clos_class.specs.inner.Building.{no_slots, with_slot, with_slots};
 
 use crate::direct::SlotAllocation;
@@ -34,6 +36,38 @@ impl Model for Layout {
     ghost Value = { Slots };
 
     ghost view = { λ a. record { locals = a.locals; shared = a.shared.entries } };
+}
+
+/// Whether both are the same names in the same order.
+fn same_names(names: &[Name], others: &[Name]) -> bool
+    ensures { result ≡ same_names names.now others.now }
+{
+    let mut left = names;
+    let mut right = others;
+    loop {
+        match (left.split_first(), right.split_first()) {
+            (None, None) => return true,
+            (Some((x, xs)), Some((y, ys))) => {
+                if !x.is(y) {
+                    return false;
+                }
+                left = xs;
+                right = ys;
+            }
+            _ => return false,
+        }
+    }
+}
+
+/// Whether both are one cell, or both are none.
+fn same_cell(cell: Option<CellId>, other: Option<CellId>) -> bool
+    ensures { result ≡ same_cell cell other }
+{
+    match (cell, other) {
+        (None, None) => true,
+        (Some(cell), Some(other)) => cell.0 == other.0,
+        _ => false,
+    }
 }
 
 impl Layout {
@@ -87,6 +121,25 @@ impl Layout {
         ensures { result ≡ lookup (same_name name.now) self.now.shared }
     {
         self.shared.get(name).copied()
+    }
+
+    /// Whether these names have the same cells in both, or none.
+    fn agrees(&self, other: &Layout, names: &[Name]) -> bool
+        ensures { result ≡ list_all (agrees_on self.now.shared other.now.shared) names.now }
+    {
+        names
+            .iter()
+            .all(|name| same_cell(self.cell(name), other.cell(name)))
+    }
+
+    /// Whether both are one layout: the same local slots in the same order, and the same shared slots with the same
+    /// cells, in any order (HyperSpec 4.3.6).
+    pub fn is_same(&self, other: &Layout) -> bool
+        ensures { result ≡ same_layout self.now other.now }
+    {
+        same_names(self.locals.as_slice(), other.locals.as_slice())
+            && self.agrees(other, self.shared.keys().as_slice())
+            && self.agrees(other, other.shared.keys().as_slice())
     }
 
     /// Adds a slot at the end, unless it is there.

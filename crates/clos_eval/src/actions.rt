@@ -2,22 +2,24 @@
 ghost use Rattle.std.specs.Prelude.{◌≤◌};
 ghost use Rattle.clos_machine.specs.clos_world.World.{seen};
 ghost use Rattle.clos_machine.specs.clos_meaning.Functions.{called, place_read, place_set};
-ghost use Rattle.clos_machine.specs.Machine.{access_of, acted, act_weight, action_weight, built_in_growth, Grows, performed, Shrinks, Turns, value_weight, here};
+ghost use Rattle.clos_machine.specs.Machine.{access_of, acted, act_weight, action_weight, perform_weight, performed, Shrinks, Turns, here, visited};
 
 use clos_calls::functions::{call, call_setter, compute};
 use clos_calls::next_methods::call_next_given;
 use clos_control::output::{end_line, print};
 use clos_forms::{CalledName, Callee, SlotFunction};
-use clos_machine::machine::{Action, BuiltIn, Doing, Machine, Target};
+use clos_machine::machine::{Action, BuiltIn, Doing, Machine, Target, Visit};
 use clos_machine::{Arguments, Stop, Values, World};
+use clos_objects::class_change::{change_class, change_to};
 use clos_objects::creation::{allocate, initialize, make_instance};
 use clos_objects::filling::{fill, fill_with};
-use clos_objects::system_methods::run_system_method;
+use clos_objects::system_methods::{fill_instance, reinitialize_instance, run_system_method};
 use clos_objects_core::class_functions::call_class_function;
 use clos_objects_core::find_method::call_find_method;
-use clos_objects_core::slots::{call_reader, call_slot_function, call_writer, set_slot_value};
+use clos_objects_core::slots::{call_reader, call_slot_function, call_writer, set_slot_value, visit_slot};
 use clos_places::assignment::with_amount;
 use clos_places::places::{change_name, change_place, new_value, set_name};
+use lisp_data::InstanceId;
 use std::alloc::Global;
 
 /// A function is called.
@@ -39,6 +41,7 @@ fn apply(
         Callee::Terpri => end_line(alloc, machine, world, &values, steps),
         Callee::Primitive(primitive) => compute(alloc, machine, world, primitive, &values),
         Callee::MakeInstance => make_instance(alloc, machine, world, values, steps),
+        Callee::ChangeClass => change_class(alloc, machine, world, values, steps),
         Callee::FindMethod => call_find_method(alloc, machine, world, &values),
         Callee::ClassFunction(function) => {
             call_class_function(alloc, machine, world, function, &values)
@@ -51,7 +54,7 @@ fn apply(
 }
 
 /// A place is set with its arguments and the new value.
-#[tactic(auto, using(crate::proofs::Calling::turns_of_call))]
+#[tactic(auto, using(crate::proofs::Calling::turns_of_call, clos_machine::proofs::Turns::shrinks_by))]
 fn set_place(
     alloc: Global,
     machine: &mut Machine,
@@ -61,7 +64,7 @@ fn set_place(
     steps: &mut u64,
 ) -> Result<Doing, Stop>
     ensures turns { Turns (here machine.old (λ ev env. place_set ev env (access_of target.now) values)) (seen world.old) steps.old result machine.new (seen world.new) steps.new }
-    ensures small { Grows value_weight machine.old.levels result machine.new }
+    ensures small { Shrinks act_weight steps.old steps.new machine.old.levels result machine.new }
     ensures fewer { steps.new ≤ steps.old }
 {
     match target {
@@ -100,7 +103,7 @@ fn read_place(
 }
 
 /// A method without forms runs on these arguments.
-#[tactic(auto, using(clos_machine::proofs::Runs::turns_of_leads, clos_machine::proofs::Turns::grows_more))]
+#[tactic(auto, using(crate::proofs::Calling::shrinks_more))]
 pub fn perform(
     alloc: Global,
     machine: &mut Machine,
@@ -110,16 +113,44 @@ pub fn perform(
     steps: &mut u64,
 ) -> Result<Doing, Stop>
     ensures turns { Turns (here machine.old (λ ev env. performed ev env method arguments.now)) (seen world.old) steps.old result machine.new (seen world.new) steps.new }
-    ensures small { Grows built_in_growth machine.old.levels result machine.new }
+    ensures small { Shrinks perform_weight steps.old steps.new machine.old.levels result machine.new }
     ensures fewer { steps.new ≤ steps.old }
 {
     match method {
-        BuiltIn::Reader(slot) => call_reader(alloc, machine, world, &slot, arguments.as_slice()),
+        BuiltIn::Reader(slot) => {
+            call_reader(alloc, machine, world, slot, arguments.as_slice(), steps)
+        }
         BuiltIn::Writer(slot) => {
             call_writer(alloc, machine, world, slot, arguments.as_slice(), steps)
         }
         BuiltIn::System(function) => {
-            run_system_method(alloc, machine, world, function, arguments)
+            run_system_method(alloc, machine, world, function, arguments, steps)
+        }
+    }
+}
+
+/// This is done with an instance, which is up to date.
+#[tactic(auto, using(clos_machine::proofs::Runs::turns_of_leads, clos_machine::proofs::Turns::shrinks_by, crate::proofs::Calling::shrinks_more))]
+fn visit(
+    alloc: Global,
+    machine: &mut Machine,
+    world: &mut World,
+    id: InstanceId,
+    visit: Visit,
+    steps: &mut u64,
+) -> Result<Doing, Stop>
+    ensures turns { Turns (here machine.old (λ ev env. visited ev env id.0 visit)) (seen world.old) steps.old result machine.new (seen world.new) steps.new }
+    ensures small { Shrinks perform_weight steps.old steps.new machine.old.levels result machine.new }
+    ensures fewer { steps.new ≤ steps.old }
+{
+    match visit {
+        Visit::Slot(visit) => visit_slot(alloc, machine, world, id, visit, steps),
+        Visit::Reinitialize(initargs) => {
+            reinitialize_instance(alloc, machine, world, id, initargs.as_slice())
+        }
+        Visit::Fill(arguments) => fill_instance(alloc, machine, world, id, &arguments),
+        Visit::ChangeClass(class, initargs) => {
+            change_to(alloc, machine, world, id, class, initargs, steps)
         }
     }
 }
@@ -167,6 +198,7 @@ pub fn act(
         Action::FillWith(filling, value) => {
             fill_with(alloc, machine, world, filling, value, steps)
         }
+        Action::Visit(id, task) => visit(alloc, machine, world, id, task, steps),
         Action::Read(target) => read_place(alloc, machine, world, &target, values, steps),
         Action::CallNext => call_next_given(alloc, machine, world, values),
     }

@@ -67,6 +67,9 @@ pub fn give(
             Action::FillWith(filling, value),
             Values::new(alloc),
         )),
+        Frame::Updated(id, visit) => {
+            Ok(Doing::Act(Action::Visit(id, visit), Values::new(alloc)))
+        }
         Frame::Truth => Ok(Doing::Give(truth(is_true(&value)))),
         Frame::Slots(form, body) => bind_slots(alloc, machine, &form, &body, &value),
     }

@@ -1,4 +1,5 @@
 -- What comes next keeps what an evaluation keeps: so with no step left the machine changes nothing.
+use Rattle.std.specs.Prelude.{option_map}
 use Rattle.std.proofs.Common.{ℕ, drop, List, [], ◌∷◌, ◌++◌, refl}
 use Rattle.lisp_data.specs.Value.{Val}
 use Rattle.lisp_data.specs.ValueView.{value_of}
@@ -13,7 +14,7 @@ use Rattle.clos_forms.specs.clos_names.Callee.{callee_of}
 use Rattle.clos_meaning.specs.Bodies.{parameters_run}
 use Rattle.clos_meaning.specs.Control.{clauses, sequence}
 use Rattle.clos_meaning.specs.Filling.{Subject, fill}
-use Rattle.clos_machine.specs.Machine.{access_of, acted, at, below, after, default_given, doing_run, fill_with, followed, resume, denote, loop_of, performed, slot_names, slots_left, subject_of, targets}
+use Rattle.clos_machine.specs.Machine.{access_of, acted, at, below, after, default_given, doing_run, fill_with, followed, initargs_in, names_in, resume, denote, loop_of, performed, slot_names, slot_visited, slots_left, subject_of, targets, visited}
 use Rattle.clos_meaning.specs.Meaning.{alone, changed_place, collect, meaning}
 use Rattle.clos_meaning.specs.Functions.{place_set}
 use Rattle.clos_meaning.specs.Outcome.{leaves, Eval, Out, then_do, is_true}
@@ -21,7 +22,7 @@ use Rattle.clos_meaning.specs.SlotNames.{place_denoted}
 use Rattle.clos_meaning.specs.Variables.{binding, in_order, turns}
 use Rattle.clos_meaning.specs.declared.arguments.Context.{Context}
 use Rattle.clos_machine.specs.declared.machine.Action.{Action}
-use Rattle.clos_machine.specs.declared.machine.Action.TheVariants.{Call, Set, Store, Change, NewValue, Amount, ChangePlace, Allocate, Initialize, Fill, FillWith, Read, CallNext}
+use Rattle.clos_machine.specs.declared.machine.Action.TheVariants.{Call, Set, Store, Change, NewValue, Amount, ChangePlace, Allocate, Initialize, Fill, FillWith, Visit, Read, CallNext}
 use Rattle.clos_machine.specs.declared.machine.BuiltIn.{BuiltIn}
 use Rattle.clos_machine.specs.declared.machine.BuiltIn.TheVariants.{Reader, Writer, System}
 use Rattle.clos_machine.specs.declared.machine.Control.{Control}
@@ -30,10 +31,15 @@ use Rattle.clos_machine.specs.declared.machine.Control.TheVariants.{Progn, Prog1
 use Rattle.clos_machine.specs.declared.machine.Doing.TheVariants.{Start, Act, Invoke, Perform, Give}
 use Rattle.clos_machine.specs.declared.machine.Doing.TheVariants as doing
 use Rattle.clos_machine.specs.declared.machine.Frame.{Frame}
-use Rattle.clos_machine.specs.declared.machine.Frame.TheVariants.{Rest, Keep, Clause, Collect, Body, Bind, Scope, InOrder, Aside, Count, Turn, Setq, Setf, Changed, Default, Filled, Truth, Slots}
+use Rattle.clos_machine.specs.declared.machine.Frame.TheVariants.{Rest, Keep, Clause, Collect, Body, Bind, Scope, InOrder, Aside, Count, Turn, Setq, Setf, Changed, Default, Filled, Updated, Truth, Slots}
+use Rattle.clos_forms.specs.clos_names.declared.callee.SlotFunction.TheVariants.{SlotValue, SlotBoundp}
+use Rattle.clos_machine.specs.declared.machine.SlotVisit.{SlotVisit}
+use Rattle.clos_machine.specs.declared.machine.SlotVisit.TheVariants as visits
+use Rattle.clos_machine.specs.declared.machine.Visit as visiting
+use Rattle.clos_machine.specs.declared.machine.Visit.TheVariants as visit
 use Rattle.clos_machine.specs.declared.machine.Level.{Level}
 use Rattle.clos_machine.specs.declared.machine.Machine.{Machine}
-use Rattle.clos_meaning.proofs.Kept.{Keeps, Kept, allocate_kept, amount_kept, and_kept, applied_kept, aside_kept, binding_kept, branch_kept, changed_from_kept, changed_place_kept, checked_kept, choice_kept, clauses_kept, collect_kept, defaulted_kept, fill_kept, filled_with_kept, invoked_kept, keeping_kept, meaning_kept, name_changed_kept, name_set_kept, next_given_kept, or_kept, order_kept, parameters_kept, read_kept, reader_kept, repeated_kept, restored, sequence_kept, set_kept, setf_kept, setq_kept, still, system_kept, then_kept, turns_kept, where_false_kept, where_true_kept, within_kept, within_slots_kept, writer_kept}
+use Rattle.clos_meaning.proofs.Kept.{Keeps, Kept, allocate_kept, amount_kept, and_kept, applied_kept, aside_kept, binding_kept, branch_kept, changed_from_kept, changed_place_kept, changed_to_kept, checked_kept, choice_kept, clauses_kept, collect_kept, defaulted_kept, fill_kept, filled_with_kept, invoked_kept, keeping_kept, meaning_kept, name_changed_kept, name_set_kept, next_given_kept, or_kept, order_kept, parameters_kept, read_kept, reader_kept, reinitialize_instance_kept, repeated_kept, restored, sequence_kept, set_kept, setf_kept, setq_kept, slot_answer_kept, slot_put_kept, slots_filled_kept, still, system_kept, then_kept, turns_kept, where_false_kept, where_true_kept, within_kept, within_slots_kept, writer_kept}
 
 module _ (ev : Eval) (h : Keeps ev) where
   -- ---- points of return
@@ -46,6 +52,19 @@ module _ (ev : Eval) (h : Keeps ev) where
       → Kept w k (default_given ev env c e ds vs v w k)
   default_given_kept env c e [] vs v w k = still w k
   default_given_kept env c e (d ∷ ds) vs v w k = defaulted_kept ev h env c e ds (vs ++ name_value d.name ∷ v ∷ []) w k
+
+  -- ---- instances that are up to date
+
+  slot_visited_kept : (env : Context) (i : ℕ) (v : SlotVisit) (w : State) (k : ℕ) → Kept w k (slot_visited ev env i v w k)
+  slot_visited_kept env i (visits.Read name) w k = slot_answer_kept ev h env SlotValue i name w k
+  slot_visited_kept env i (visits.Test name) w k = slot_answer_kept ev h env SlotBoundp i name w k
+  slot_visited_kept env i (visits.Change name value given) w k = slot_put_kept ev h env i name (option_map value_of value) (value_of given) w k
+
+  visited_kept : (env : Context) (i : ℕ) (v : visiting.Visit) (w : State) (k : ℕ) → Kept w k (visited ev env i v w k)
+  visited_kept env i (visit.Slot v) w k = slot_visited_kept env i v w k
+  visited_kept env i (visit.Reinitialize initargs) w k = reinitialize_instance_kept ev h initargs i w k
+  visited_kept env i (visit.Fill arguments) w k = slots_filled_kept ev h i (names_in arguments) (initargs_in arguments) w k
+  visited_kept env i (visit.ChangeClass c initargs) w k = changed_to_kept ev h i c.0 initargs w k
 
   -- ---- actions
 
@@ -64,6 +83,7 @@ module _ (ev : Eval) (h : Keeps ev) where
   acted_kept env (Initialize c e i) vs w k = checked_kept ev h c.0 e vs i.0 w k
   acted_kept env (Fill f) vs w k = fill_kept ev h env (subject_of f) (slots_left f) w k
   acted_kept env (FillWith f v) vs w k = fill_with_kept env (subject_of f) (slots_left f) (value_of v) w k
+  acted_kept env (Visit i v) vs w k = visited_kept env i.0 v w k
   acted_kept env (Read t) vs w k = read_kept ev h env (access_of t) vs w k
   acted_kept env CallNext vs w k = next_given_kept ev h env env.running vs w k
 
@@ -106,6 +126,7 @@ module _ (ev : Eval) (h : Keeps ev) where
   after_kept env (Changed p t vs amount) v w k = changed_from_kept ev h env p (access_of t) vs (value_of amount) v w k
   after_kept env (Default c e place vs) v w k = default_given_kept env c.0 e (drop place e.defaults) vs v w k
   after_kept env (Filled f) v w k = fill_with_kept env (subject_of f) (slots_left f) v w k
+  after_kept env (Updated i x) v w k = visited_kept env i.0 x w k
   after_kept env Truth v w k = still w k
   after_kept env (Slots f rest) v w k = within_slots_kept ev h env (slot_names (operator_in f)) rest v w k
 

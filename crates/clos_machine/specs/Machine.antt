@@ -1,5 +1,5 @@
 -- What a state of the machine stands for: the rest of the definition.
-use Rattle.std.specs.Prelude.{◌≡◌, ℕ, suc, ◌+◌, ◌*◌, ◌≤◌, ◌<◌, List, [], ◌∷◌, ◌++◌, Result, Ok, Err, Option, Some, None, drop, slice_get, true, if◌then◌else◌}
+use Rattle.std.specs.Prelude.{◌≡◌, ℕ, suc, ◌+◌, ◌*◌, ◌≤◌, ◌<◌, List, [], ◌∷◌, ◌++◌, Result, Ok, Err, Option, Some, None, drop, option_map, slice_get, true, if◌then◌else◌}
 use Rattle.lisp_data.specs.Name.{Name}
 use Rattle.lisp_data.specs.Value.{Val, instance, list, nil}
 use Rattle.lisp_data.specs.ValueView.{value_of}
@@ -34,12 +34,15 @@ use Rattle.clos_meaning.specs.Meaning.{changed_from, changed_place, collect, set
 use Rattle.clos_meaning.specs.NextMethods.{next_with}
 use Rattle.clos_meaning.specs.Outcome.{Out, Gave, Stopped, Run, Eval, then_do, step_then, gave, is_true, leaves, stopped}
 use Rattle.clos_meaning.specs.Parameters.{Sources, argument, refused, init}
+use Rattle.clos_forms.specs.clos_names.declared.callee.SlotFunction.TheVariants.{SlotValue, SlotBoundp}
+use Rattle.clos_meaning.specs.ChangeClass.{changed_to}
 use Rattle.clos_meaning.specs.SlotNames.{name_stored, within_slots}
-use Rattle.clos_meaning.specs.SystemMethods.{system_method_run}
+use Rattle.clos_meaning.specs.Slots.{slot_answer, slot_put}
+use Rattle.clos_meaning.specs.SystemMethods.{reinitialize_instance, slots_filled, system_method_run}
 use Rattle.clos_meaning.specs.Variables.{Loop, found_value, in_order, binding, within, aside, repeated, turns}
 use Rattle.clos_meaning.specs.declared.arguments.Context.{Context}
 use Rattle.clos_machine.specs.declared.machine.Action.{Action}
-use Rattle.clos_machine.specs.declared.machine.Action.TheVariants.{Call, Set, Store, Change, NewValue, Amount, ChangePlace, Allocate, Initialize, Fill, FillWith, Read, CallNext}
+use Rattle.clos_machine.specs.declared.machine.Action.TheVariants.{Call, Set, Store, Change, NewValue, Amount, ChangePlace, Allocate, Initialize, Fill, FillWith, Visit, Read, CallNext}
 use Rattle.clos_machine.specs.declared.machine.BuiltIn.{BuiltIn}
 use Rattle.clos_machine.specs.declared.machine.BuiltIn.TheVariants.{Reader, Writer, System}
 use Rattle.clos_machine.specs.declared.machine.Control.{Control}
@@ -49,12 +52,16 @@ use Rattle.clos_machine.specs.declared.machine.Doing.TheVariants.{Start, Act, In
 use Rattle.clos_machine.specs.declared.machine.Doing.TheVariants as doing
 use Rattle.clos_machine.specs.declared.machine.Filling.{Filling}
 use Rattle.clos_machine.specs.declared.machine.Frame.{Frame}
-use Rattle.clos_machine.specs.declared.machine.Frame.TheVariants.{Rest, Keep, Clause, Collect, Body, Bind, Scope, InOrder, Aside, Count, Turn, Setq, Setf, Changed, Default, Filled, Truth, Slots}
+use Rattle.clos_machine.specs.declared.machine.Frame.TheVariants.{Rest, Keep, Clause, Collect, Body, Bind, Scope, InOrder, Aside, Count, Turn, Setq, Setf, Changed, Default, Filled, Updated, Truth, Slots}
 use Rattle.clos_machine.specs.declared.machine.Level.{Level}
 use Rattle.clos_machine.specs.declared.machine.Machine.{Machine}
 use Rattle.clos_machine.specs.declared.machine.Repetition.{Repetition}
+use Rattle.clos_machine.specs.declared.machine.SlotVisit.{SlotVisit}
+use Rattle.clos_machine.specs.declared.machine.SlotVisit.TheVariants as visits
 use Rattle.clos_machine.specs.declared.machine.Target.{Target}
 use Rattle.clos_machine.specs.declared.machine.Target.TheVariants as target
+use Rattle.clos_machine.specs.declared.machine.Visit as visiting
+use Rattle.clos_machine.specs.declared.machine.Visit.TheVariants as visit
 
 -- ---- what actions do, in the words of the meaning
 
@@ -87,6 +94,19 @@ abbrev pub default_given : Eval → Context → ℕ → Effective → List Defau
 default_given ev env c e [] vs v w s = stopped ProgramError [] w s
 default_given ev env c e (d ∷ ds) vs v w s = defaulted ev env c e ds (vs ++ name_value d.name ∷ v ∷ []) w s
 
+-- ---- what is done with an instance that is up to date
+
+abbrev pub slot_visited : Eval → Context → ℕ → SlotVisit → Run
+slot_visited ev env i (visits.Read name) w s = slot_answer ev env SlotValue i name w s
+slot_visited ev env i (visits.Test name) w s = slot_answer ev env SlotBoundp i name w s
+slot_visited ev env i (visits.Change name value given) w s = slot_put ev env i name (option_map value_of value) (value_of given) w s
+
+abbrev pub visited : Eval → Context → ℕ → visiting.Visit → Run
+visited ev env i (visit.Slot v) w s = slot_visited ev env i v w s
+visited ev env i (visit.Reinitialize initargs) w s = reinitialize_instance ev initargs i w s
+visited ev env i (visit.Fill arguments) w s = slots_filled ev i (names_in arguments) (initargs_in arguments) w s
+visited ev env i (visit.ChangeClass c initargs) w s = changed_to ev i c.0 initargs w s
+
 -- what is done with the values
 abbrev pub acted : Eval → Context → Action → List Val → Run
 acted ev env (Call name) = called ev env name
@@ -100,6 +120,7 @@ acted ev env (Allocate c e) = allocate ev env c.0 e
 acted ev env (Initialize c e i) = λ vs. checked ev c.0 e vs i.0
 acted ev env (Fill f) = λ vs. fill ev env (subject_of f) (slots_left f)
 acted ev env (FillWith f v) = λ vs. fill_with ev env (subject_of f) (slots_left f) (value_of v)
+acted ev env (Visit i v) = λ vs. visited ev env i.0 v
 acted ev env (Read t) = place_read ev env (access_of t)
 acted ev env CallNext = next_with ev env
 
@@ -167,6 +188,7 @@ below env (Setf rest) = env
 below env (Changed p t vs amount) = env
 below env (Default c e place vs) = env
 below env (Filled f) = env
+below env (Updated i v) = env
 below env Truth = env
 below env (Slots f rest) = env
 
@@ -188,6 +210,7 @@ after ev env (Setf rest) = λ v. setf ev env rest v
 after ev env (Changed p t vs amount) = λ old. changed_from ev env p (access_of t) vs (value_of amount) old
 after ev env (Default c e place vs) = λ v. default_given ev env c.0 e (drop place e.defaults) vs v
 after ev env (Filled f) = λ v. fill_with ev env (subject_of f) (slots_left f) v
+after ev env (Updated i v) = λ x. visited ev env i.0 v
 after ev env Truth = λ v. gave (truth (is_true v))
 after ev env (Slots f rest) = λ v. within_slots ev env (slot_names (operator_in f)) rest v
 
@@ -281,6 +304,10 @@ waiting_weight = 2
 abbrev pub changed_weight : ℕ
 changed_weight = 6
 
+-- an update after which something is done with the instance
+abbrev pub updated_weight : ℕ
+updated_weight = 5
+
 -- the call of a generic function of the system's
 abbrev pub invoke_weight : ℕ
 invoke_weight = 3
@@ -319,6 +346,7 @@ lift (Allocate c e) = 0
 lift (Initialize c e i) = 0
 lift (Fill f) = 0
 lift (FillWith f v) = 0
+lift (Visit i v) = 2
 lift (Read t) = 0
 lift CallNext = 3
 
@@ -355,6 +383,7 @@ weight_of (Setf rest) = waiting_weight
 weight_of (Changed p t vs amount) = changed_weight
 weight_of (Default c e place vs) = 5
 weight_of (Filled f) = 4
+weight_of (Updated i v) = updated_weight
 weight_of Truth = waiting_weight
 weight_of (Slots f rest) = waiting_weight
 

@@ -10,6 +10,7 @@ pub mod moves;
 pub mod names;
 pub mod parameters;
 pub mod truth;
+pub mod updating;
 
 pub use clos_forms::{ClassFunction, Output, SlotFunction};
 pub use clos_meaning::{

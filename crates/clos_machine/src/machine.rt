@@ -32,6 +32,29 @@ pub enum Target {
     SlotValue,
 }
 
+/// What is done with a slot of an instance that is up to date.
+#[derive(Drop)]
+pub enum SlotVisit {
+    /// The slot of this name is read.
+    Read(Name),
+    /// Whether the slot of this name has a value is told.
+    Test(Name),
+    /// The slot of this name gets this value, or none; then the other value is given.
+    Change(Name, Option<Value>, Value),
+}
+
+/// What is done with an instance that is up to date: where its class was defined again, it is updated first.
+#[derive(Drop)]
+pub enum Visit {
+    Slot(SlotVisit),
+    /// It is initialized again with these initargs.
+    Reinitialize(Values),
+    /// Its slots are filled by these arguments of shared-initialize.
+    Fill(Arguments),
+    /// It becomes an instance of this class, with these initargs.
+    ChangeClass(ClassId, Values),
+}
+
 /// What is done with values when they are there.
 #[derive(Drop)]
 pub enum Action {
@@ -58,6 +81,8 @@ pub enum Action {
     Fill(Filling),
     /// The next slot is filled with this value, that of its initform.
     FillWith(Filling, Value),
+    /// This is done with an instance, which is up to date.
+    Visit(InstanceId, Visit),
     /// They are the arguments of a place, which is read.
     Read(Target),
     /// The next method is called with them.
@@ -160,6 +185,8 @@ pub enum Frame {
     Default(ClassId, Finalized, usize, Values),
     /// It is the value of the initform of the next slot.
     Filled(Filling),
+    /// An instance is up to date with it, and this is done with the instance.
+    Updated(InstanceId, Visit),
     /// T is given for it if it is true, and else NIL.
     Truth,
     /// It is the object for whose slots the names of this `with-slots` form stand, before these forms.

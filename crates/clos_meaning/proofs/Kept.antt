@@ -49,7 +49,7 @@ use Rattle.clos_meaning.specs.FindMethod.{method_answer}
 use Rattle.clos_meaning.specs.Dispatch.{Dispatch}
 use Rattle.clos_meaning.specs.Contexts.{in_call, known, running, with_arguments}
 use Rattle.clos_meaning.specs.GenericCalls.{after_positional, called_generic, combined_run, invoked, keywords_fit, matched_or, unmatched, unmatched_by}
-use Rattle.clos_meaning.specs.SystemMethods.{class_in, shared_initialized, initialize, if_valid, reinitialize_as, reinitialize, filled_as, initialize_slots, system_method_run}
+use Rattle.clos_meaning.specs.SystemMethods.{class_in, checked_shared, different, different_from, different_with, new_slots, redefined, reinitialize_instance, shared_if_valid, shared_initialized, slots_filled, initialize, if_valid, reinitialize, filled_as, initialize_slots, system_method_run}
 use Rattle.clos_meaning.specs.Control.{keeping, sequence, while_true, until_true, branch, branch_by, where_true, where_false, and_then, or_then, first_then, tested, clause, clauses}
 use Rattle.clos_meaning.specs.Fault.{answered}
 use Rattle.clos_meaning.specs.Meaning.{collect, alone, setq, setf, assigned, place_in, next_method, with_amount, set_place, changed_from, changed_place, changing, changed_by, other_function, is_plain_function, symbol_function, setter_function, function_value, operated, body, meaning, closed, evaluation, name_changed, name_changed_by, place_set_to, place_changed_by}
@@ -58,14 +58,17 @@ use Rattle.clos_meaning.specs.Filling.{are_slot_names, Filler, nothing, initform
 use Rattle.clos_meaning.specs.Filling as filler
 use Rattle.clos_meaning.specs.Functions.{Access, applied, call_access, called, place_read, place_set, slot_access}
 use Rattle.clos_meaning.specs.Initialization.{allocate, checked, initialized, invalid_initarg, is_given, made, methods_reached, defaulted, making_of, making, instance_made}
-use Rattle.clos_meaning.specs.Slots.{class_value, operation_name, missing_called, missing_changed, instance_in, slot_designated, slot_read, slot_tested, slot_changed, slot_answer, slot_applied, slot_called, slot_given, slot_set, slot_stored}
+use Rattle.clos_meaning.specs.Slots.{class_value, operation_name, missing_called, missing_changed, instance_in, slot_designated, slot_read, slot_tested, slot_changed, slot_answer, slot_applied, slot_asked, slot_called, slot_given, slot_put, slot_set, slot_stored}
 use Rattle.clos_forms.specs.clos_names.declared.callee.SlotFunction as of_slots
 use Rattle.clos_forms.specs.clos_names.declared.callee.SlotFunction.TheVariants.{SlotValue, SlotBoundp, SlotMakunbound, SlotExistsP}
-use Rattle.clos_world.specs.clos_class.Slots.{Effective as Whole}
+use Rattle.clos_world.specs.clos_class.Slots.{Effective as Whole, Layout}
 use Rattle.clos_world.specs.clos_class.declared.effective_slots.EffectiveSlot.{EffectiveSlot}
 use Rattle.clos_world.specs.clos_class.clos_syntax.declared.class.DefaultInitarg.{DefaultInitarg}
 use Rattle.clos_world.specs.clos_store.Store.{allocated, has_room, slot_found, with_instance}
-use Rattle.clos_world.specs.Class.{effective}
+use Rattle.clos_world.specs.clos_store.Update.{with_change, with_update}
+use Rattle.clos_world.specs.Class.{effective, layout}
+use Rattle.clos_meaning.specs.ChangeClass.{change_called, changed_by_layout, changed_if, changed_of, changed_to, class_changed, different_called, if_there}
+use Rattle.clos_meaning.specs.Updating.{due, names_listed, restructured, told, updated, updated_if, updated_with}
 use Rattle.clos_meaning.specs.Outcome.{leaves, Noted, Out, Gave, Stopped, Run, Eval, then_do, step_then, gave, stopped, is_true}
 use Rattle.clos_meaning.specs.Output.{output_of, text_by, written, line_ended}
 use Rattle.clos_meaning.specs.Parameters.{Sources, argument, refused, init, are_even, are_pairs, fits, sources}
@@ -75,7 +78,7 @@ use Rattle.clos_meaning.specs.declared.arguments.Context.{Context}
 use Rattle.clos_meaning.proofs.Quiet.{Quiet}
 use Rattle.clos_meaning.specs.declared.arguments.Running.{Running}
 use Rattle.clos_forms.specs.clos_names.declared.callee.Callee.{Callee}
-use Rattle.clos_forms.specs.clos_names.declared.callee.Callee.TheVariants.{Output, Terpri, Primitive, MakeInstance, FindMethod, ClassFunction, SlotFunction, Defined}
+use Rattle.clos_forms.specs.clos_names.declared.callee.Callee.TheVariants.{Output, Terpri, Primitive, MakeInstance, ChangeClass, FindMethod, ClassFunction, SlotFunction, Defined}
 use Rattle.clos_forms.specs.clos_names.declared.callee.Output as output
 
 pub same : (w : State) → Same w w
@@ -356,18 +359,37 @@ module _ (ev : Eval) (h : Keeps ev) where
   function_kept name vs None w k = defined_kept vs (name_value name) (function_in w.functions name) w k
   function_kept name vs (Some g) w k = generic_kept vs g (slice_get w.generics.functions g) w k
 
+  -- ---- updates
+
+  restructured_kept : (i : ℕ) (l : Layout) (vs : List Val) (go : Run) → ((u : State) (j : ℕ) → Kept u j (go u j)) → (w : State) (k : ℕ) → Kept w k (restructured ev i l vs go w k)
+  restructured_kept i l vs go g w k =
+      step_kept (λ u j. then_do (invoked ev UpdateInstanceForRedefinedClass vs (record u { store = with_update i l u.store }) j) (λ v x t. go x t)) w k
+      (λ j. (then_kept (record w { store = with_update i l w.store }) j (invoked ev UpdateInstanceForRedefinedClass vs (record w { store = with_update i l w.store }) j)
+      (λ v x t. go x t) (invoked_kept UpdateInstanceForRedefinedClass vs (record w { store = with_update i l w.store }) j) (λ v x t. g x t)).0)
+
+  updated_kept_with : (i : ℕ) (l : Layout) (go : Run) → ((u : State) (j : ℕ) → Kept u j (go u j)) → (x : Result (List Val) Condition) (w : State) (k : ℕ) → Kept w k (updated_with ev i l go x w k)
+  updated_kept_with i l go g (Err c) w k = still w k
+  updated_kept_with i l go g (Ok vs) w k = restructured_kept i l vs go g w k
+
+  updated_kept_if : (i : ℕ) (go : Run) → ((u : State) (j : ℕ) → Kept u j (go u j)) → (o : Option Layout) (w : State) (k : ℕ) → Kept w k (updated_if ev i go o w k)
+  updated_kept_if i go g None w k = g w k
+  updated_kept_if i go g (Some l) w k = updated_kept_with i l go g (told w i l) w k
+
+  pub updated_kept : (i : ℕ) (go : Run) → ((u : State) (j : ℕ) → Kept u j (go u j)) → (w : State) (k : ℕ) → Kept w k (updated ev i go w k)
+  updated_kept i go g w k = updated_kept_if i go g (due w i) w k
+
   -- ---- slots
 
   missing_kept : (i : ℕ) (name : Name) (operation : List ℕ) (new : List Val) (w : State) (k : ℕ) → Kept w k (missing_called ev i name operation new w k)
   missing_kept i name operation new w k =
       invoked_kept SlotMissing (class_value w i ∷ value.instance i ∷ name_value name ∷ operation_name operation ∷ new) w k
 
-  slot_read_kept : (env : Context) (i : ℕ) (name : Name) (o : Option (Option Val)) (w : State) (k : ℕ) → Kept w k (slot_read ev env i name o w k)
+  pub slot_read_kept : (env : Context) (i : ℕ) (name : Name) (o : Option (Option Val)) (w : State) (k : ℕ) → Kept w k (slot_read ev env i name o w k)
   slot_read_kept env i name None w k = missing_kept i name (codes "SLOT-VALUE") [] w k
   slot_read_kept env i name (Some None) w k = invoked_kept SlotUnbound (class_value w i ∷ value.instance i ∷ name_value name ∷ []) w k
   slot_read_kept env i name (Some (Some v)) w k = still w k
 
-  slot_tested_kept : (env : Context) (i : ℕ) (name : Name) (o : Option (Option Val)) (w : State) (k : ℕ) → Kept w k (slot_tested ev env i name o w k)
+  pub slot_tested_kept : (env : Context) (i : ℕ) (name : Name) (o : Option (Option Val)) (w : State) (k : ℕ) → Kept w k (slot_tested ev env i name o w k)
   slot_tested_kept env i name None w k =
       then_kept w k (missing_called ev i name (codes "SLOT-BOUNDP") [] w k) (λ v. gave (truth (is_true v)))
       (missing_kept i name (codes "SLOT-BOUNDP") [] w k) (λ v u j. still u j)
@@ -383,15 +405,24 @@ module _ (ev : Eval) (h : Keeps ev) where
       then_kept w k (missing_changed ev i name x w k) (λ y. gave v) (missing_changed_kept i name x w k) (λ y u j. still u j)
   slot_changed_kept env i name x v (Some old) w k = step_kept (slot_stored i name x v) w k (λ j. same w)
 
-  slot_answer_kept : (env : Context) (f : of_slots.SlotFunction) (i : ℕ) (name : Name) (w : State) (k : ℕ) → Kept w k (slot_answer ev env f i name w k)
+  pub slot_put_kept : (env : Context) (i : ℕ) (name : Name) (x : Option Val) (v : Val) (w : State) (k : ℕ) → Kept w k (slot_put ev env i name x v w k)
+  slot_put_kept env i name x v w k = slot_changed_kept env i name x v (slot_found w.store i name) w k
+
+  pub slot_answer_kept : (env : Context) (f : of_slots.SlotFunction) (i : ℕ) (name : Name) (w : State) (k : ℕ) → Kept w k (slot_answer ev env f i name w k)
   slot_answer_kept env SlotValue i name w k = slot_read_kept env i name (slot_found w.store i name) w k
   slot_answer_kept env SlotBoundp i name w k = slot_tested_kept env i name (slot_found w.store i name) w k
-  slot_answer_kept env SlotMakunbound i name w k = slot_changed_kept env i name None (value.instance i) (slot_found w.store i name) w k
+  slot_answer_kept env SlotMakunbound i name w k = slot_put_kept env i name None (value.instance i) w k
   slot_answer_kept env SlotExistsP i name w k = still w k
+
+  slot_asked_kept : (env : Context) (f : of_slots.SlotFunction) (i : ℕ) (name : Name) (w : State) (k : ℕ) → Kept w k (slot_asked ev env f i name w k)
+  slot_asked_kept env SlotValue i name w k = updated_kept i (slot_answer ev env SlotValue i name) (slot_answer_kept env SlotValue i name) w k
+  slot_asked_kept env SlotBoundp i name w k = updated_kept i (slot_answer ev env SlotBoundp i name) (slot_answer_kept env SlotBoundp i name) w k
+  slot_asked_kept env SlotMakunbound i name w k = updated_kept i (slot_answer ev env SlotMakunbound i name) (slot_answer_kept env SlotMakunbound i name) w k
+  slot_asked_kept env SlotExistsP i name w k = still w k
 
   slot_applied_kept : (env : Context) (f : of_slots.SlotFunction) (d : Result (ℕ × Name) Condition) (w : State) (k : ℕ) → Kept w k (slot_applied ev env f d w k)
   slot_applied_kept env f (Err c) w k = still w k
-  slot_applied_kept env f (Ok p) w k = slot_answer_kept env f p.0 p.1 w k
+  slot_applied_kept env f (Ok p) w k = slot_asked_kept env f p.0 p.1 w k
 
   slot_called_kept : (env : Context) (f : of_slots.SlotFunction) (vs : List Val) (w : State) (k : ℕ) → Kept w k (slot_called ev env f vs w k)
   slot_called_kept env f [] w k = still w k
@@ -401,7 +432,7 @@ module _ (ev : Eval) (h : Keeps ev) where
 
   slot_given_kept : (env : Context) (x : Val) (d : Result (ℕ × Name) Condition) (w : State) (k : ℕ) → Kept w k (slot_given ev env x d w k)
   slot_given_kept env x (Err c) w k = still w k
-  slot_given_kept env x (Ok p) w k = slot_changed_kept env p.0 p.1 (Some x) x (slot_found w.store p.0 p.1) w k
+  slot_given_kept env x (Ok p) w k = updated_kept p.0 (slot_put ev env p.0 p.1 (Some x) x) (slot_put_kept env p.0 p.1 (Some x) x) w k
 
   slot_set_kept : (env : Context) (vs : List Val) (w : State) (k : ℕ) → Kept w k (slot_set ev env vs w k)
   slot_set_kept env [] w k = still w k
@@ -414,7 +445,7 @@ module _ (ev : Eval) (h : Keeps ev) where
 
   read_kept_of : (env : Context) (slot : Name) (d : Result ℕ Condition) (w : State) (k : ℕ) → Kept w k (read_of ev env slot d w k)
   read_kept_of env slot (Err c) w k = still w k
-  read_kept_of env slot (Ok i) w k = slot_read_kept env i slot (slot_found w.store i slot) w k
+  read_kept_of env slot (Ok i) w k = updated_kept i (slot_answer ev env SlotValue i slot) (slot_answer_kept env SlotValue i slot) w k
 
   pub reader_kept : (env : Context) (slot : Name) (vs : List Val) (w : State) (k : ℕ) → Kept w k (read_by ev env slot vs w k)
   reader_kept env slot [] w k = still w k
@@ -423,7 +454,7 @@ module _ (ev : Eval) (h : Keeps ev) where
 
   written_kept_of : (env : Context) (slot : Name) (x : Val) (d : Result ℕ Condition) (w : State) (k : ℕ) → Kept w k (written_of ev env slot x d w k)
   written_kept_of env slot x (Err c) w k = still w k
-  written_kept_of env slot x (Ok i) w k = slot_changed_kept env i slot (Some x) x (slot_found w.store i slot) w k
+  written_kept_of env slot x (Ok i) w k = updated_kept i (slot_put ev env i slot (Some x) x) (slot_put_kept env i slot (Some x) x) w k
 
   pub writer_kept : (env : Context) (slot : Name) (vs : List Val) (w : State) (k : ℕ) → Kept w k (written_by ev env slot vs w k)
   writer_kept env slot [] w k = still w k
@@ -452,7 +483,7 @@ module _ (ev : Eval) (h : Keeps ev) where
 
   pub checked_kept : (c : ℕ) (e : Whole) (vs : List Val) (i : ℕ) (w : State) (k : ℕ) → Kept w k (checked ev c e vs i w k)
   checked_kept c e vs i w k =
-      initialized_kept c vs i (invalid_initarg w.generics.methods (methods_reached w InitializeInstance i (truth true)) e.slots vs) w k
+      initialized_kept c vs i (invalid_initarg w.generics.methods (methods_reached w InitializeInstance (value.instance i ∷ []) i (truth true)) e.slots vs) w k
 
   pub allocate_kept : (env : Context) (c : ℕ) (e : Whole) (vs : List Val) (w : State) (k : ℕ) → Kept w k (allocate ev env c e vs w k)
   allocate_kept env c e vs w k =
@@ -481,11 +512,46 @@ module _ (ev : Eval) (h : Keeps ev) where
   instance_kept (v ∷ vs) w k =
       choice_kept (are_pairs vs) w k (making ev vs (designated w.classes v) w k) _ (making_kept vs (designated w.classes v) w k) (still w k)
 
+  -- ---- change-class
+
+  different_called_kept : (copy i : ℕ) (vs : List Val) (w : State) (k : ℕ) → Kept w k (different_called ev copy i vs w k)
+  different_called_kept copy i vs w k =
+      then_kept w k (invoked ev UpdateInstanceForDifferentClass (value.instance copy ∷ value.instance i ∷ vs) w k) (λ v. gave (value.instance i))
+      (invoked_kept UpdateInstanceForDifferentClass (value.instance copy ∷ value.instance i ∷ vs) w k) (λ v u j. still u j)
+
+  class_changed_kept : (i c : ℕ) (l : Layout) (vs : List Val) (w : State) (k : ℕ) → Kept w k (class_changed ev i c l vs w k)
+  class_changed_kept i c l vs w k =
+      step_kept (λ u j. different_called ev (length u.store.instances + 1) i vs (record u { store = with_change i c l u.store }) j) w k
+      (λ j. (different_called_kept (length w.store.instances + 1) i vs (record w { store = with_change i c l w.store }) j).0)
+
+  changed_by_layout_kept : (i c : ℕ) (vs : List Val) (o : Option Layout) (w : State) (k : ℕ) → Kept w k (changed_by_layout ev i c vs o w k)
+  changed_by_layout_kept i c vs None w k = still w k
+  changed_by_layout_kept i c vs (Some l) w k = class_changed_kept i c l vs w k
+
+  pub changed_to_kept : (i c : ℕ) (vs : List Val) (w : State) (k : ℕ) → Kept w k (changed_to ev i c vs w k)
+  changed_to_kept i c vs w k =
+      choice_kept (has_room w.store) w k (changed_by_layout ev i c vs (if_there (class_of_instance w i) (layout w.classes c)) w k) _
+      (changed_by_layout_kept i c vs (if_there (class_of_instance w i) (layout w.classes c)) w k) (still w k)
+
+  changed_if_kept : (i : ℕ) (vs : List Val) (d : Result ℕ Condition) (w : State) (k : ℕ) → Kept w k (changed_if ev i vs d w k)
+  changed_if_kept i vs (Err e) w k = still w k
+  changed_if_kept i vs (Ok c) w k = updated_kept i (changed_to ev i c vs) (changed_to_kept i c vs) w k
+
+  changed_of_kept : (class : Val) (vs : List Val) (d : Result ℕ Condition) (w : State) (k : ℕ) → Kept w k (changed_of ev class vs d w k)
+  changed_of_kept class vs (Err e) w k = still w k
+  changed_of_kept class vs (Ok i) w k = changed_if_kept i vs (designated w.classes class) w k
+
+  change_called_kept : (vs : List Val) (w : State) (k : ℕ) → Kept w k (change_called ev vs w k)
+  change_called_kept [] w k = still w k
+  change_called_kept (v ∷ []) w k = still w k
+  change_called_kept (v ∷ (class ∷ vs)) w k = changed_of_kept class vs (instance_in v) w k
+
   pub applied_kept : (env : Context) (c : Callee) (name : Name) (vs : List Val) (w : State) (k : ℕ) → Kept w k (applied ev env c name vs w k)
   applied_kept env (Output o) name vs w k = output_kept o (only_value vs) w k
   applied_kept env Terpri name vs w k = line_kept vs w k
   applied_kept env (Primitive p) name vs w k = answered_kept (answer p vs) w k
   applied_kept env MakeInstance name vs w k = instance_kept vs w k
+  applied_kept env ChangeClass name vs w k = change_called_kept vs w k
   applied_kept env FindMethod name vs w k = comes_kept (method_answer w.classes w.generics vs) w k
   applied_kept env (SlotFunction f) name vs w k = slot_called_kept env f vs w k
   applied_kept env (ClassFunction f) name vs w k = comes_kept (class_answer f w.classes (class_of w) vs) w k
@@ -609,14 +675,39 @@ module _ (ev : Eval) (h : Keeps ev) where
   initialize_kept vs (Err c) w k = still w k
   initialize_kept vs (Ok i) w k = shared_kept i (truth true) vs w k
 
-  reinitialize_kept_as : (vs : List Val) (i : ℕ) (o : Option (ℕ × Whole)) (w : State) (k : ℕ) → Kept w k (reinitialize_as ev vs i o w k)
-  reinitialize_kept_as vs i None w k = still w k
-  reinitialize_kept_as vs i (Some p) w k =
-      valid_kept p.0 (invalid_initarg w.generics.methods (methods_reached w ReinitializeInstance i none) p.1.slots vs) (shared_initialized ev i none vs) w k (shared_kept i none vs w k)
+  shared_if_valid_kept : (f : SystemFunction) (vs : List Val) (names : Val) (initargs : List Val) (i : ℕ) (o : Option (ℕ × Whole)) (w : State) (k : ℕ)
+      → Kept w k (shared_if_valid ev f vs names initargs i o w k)
+  shared_if_valid_kept f vs names initargs i None w k = still w k
+  shared_if_valid_kept f vs names initargs i (Some p) w k =
+      valid_kept p.0 (invalid_initarg w.generics.methods (methods_reached w f vs i names) p.1.slots initargs) (shared_initialized ev i names initargs) w k
+      (shared_kept i names initargs w k)
+
+  checked_shared_kept : (f : SystemFunction) (vs : List Val) (names : Val) (initargs : List Val) (i : ℕ) (w : State) (k : ℕ)
+      → Kept w k (checked_shared ev f vs names initargs i w k)
+  checked_shared_kept f vs names initargs i w k = shared_if_valid_kept f vs names initargs i (class_in w i) w k
+
+  pub reinitialize_instance_kept : (vs : List Val) (i : ℕ) (w : State) (k : ℕ) → Kept w k (reinitialize_instance ev vs i w k)
+  reinitialize_instance_kept vs i w k = checked_shared_kept ReinitializeInstance (value.instance i ∷ []) none vs i w k
 
   reinitialize_kept : (vs : List Val) (d : Result ℕ Condition) (w : State) (k : ℕ) → Kept w k (reinitialize ev vs d w k)
   reinitialize_kept vs (Err c) w k = still w k
-  reinitialize_kept vs (Ok i) w k = reinitialize_kept_as vs i (class_in w i) w k
+  reinitialize_kept vs (Ok i) w k = updated_kept i (reinitialize_instance ev vs i) (reinitialize_instance_kept vs i) w k
+
+  redefined_kept : (vs : List Val) (names : Val) (initargs : List Val) (d : Result ℕ Condition) (w : State) (k : ℕ) → Kept w k (redefined ev vs names initargs d w k)
+  redefined_kept vs names initargs (Err c) w k = still w k
+  redefined_kept vs names initargs (Ok i) w k = checked_shared_kept UpdateInstanceForRedefinedClass vs names initargs i w k
+
+  different_with_kept : (vs initargs : List Val) (i : ℕ) (l : Answer) (w : State) (k : ℕ) → Kept w k (different_with ev vs initargs i l w k)
+  different_with_kept vs initargs i (Err c) w k = still w k
+  different_with_kept vs initargs i (Ok names) w k = checked_shared_kept UpdateInstanceForDifferentClass vs names initargs i w k
+
+  different_from_kept : (vs initargs : List Val) (copy : ℕ) (d : Result ℕ Condition) (w : State) (k : ℕ) → Kept w k (different_from ev vs initargs copy d w k)
+  different_from_kept vs initargs copy (Err c) w k = still w k
+  different_from_kept vs initargs copy (Ok i) w k = different_with_kept vs initargs i (names_listed (new_slots w copy i)) w k
+
+  different_kept : (previous current : Val) (initargs : List Val) (d : Result ℕ Condition) (w : State) (k : ℕ) → Kept w k (different ev previous current initargs d w k)
+  different_kept previous current initargs (Err c) w k = still w k
+  different_kept previous current initargs (Ok copy) w k = different_from_kept (previous ∷ current ∷ initargs) initargs copy (instance_in current) w k
 
   filled_as_kept : (i : ℕ) (names : Val) (vs : List Val) (o : Option (ℕ × Whole)) (w : State) (k : ℕ) → Kept w k (filled_as ev i names vs o w k)
   filled_as_kept i names vs None w k = still w k
@@ -624,10 +715,13 @@ module _ (ev : Eval) (h : Keeps ev) where
       let f : Subject = record { instance = i; class = p.0; names = names; initargs = vs } in
       restored w.locals w k (fill ev (known []) f p.1.slots (bound_as [] w) k) (fill_kept (known []) f p.1.slots (bound_as [] w) k)
 
+  pub slots_filled_kept : (i : ℕ) (names : Val) (vs : List Val) (w : State) (k : ℕ) → Kept w k (slots_filled ev i names vs w k)
+  slots_filled_kept i names vs w k = filled_as_kept i names vs (class_in w i) w k
+
   slots_kept : (names : Val) (vs : List Val) (d : Result ℕ Condition) (w : State) (k : ℕ) → Kept w k (initialize_slots ev names vs d w k)
   slots_kept names vs (Err c) w k = still w k
   slots_kept names vs (Ok i) w k =
-      choice_kept (are_slot_names names) w k (filled_as ev i names vs (class_in w i) w k) _ (filled_as_kept i names vs (class_in w i) w k) (still w k)
+      choice_kept (are_slot_names names) w k (updated ev i (slots_filled ev i names vs) w k) _ (updated_kept i (slots_filled ev i names vs) (slots_filled_kept i names vs) w k) (still w k)
 
   pub system_kept : (f : SystemFunction) (vs : List Val) (w : State) (k : ℕ) → Kept w k (system_method_run ev f vs w k)
   system_kept InitializeInstance [] w k = still w k
@@ -639,9 +733,14 @@ module _ (ev : Eval) (h : Keeps ev) where
   system_kept SharedInitialize (v ∷ (names ∷ vs)) w k =
       choice_kept (are_even vs) w k (initialize_slots ev names vs (instance_in v) w k) _ (slots_kept names vs (instance_in v) w k) (still w k)
   system_kept UpdateInstanceForRedefinedClass [] w k = still w k
-  system_kept UpdateInstanceForRedefinedClass (v ∷ vs) w k = still w k
+  system_kept UpdateInstanceForRedefinedClass (v ∷ []) w k = still w k
+  system_kept UpdateInstanceForRedefinedClass (v ∷ (added ∷ [])) w k = still w k
+  system_kept UpdateInstanceForRedefinedClass (v ∷ (added ∷ (discarded ∷ []))) w k = still w k
+  system_kept UpdateInstanceForRedefinedClass (v ∷ (added ∷ (discarded ∷ (properties ∷ vs)))) w k =
+      redefined_kept (v ∷ added ∷ discarded ∷ properties ∷ vs) added vs (instance_in v) w k
   system_kept UpdateInstanceForDifferentClass [] w k = still w k
-  system_kept UpdateInstanceForDifferentClass (v ∷ vs) w k = still w k
+  system_kept UpdateInstanceForDifferentClass (v ∷ []) w k = still w k
+  system_kept UpdateInstanceForDifferentClass (v ∷ (current ∷ vs)) w k = different_kept v current vs (instance_in v) w k
   system_kept SlotUnbound vs w k = still w k
   system_kept SlotMissing vs w k = still w k
   system_kept NoApplicableMethod [] w k = still w k

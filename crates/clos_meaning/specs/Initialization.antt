@@ -31,14 +31,15 @@ use Rattle.clos_meaning.specs.declared.arguments.Context.{Context}
 
 -- ---- the validity of initargs (7.1.2): each names a slot, is a keyword of one of the methods that they reach, or is :ALLOW-OTHER-KEYS
 
--- the methods that the initargs of an instance reach: those of this function, and those of shared-initialize with these names of slots
-abbrev pub methods_reached : State → SystemFunction → ℕ → Val → List ℕ
-methods_reached w f i names = ordered w (system_number f) (instance i ∷ []) ++ ordered w (system_number SharedInitialize) (instance i ∷ names ∷ [])
+-- the methods that the initargs of an instance reach: those of this function with these arguments, and those of shared-initialize with
+-- these names of slots
+abbrev pub methods_reached : State → SystemFunction → List Val → ℕ → Val → List ℕ
+methods_reached w f vs i names = ordered w (system_number f) vs ++ ordered w (system_number SharedInitialize) (instance i ∷ names ∷ [])
 
 -- asking for them is a use of each function
-abbrev pub with_uses : State → SystemFunction → ℕ → Val → Out → Out
-with_uses w f i names o =
-    Noted (used (pair w (system_number f) (instance i ∷ []))) (Noted (used (pair w (system_number SharedInitialize) (instance i ∷ names ∷ []))) o)
+abbrev pub with_uses : State → SystemFunction → List Val → ℕ → Val → Out → Out
+with_uses w f vs i names o =
+    Noted (used (pair w (system_number f) vs)) (Noted (used (pair w (system_number SharedInitialize) (instance i ∷ names ∷ []))) o)
 
 abbrev pub fills : List EffectiveSlot → Val → Bool
 fills slots v = list_any (λ s. list_any (λ n. is_symbol_named n v) s.initargs) slots
@@ -79,8 +80,8 @@ initialized ev c vs i None w s = then_do (invoked ev InitializeInstance (instanc
 
 abbrev pub checked : Eval → ℕ → Effective → List Val → ℕ → Run
 checked ev c e vs i w s =
-    with_uses w InitializeInstance i (truth true)
-    (initialized ev c vs i (invalid_initarg w.generics.methods (methods_reached w InitializeInstance i (truth true)) e.slots vs) w s)
+    with_uses w InitializeInstance (instance i ∷ []) i (truth true)
+    (initialized ev c vs i (invalid_initarg w.generics.methods (methods_reached w InitializeInstance (instance i ∷ []) i (truth true)) e.slots vs) w s)
 
 abbrev pub made : Eval → Context → ℕ → Effective → List Val → Run
 made ev env c e vs w s = checked ev c e vs (length w.store.instances + 1) (record w { store = with_instance (allocated c e.layout) w.store }) s

@@ -12,9 +12,11 @@ pub mod Dispatch
 pub mod Contexts
 pub mod GenericCalls
 pub mod Bodies
+pub mod Updating
 pub mod Slots
 pub mod Filling
 pub mod Initialization
+pub mod ChangeClass
 pub mod Accessors
 pub mod SystemMethods
 pub mod Calls

@@ -17,6 +17,7 @@ use Rattle.clos_world.specs.clos_method.declared.system.SystemFunction.TheVarian
 use Rattle.clos_meaning.specs.ClassFunctions.{symbol_in, wrong_type}
 use Rattle.clos_meaning.specs.GenericCalls.{invoked}
 use Rattle.clos_meaning.specs.Outcome.{Gave, Stopped, Run, Eval, then_do, step_then, gave, stopped, is_true}
+use Rattle.clos_meaning.specs.Updating.{updated}
 use Rattle.clos_meaning.specs.declared.arguments.Context.{Context}
 use Rattle.clos_forms.specs.clos_names.declared.callee.SlotFunction.{SlotFunction}
 use Rattle.clos_forms.specs.clos_names.declared.callee.SlotFunction.TheVariants.{SlotValue, SlotBoundp, SlotMakunbound, SlotExistsP}
@@ -87,6 +88,10 @@ abbrev pub slot_changed : Eval → Context → ℕ → Name → Option Val → V
 slot_changed ev env i name value v None w s = then_do (missing_changed ev i name value w s) (λ x. gave v)
 slot_changed ev env i name value v (Some old) w s = step_then (slot_stored i name value v) w s
 
+-- the slot of an instance has this value, or none; this other value is given, also where slot-missing was called
+abbrev pub slot_put : Eval → Context → ℕ → Name → Option Val → Val → Run
+slot_put ev env i name value v w s = slot_changed ev env i name value v (slot_found w.store i name) w s
+
 -- whether a class gives its instances a slot of this name
 abbrev pub has_slot : Table → Option ℕ → Name → Bool
 has_slot t None name = false
@@ -98,13 +103,18 @@ has_slot t (Some c) name = is_some (find (λ s. same_name name s.name) (effectiv
 abbrev pub slot_answer : Eval → Context → SlotFunction → ℕ → Name → Run
 slot_answer ev env SlotValue i name w s = slot_read ev env i name (slot_found w.store i name) w s
 slot_answer ev env SlotBoundp i name w s = slot_tested ev env i name (slot_found w.store i name) w s
-slot_answer ev env SlotMakunbound i name w s = slot_changed ev env i name None (instance i) (slot_found w.store i name) w s
+slot_answer ev env SlotMakunbound i name w s = slot_put ev env i name None (instance i) w s
 slot_answer ev env SlotExistsP i name w s = Gave (truth (has_slot w.classes (class_of_instance w i) name)) w s
+
+-- all but slot-exists-p look at the slots of the instance, which is updated first
+abbrev pub slot_asked : Eval → Context → SlotFunction → ℕ → Name → Run
+slot_asked ev env SlotExistsP i name w s = slot_answer ev env SlotExistsP i name w s
+slot_asked ev env f i name w s = updated ev i (slot_answer ev env f i name) w s
 
 -- where the arguments are an instance and a symbol, else the condition
 abbrev pub slot_applied : Eval → Context → SlotFunction → Result (ℕ × Name) Condition → Run
 slot_applied ev env f (Err c) w s = Stopped c w s
-slot_applied ev env f (Ok p) w s = slot_answer ev env f p.0 p.1 w s
+slot_applied ev env f (Ok p) w s = slot_asked ev env f p.0 p.1 w s
 
 -- of just two arguments; another number of them is PROGRAM-ERROR
 abbrev pub slot_called : Eval → Context → SlotFunction → List Val → Run
@@ -115,10 +125,10 @@ slot_called ev env f (v ∷ (name ∷ (x ∷ vs))) w s = stopped ProgramError []
 
 -- ---- slot-value as a place: an instance, a name and the new value
 
--- the new value is given, also where slot-missing was called
+-- the new value is given
 abbrev pub slot_given : Eval → Context → Val → Result (ℕ × Name) Condition → Run
 slot_given ev env x (Err c) w s = Stopped c w s
-slot_given ev env x (Ok p) w s = slot_changed ev env p.0 p.1 (Some x) x (slot_found w.store p.0 p.1) w s
+slot_given ev env x (Ok p) w s = updated ev p.0 (slot_put ev env p.0 p.1 (Some x) x) w s
 
 -- of just three arguments; another number of them is PROGRAM-ERROR
 abbrev pub slot_set : Eval → Context → List Val → Run

@@ -55,6 +55,7 @@ pub enum Callee {
     /// A function of values.
     Primitive(Primitive),
     MakeInstance,
+    ChangeClass,
     FindMethod,
     /// A function of classes.
     ClassFunction(ClassFunction),
@@ -82,6 +83,9 @@ pub(crate) fn callee_named(name: &Name) -> Callee
     }
     if is_the(name, "MAKE-INSTANCE") {
         return Callee::MakeInstance;
+    }
+    if is_the(name, "CHANGE-CLASS") {
+        return Callee::ChangeClass;
     }
     if is_the(name, "FIND-METHOD") {
         return Callee::FindMethod;

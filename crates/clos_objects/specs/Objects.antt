@@ -16,6 +16,8 @@ use Rattle.clos_machine.specs.Machine.{apart, default_given}
 use Rattle.clos_machine.specs.declared.machine.Machine.{Machine}
 use Rattle.clos_machine.specs.clos_world.declared.condition.ConditionKind.TheVariants.{NoNextMethod, ProgramError}
 use Rattle.clos_machine.specs.clos_meaning.declared.arguments.Context.{Context}
+use Rattle.clos_method.specs.declared.system.SystemFunction.{SystemFunction}
+use Rattle.clos_method.specs.declared.system.SystemFunction.TheVariants.{ReinitializeInstance, SharedInitialize}
 use Rattle.clos_objects.specs.declared.filling.Found.{Found}
 use Rattle.clos_objects.specs.declared.filling.Found.TheVariants as found
 
@@ -79,3 +81,23 @@ Enters m n = n ≡ apart m (known [])
 abbrev pub next_condition : List Val → Condition
 next_condition [] = record { kind = ProgramError; items = [] }
 next_condition (m ∷ vs) = record { kind = NoNextMethod; items = m ∷ [] }
+
+-- ---- the system's methods
+
+-- what a method of this function does takes no step by itself: it updates no instance
+abbrev pub IsStill : SystemFunction → Type 0
+IsStill ReinitializeInstance = ⊥
+IsStill SharedInitialize = ⊥
+IsStill f = Unit {0}
+
+-- of update-instance-for-redefined-class, after the instance
+abbrev pub names_and_initargs : List Val → Option (Val × List Val)
+names_and_initargs [] = None
+names_and_initargs (names ∷ []) = None
+names_and_initargs (names ∷ (discarded ∷ [])) = None
+names_and_initargs (names ∷ (discarded ∷ (properties ∷ initargs))) = Some (names, initargs)
+
+-- of update-instance-for-different-class, after the copy
+abbrev pub current_and_initargs : List Val → Option (Val × List Val)
+current_and_initargs [] = None
+current_and_initargs (current ∷ initargs) = Some (current, initargs)

@@ -251,7 +251,8 @@ pub fn initialize(
     ensures small { Grows value_weight machine.old.levels result machine.new }
 {
     let function = SystemFunction::InitializeInstance;
-    let reached = methods_reached(alloc, world, function, id, t())?;
+    let object = [Value::Instance(id)];
+    let reached = methods_reached(alloc, world, function, &object, id, t())?;
     let methods = world.generics.methods();
     if let Some(name) = invalid_initarg(methods, &reached, effective.slots(), initargs.as_slice()) {
         return Err(refuse(alloc, world, class, name));

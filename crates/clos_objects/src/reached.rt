@@ -1,8 +1,12 @@
 //! The methods that the initargs of an instance reach (HyperSpec 7.1.2).
-ghost use Rattle.std.specs.Prelude.{◌≡◌, IfOk};
+ghost use Rattle.std.specs.Prelude.{◌≡◌, ◌∷◌, [], IfOk, map};
 ghost use Rattle.std.specs.List.{list_any};
+ghost use Rattle.lisp_data.specs.Value.{instance};
 ghost use Rattle.lisp_data.specs.ValueView.{value_of};
 ghost use Rattle.clos_method.specs.Keywords.{method_allows, method_names};
+ghost use Rattle.clos_method.specs.System.{system_number};
+ghost use Rattle.clos_method.specs.declared.system.SystemFunction.TheVariants.{SharedInitialize};
+ghost use Rattle.clos_machine.specs.clos_world.Dispatch.{ordered};
 ghost use Rattle.clos_machine.specs.clos_world.World.{seen};
 ghost use Rattle.clos_machine.specs.clos_meaning.Initialization.{methods_reached};
 
@@ -49,24 +53,44 @@ impl Reached {
     }
 }
 
-/// Those that the initargs of a call of this function reach, and of shared-initialize with these names of slots.
+/// Those that the initargs of a call of this function with these arguments reach, and of shared-initialize with these names of
+/// slots.
 pub fn methods_reached(
     alloc: Global,
     world: &World,
     function: SystemFunction,
+    arguments: &[Value],
     id: InstanceId,
     names: Value,
 ) -> Result<Reached, AllocError>
-    ensures { IfOk result (λ r. r ≡ methods_reached (seen world.now) function id.0 (value_of names)) }
+    ensures { IfOk result (λ r. r ≡ methods_reached (seen world.now) function (map value_of arguments.now) id.0 (value_of names)) }
 {
-    let mut arguments = Values::new(alloc);
-    arguments.push(Value::Instance(id))?;
-    let own = world.ordered(alloc, function.id(), arguments.as_slice())?;
-    arguments.push(names)?;
-    let called = SystemFunction::SharedInitialize.id();
-    let shared = world.ordered(alloc, called, arguments.as_slice())?;
+    let shared = shared_methods(alloc, world, id, names)?;
+    let own = world.ordered(alloc, function.id(), arguments)?;
     Ok(Reached {
         function: own,
         shared,
     })
+}
+
+/// Those of shared-initialize with these names of slots.
+fn shared_methods(
+    alloc: Global,
+    world: &World,
+    id: InstanceId,
+    names: Value,
+) -> Result<MethodIds, AllocError>
+    ensures { IfOk result (λ r. r ≡ ordered (seen world.now) (system_number SharedInitialize) (instance id.0 ∷ value_of names ∷ [])) }
+{
+    let mut arguments = Values::new(alloc);
+    let Ok(()) = arguments.push(Value::Instance(id)) else {
+        drop(names);
+        return Err(AllocError);
+    };
+    arguments.push(names)?;
+    world.ordered(
+        alloc,
+        SystemFunction::SharedInitialize.id(),
+        arguments.as_slice(),
+    )
 }

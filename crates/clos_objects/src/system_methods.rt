@@ -1,55 +1,85 @@
 //! What the system's methods do with the arguments of their calls (HyperSpec 7.1.4, 7.3, 7.7).
-ghost use Rattle.std.specs.Prelude.{◌≡◌, ◌∷◌, [], IfOk, MatchOption, map, option_map};
-ghost use Rattle.lisp_data.specs.Value.{instance};
+ghost use Rattle.std.specs.Prelude.{◌≡◌, ◌≤◌, ◌∷◌, [], IfOk, MatchOption, map};
 ghost use Rattle.lisp_data.specs.ValueView.{value_of};
 ghost use Rattle.clos_machine.specs.clos_world.World.{seen};
-ghost use Rattle.clos_machine.specs.Machine.{Grows, Leads, initargs_in, names_in, built_in_growth, value_weight, here};
+ghost use Rattle.clos_machine.specs.Machine.{Grows, Leads, Shrinks, Turns, initargs_in, names_in, built_in_growth, perform_weight, value_weight, here};
 ghost use Rattle.clos_machine.specs.clos_meaning.Slots.{instance_in};
-ghost use Rattle.clos_machine.specs.clos_meaning.SystemMethods.{class_in, initialize, initialize_slots, filled_as, reinitialize, reinitialize_as, shared_initialized, slot_condition, system_method_run, told};
+ghost use Rattle.clos_machine.specs.clos_meaning.SystemMethods.{initialize, reinitialize, reinitialize_instance, slot_condition, slots_filled, system_method_run, told};
 ghost use Rattle.clos_machine.specs.Fault.{TellsCondition};
-ghost use Rattle.clos_objects.specs.Objects.{next_condition};
+ghost use Rattle.clos_machine.specs.clos_meaning.Updating.{updated};
+ghost use Rattle.clos_objects.specs.Objects.{IsStill, next_condition};
 ghost use Rattle.clos_machine.specs.clos_world.declared.condition.ConditionKind.TheVariants.{NoApplicableMethod};
 ghost use Rattle.clos_method.specs.declared.system.SystemFunction.TheVariants.{SharedInitialize};
 
-use crate::creation::{enter, refuse};
-use crate::initargs::invalid_initarg;
-use crate::reached::methods_reached;
+use crate::creation::enter;
+use crate::shared::{check_shared, class_in, initialize_shared};
 use crate::slot_names::are_slot_names;
-use clos_forms::Forms;
+use crate::updates::{update_different, update_redefined};
 use clos_machine::fault::{instance_in, wrong_type};
-use clos_machine::finalized::Finalized;
-use clos_machine::machine::{Action, Doing, Filling, Frame, Machine};
-use clos_machine::moves::invoke_under;
+use clos_machine::machine::{Action, Doing, Filling, Machine, Visit};
 use clos_machine::parameters::are_even;
 use clos_machine::truth::{nil, t};
+use clos_machine::updating::{due, update};
 use clos_machine::{
     Arguments, Condition, ConditionKind, Stop, Values, World, about, about_both, called_value,
     plain,
 };
 use clos_method::SystemFunction;
-use lisp_data::{ClassId, InstanceId, Value};
+use lisp_data::{InstanceId, Value};
 use std::alloc::{AllocError, Global};
 
 /// The system's method of this function runs.
 pub fn run_system_method(
     alloc: Global,
     machine: &mut Machine,
-    world: &World,
+    world: &mut World,
     function: SystemFunction,
     arguments: &Arguments,
+    steps: &mut u64,
 ) -> Result<Doing, Stop>
-    ensures leads { Leads (here machine.old (λ ev env. system_method_run ev function arguments.now)) (seen world.now) result machine.new }
-    ensures small { Grows built_in_growth machine.old.levels result machine.new }
+    ensures turns { Turns (here machine.old (λ ev env. system_method_run ev function arguments.now)) (seen world.old) steps.old result machine.new (seen world.new) steps.new }
+    ensures small { Shrinks perform_weight steps.old steps.new machine.old.levels result machine.new }
+    ensures fewer { steps.new ≤ steps.old }
 {
     match split(arguments.as_slice()) {
         None => Err(Stop::Refused(plain(alloc, ConditionKind::ProgramError))),
-        Some((first, rest)) => { run_with(alloc, machine, world, function, first, rest, arguments) }
+        Some((first, rest)) => {
+            run_with(alloc, machine, world, function, first, rest, arguments, steps)
+        }
     }
 }
 
 /// The same with arguments that begin with this one.
-#[tactic(auto, using(clos_machine::proofs::Turns::grows_more, clos_machine::proofs::Turns::stopped_through))]
+#[tactic(auto, using(clos_machine::proofs::Runs::turns_of_leads, clos_machine::proofs::Turns::shrinks_by))]
 fn run_with(
+    alloc: Global,
+    machine: &mut Machine,
+    world: &mut World,
+    function: SystemFunction,
+    first: &Value,
+    rest: &[Value],
+    arguments: &Arguments,
+    steps: &mut u64,
+) -> Result<Doing, Stop>
+    requires { arguments.now ≡ value_of first.now ∷ map value_of rest.now }
+    ensures turns { Turns (here machine.old (λ ev env. system_method_run ev function arguments.now)) (seen world.old) steps.old result machine.new (seen world.new) steps.new }
+    ensures small { Shrinks perform_weight steps.old steps.new machine.old.levels result machine.new }
+    ensures fewer { steps.new ≤ steps.old }
+{
+    match function {
+        SystemFunction::ReinitializeInstance => {
+            reinitialize(alloc, machine, world, first, rest, steps)
+        }
+        SystemFunction::SharedInitialize => {
+            initialize_slots(alloc, machine, world, first, rest, arguments, steps)
+        }
+        _ => run_still(alloc, machine, world, function, first, rest, arguments),
+    }
+}
+
+/// The same of a method that takes no step by itself.
+#[tactic(auto, using(clos_machine::proofs::Turns::stopped_through))]
+fn run_still(
     alloc: Global,
     machine: &mut Machine,
     world: &World,
@@ -58,15 +88,18 @@ fn run_with(
     rest: &[Value],
     arguments: &Arguments,
 ) -> Result<Doing, Stop>
-    requires { arguments.now ≡ value_of first.now ∷ map value_of rest.now }
+    requires given { arguments.now ≡ value_of first.now ∷ map value_of rest.now }
+    requires still { IsStill function }
     ensures leads { Leads (here machine.old (λ ev env. system_method_run ev function arguments.now)) (seen world.now) result machine.new }
-    ensures small { Grows built_in_growth machine.old.levels result machine.new }
+    ensures small { Grows value_weight machine.old.levels result machine.new }
 {
     match function {
         SystemFunction::InitializeInstance => initialize(alloc, machine, world, first, rest),
-        SystemFunction::ReinitializeInstance => reinitialize(alloc, machine, world, first, rest),
-        SystemFunction::SharedInitialize => {
-            initialize_slots(alloc, machine, world, first, rest, arguments)
+        SystemFunction::UpdateInstanceForRedefinedClass => {
+            update_redefined(alloc, machine, world, first, rest, arguments)
+        }
+        SystemFunction::UpdateInstanceForDifferentClass => {
+            update_different(alloc, machine, world, first, rest, arguments)
         }
         SystemFunction::SlotUnbound => {
             Err(signal_slot(alloc, ConditionKind::UnboundSlot, arguments.as_slice()))
@@ -76,10 +109,7 @@ fn run_with(
         }
         SystemFunction::NoApplicableMethod => Err(signal_unmatched(alloc, world, first, rest)),
         SystemFunction::NoNextMethod => Err(signal_no_next(alloc, rest)),
-        SystemFunction::UpdateInstanceForRedefinedClass
-        | SystemFunction::UpdateInstanceForDifferentClass => {
-            Err(Stop::Refused(plain(alloc, ConditionKind::Unsupported)))
-        }
+        SystemFunction::ReinitializeInstance | SystemFunction::SharedInitialize => unreachable!(),
     }
 }
 
@@ -88,44 +118,6 @@ fn split(values: &[Value]) -> Option<(&Value, &[Value])>
     ensures { MatchOption result (map value_of values.now ≡ []) (λ p. map value_of values.now ≡ value_of p.0.now ∷ map value_of p.1.now) }
 {
     values.split_first()
-}
-
-/// Shared-initialize is called with these arguments, and then the instance is given.
-#[tactic(auto, using(clos_machine::proofs::Turns::grows_more))]
-fn initialize_shared(
-    alloc: Global,
-    machine: &mut Machine,
-    world: &World,
-    id: InstanceId,
-    names: Value,
-    initargs: &[Value],
-) -> Result<Doing, Stop>
-    ensures leads { Leads (here machine.old (λ ev env. shared_initialized ev id.0 (value_of names) (map value_of initargs.now))) (seen world.now) result machine.new }
-    ensures small { Grows value_weight machine.old.levels result machine.new }
-{
-    let _ = world;
-    let arguments = shared_arguments(alloc, id, names, initargs)?;
-    let frame = Frame::Keep(Forms::new(), Value::Instance(id));
-    invoke_under(machine, SystemFunction::SharedInitialize, arguments, frame)
-}
-
-/// The arguments of shared-initialize: an instance, the names of slots, and the initargs.
-fn shared_arguments(
-    alloc: Global,
-    id: InstanceId,
-    names: Value,
-    initargs: &[Value],
-) -> Result<Values, AllocError>
-    ensures { IfOk result (λ r. r ≡ instance id.0 ∷ value_of names ∷ map value_of initargs.now) }
-{
-    let mut arguments = Values::new(alloc);
-    let Ok(()) = arguments.push(Value::Instance(id)) else {
-        drop(names);
-        return Err(AllocError);
-    };
-    arguments.push(names)?;
-    arguments.push_all(initargs)?;
-    Ok(arguments)
 }
 
 /// The method of initialize-instance.
@@ -145,73 +137,79 @@ fn initialize(
     }
 }
 
-/// The class of an instance, and what it has.
-fn class_in(world: &World, id: InstanceId) -> Result<Option<(ClassId, Finalized)>, AllocError>
-    ensures { IfOk result (λ r. option_map (λ p. (p.0.0, p.1)) r ≡ class_in (seen world.now) id.0) }
-{
-    match world.store.class_of(id) {
-        None => Ok(None),
-        Some(class) => match Finalized::find(world, class)? {
-            None => Ok(None),
-            Some(effective) => Ok(Some((class, effective))),
-        },
-    }
-}
-
 /// The method of reinitialize-instance.
 fn reinitialize(
     alloc: Global,
     machine: &mut Machine,
-    world: &World,
+    world: &mut World,
     object: &Value,
     initargs: &[Value],
+    steps: &mut u64,
 ) -> Result<Doing, Stop>
-    ensures leads { Leads (here machine.old (λ ev env. reinitialize ev (map value_of initargs.now) (instance_in (value_of object.now)))) (seen world.now) result machine.new }
-    ensures small { Grows value_weight machine.old.levels result machine.new }
+    ensures turns { Turns (here machine.old (λ ev env. reinitialize ev (map value_of initargs.now) (instance_in (value_of object.now)))) (seen world.old) steps.old result machine.new (seen world.new) steps.new }
+    ensures small { Shrinks perform_weight steps.old steps.new machine.old.levels result machine.new }
+    ensures fewer { steps.new ≤ steps.old }
 {
     match instance_in(alloc, object) {
         Err(stop) => Err(stop),
-        Ok(id) => reinitialize_instance(alloc, machine, world, id, initargs),
+        Ok(id) => update_and_reinitialize(alloc, machine, world, id, initargs, steps),
     }
 }
 
-/// An instance is initialized again, unless an initarg is not valid.
-fn reinitialize_instance(
+/// An instance is initialized again, and updated before where it is stale.
+fn update_and_reinitialize(
+    alloc: Global,
+    machine: &mut Machine,
+    world: &mut World,
+    id: InstanceId,
+    initargs: &[Value],
+    steps: &mut u64,
+) -> Result<Doing, Stop>
+    ensures turns { Turns (here machine.old (λ ev env. updated ev id.0 (reinitialize_instance ev (map value_of initargs.now) id.0))) (seen world.old) steps.old result machine.new (seen world.new) steps.new }
+    ensures small { Shrinks perform_weight steps.old steps.new machine.old.levels result machine.new }
+    ensures fewer { steps.new ≤ steps.old }
+{
+    match due(world, id)? {
+        None => reinitialize_instance(alloc, machine, world, id, initargs),
+        Some(layout) => {
+            let mut values = Values::new(alloc);
+            values.push_all(initargs)?;
+            let visit = Visit::Reinitialize(values);
+            update(alloc, machine, world, id, &layout, visit, steps)
+        }
+    }
+}
+
+/// An instance, which is up to date, is initialized again.
+pub fn reinitialize_instance(
     alloc: Global,
     machine: &mut Machine,
     world: &World,
     id: InstanceId,
     initargs: &[Value],
 ) -> Result<Doing, Stop>
-    ensures leads { Leads (here machine.old (λ ev env w. reinitialize_as ev (map value_of initargs.now) id.0 (class_in w id.0) w)) (seen world.now) result machine.new }
+    ensures leads { Leads (here machine.old (λ ev env. reinitialize_instance ev (map value_of initargs.now) id.0)) (seen world.now) result machine.new }
     ensures small { Grows value_weight machine.old.levels result machine.new }
 {
-    match class_in(world, id)? {
-        None => Err(Stop::Refused(plain(alloc, ConditionKind::ProgramError))),
-        Some((class, effective)) => {
-            let function = SystemFunction::ReinitializeInstance;
-            let reached = methods_reached(alloc, world, function, id, nil())?;
-            let methods = world.generics.methods();
-            match invalid_initarg(methods, &reached, effective.slots(), initargs) {
-                Some(name) => Err(refuse(alloc, world, class, name)),
-                None => initialize_shared(alloc, machine, world, id, nil(), initargs),
-            }
-        }
-    }
+    let function = SystemFunction::ReinitializeInstance;
+    let object = [Value::Instance(id)];
+    check_shared(alloc, machine, world, function, &object, &nil(), id, initargs)
 }
 
 /// The method of shared-initialize.
 fn initialize_slots(
     alloc: Global,
     machine: &mut Machine,
-    world: &World,
+    world: &mut World,
     object: &Value,
     rest: &[Value],
     arguments: &Arguments,
+    steps: &mut u64,
 ) -> Result<Doing, Stop>
     requires { arguments.now ≡ value_of object.now ∷ map value_of rest.now }
-    ensures leads { Leads (here machine.old (λ ev env. system_method_run ev SharedInitialize arguments.now)) (seen world.now) result machine.new }
-    ensures small { Grows built_in_growth machine.old.levels result machine.new }
+    ensures turns { Turns (here machine.old (λ ev env. system_method_run ev SharedInitialize arguments.now)) (seen world.old) steps.old result machine.new (seen world.new) steps.new }
+    ensures small { Shrinks perform_weight steps.old steps.new machine.old.levels result machine.new }
+    ensures fewer { steps.new ≤ steps.old }
 {
     match split(rest) {
         None => Err(Stop::Refused(plain(alloc, ConditionKind::ProgramError))),
@@ -225,22 +223,44 @@ fn initialize_slots(
                     if !are_slot_names(names) {
                         return Err(Stop::Refused(wrong_type(alloc, names)?));
                     }
-                    fill_instance(alloc, machine, world, id, arguments)
+                    update_and_fill(alloc, machine, world, id, arguments, steps)
                 }
             }
         }
     }
 }
 
-/// The slots of an instance are filled, where initforms see no variables.
-fn fill_instance(
+/// The slots of an instance are filled, which is updated before where it is stale.
+fn update_and_fill(
+    alloc: Global,
+    machine: &mut Machine,
+    world: &mut World,
+    id: InstanceId,
+    arguments: &Arguments,
+    steps: &mut u64,
+) -> Result<Doing, Stop>
+    ensures turns { Turns (here machine.old (λ ev env. updated ev id.0 (slots_filled ev id.0 (names_in arguments.now) (initargs_in arguments.now)))) (seen world.old) steps.old result machine.new (seen world.new) steps.new }
+    ensures small { Shrinks perform_weight steps.old steps.new machine.old.levels result machine.new }
+    ensures fewer { steps.new ≤ steps.old }
+{
+    match due(world, id)? {
+        None => fill_instance(alloc, machine, world, id, arguments),
+        Some(layout) => {
+            let visit = Visit::Fill(arguments.copy()?);
+            update(alloc, machine, world, id, &layout, visit, steps)
+        }
+    }
+}
+
+/// The slots of an instance, which is up to date, are filled, where initforms see no variables.
+pub fn fill_instance(
     alloc: Global,
     machine: &mut Machine,
     world: &World,
     id: InstanceId,
     arguments: &Arguments,
 ) -> Result<Doing, Stop>
-    ensures leads { Leads (here machine.old (λ ev env w. filled_as ev id.0 (names_in arguments.now) (initargs_in arguments.now) (class_in w id.0) w)) (seen world.now) result machine.new }
+    ensures leads { Leads (here machine.old (λ ev env. slots_filled ev id.0 (names_in arguments.now) (initargs_in arguments.now))) (seen world.now) result machine.new }
     ensures small { Grows built_in_growth machine.old.levels result machine.new }
 {
     match class_in(world, id)? {

@@ -3,22 +3,22 @@ use Rattle.std.proofs.Common.{◌≡◌, ℕ, List, [], ◌∷◌, Some, None, R
 use Rattle.std.specs.Prelude.{unwrap_or}
 use Rattle.lisp_data.specs.Name.{Name}
 use Rattle.lisp_data.specs.Value.{Val}
-use Rattle.clos_machine.specs.clos_world.clos_store.Store.{slot_found}
 use Rattle.clos_machine.specs.clos_world.Values.{only_value}
-use Rattle.clos_machine.specs.clos_world.World.{State, unbound}
+use Rattle.clos_machine.specs.clos_world.World.{State}
 use Rattle.clos_machine.specs.clos_world.declared.condition.Condition.{Condition}
 use Rattle.clos_machine.specs.clos_world.declared.condition.ConditionKind.TheVariants.{ProgramError}
 use Rattle.clos_machine.specs.clos_world.declared.condition.Stop.{Stop}
 use Rattle.clos_machine.specs.clos_world.declared.condition.Stop.TheVariants.{Refused, Storage}
 use Rattle.clos_machine.specs.clos_meaning.Accessors.{read_by, read_of, written_by, written_of}
-use Rattle.clos_machine.specs.Machine.{DesignatesInstance, Leads, Turns, at, inside, resume}
+use Rattle.clos_machine.specs.Machine.{DesignatesInstance, Turns, at, inside, resume}
 use Rattle.clos_machine.specs.clos_meaning.Meaning.{closed}
 use Rattle.clos_machine.specs.clos_meaning.Outcome.{Eval, Stopped, stopped}
-use Rattle.clos_machine.specs.clos_meaning.Slots.{instance_in, slot_changed, slot_read}
+use Rattle.clos_machine.specs.clos_meaning.Slots.{instance_in, slot_answer, slot_put}
+use Rattle.clos_machine.specs.clos_meaning.Updating.{updated}
 use Rattle.clos_machine.specs.clos_meaning.declared.arguments.Context.{Context}
+use Rattle.clos_forms.specs.clos_names.declared.callee.SlotFunction.TheVariants.{SlotValue}
 use Rattle.clos_machine.specs.declared.machine.Doing.{Doing}
 use Rattle.clos_machine.specs.declared.machine.Machine.{Machine}
-use Rattle.clos_machine.proofs.Turns.{leads_same, stopped_through}
 use Rattle.clos_objects_core.specs.Slots.{two_of}
 use Rattle.clos_machine.proofs.Runs.{stops_at_once, turns_same}
 
@@ -35,24 +35,22 @@ module _ (ev : Eval) (env : Context) (slot : Name) where
   one_at (x ∷ []) a w s e = ap (λ v. read_of ev env slot (instance_in v) w s) (ap (λ o. unwrap_or o x) e)
   one_at (x ∷ (y ∷ xs)) a w s e = absurd (cc e)
 
-  pub not_one : (m n : Machine) (xs : List Val) (c : Condition) (w : State) → None ≡ only_value xs → c ≡ record { kind = ProgramError; items = [] }
-      → Leads (inside m (read_by ev env slot xs)) w (Err (Refused c)) n
-  not_one m n xs c w e k = λ t.
-      ap (λ o. closed (resume m.levels m.context o)) (none_at xs (at m w) t e) ∙ stopped_through m.levels m.context (record { kind = ProgramError; items = [] }) (at m w) t
-      ∙ ap (λ x. Stopped x (unbound w) t) (sym k)
+  pub not_one : (m n : Machine) (xs : List Val) (c : Condition) (w : State) (s : ℕ) → None ≡ only_value xs → c ≡ record { kind = ProgramError; items = [] }
+      → Turns (inside m (read_by ev env slot xs)) w s (Err (Refused c)) n w s
+  not_one m n xs c w s e k =
+      stops_at_once m n (read_by ev env slot xs) w s c (none_at xs (at m w) s e ∙ ap (λ x. Stopped x (at m w) s) (sym k))
 
-  pub reads : (m n : Machine) (xs : List Val) (a : Val) (i : ℕ) (r : Result Doing Stop) (w : State) → Some a ≡ only_value xs → instance_in a ≡ Ok i
-      → Leads (inside m (λ u. slot_read ev env i slot (slot_found u.store i slot) u)) w r n → Leads (inside m (read_by ev env slot xs)) w r n
-  reads m n xs a i r w e k h =
-      leads_same (inside m (λ u. slot_read ev env i slot (slot_found u.store i slot) u)) (inside m (read_by ev env slot xs)) w r n
+  pub reads : (m n : Machine) (xs : List Val) (a : Val) (i : ℕ) (r : Result Doing Stop) (w : State) (s : ℕ) (w' : State) (s' : ℕ) → Some a ≡ only_value xs → instance_in a ≡ Ok i
+      → Turns (inside m (updated ev i (slot_answer ev env SlotValue i slot))) w s r n w' s' → Turns (inside m (read_by ev env slot xs)) w s r n w' s'
+  reads m n xs a i r w s w' s' e k h =
+      turns_same (inside m (updated ev i (slot_answer ev env SlotValue i slot))) (inside m (read_by ev env slot xs)) w s r n w' s'
       (λ t. ap (λ o. closed (resume m.levels m.context o)) (ap (λ d. read_of ev env slot d (at m w) t) (sym k) ∙ one_at xs a (at m w) t e)) h
 
-  pub reads_nothing : (m n : Machine) (xs : List Val) (a : Val) (stop : Stop) (w : State) → Some a ≡ only_value xs → DesignatesInstance (instance_in a) (Err stop)
-      → Leads (inside m (read_by ev env slot xs)) w (Err stop) n
-  reads_nothing m n xs a Storage w e k = tt
-  reads_nothing m n xs a (Refused c) w e k = λ t.
-      ap (λ o. closed (resume m.levels m.context o)) (sym (one_at xs a (at m w) t e) ∙ ap (λ d. read_of ev env slot d (at m w) t) k)
-      ∙ stopped_through m.levels m.context c (at m w) t
+  pub reads_nothing : (m n : Machine) (xs : List Val) (a : Val) (stop : Stop) (w : State) (s : ℕ) → Some a ≡ only_value xs → DesignatesInstance (instance_in a) (Err stop)
+      → Turns (inside m (read_by ev env slot xs)) w s (Err stop) n w s
+  reads_nothing m n xs a Storage w s e k = (refl, refl)
+  reads_nothing m n xs a (Refused c) w s e k =
+      stops_at_once m n (read_by ev env slot xs) w s c (sym (one_at xs a (at m w) s e) ∙ ap (λ d. read_of ev env slot d (at m w) s) k)
 
   -- ---- a writer
 
@@ -82,10 +80,10 @@ module _ (ev : Eval) (env : Context) (slot : Name) where
       (ap (λ xs. written_by ev env slot xs (at m w) s) (sym k) ∙ sym (two_at us x v (at m w) s e) ∙ ap (λ q. written_of ev env slot x q (at m w) s) d)
 
   pub writes : (m n : Machine) (vs : List Val) (x v y z : Val) (i : ℕ) (r : Result Doing Stop) (w : State) (s : ℕ) (w' : State) (s' : ℕ) → Some (x, v) ≡ two_of vs → instance_in v ≡ Ok i
-      → y ≡ x → z ≡ x → Turns (inside m (λ u. slot_changed ev env i slot (Some y) z (slot_found u.store i slot) u)) w s r n w' s' → Turns (inside m (written_by ev env slot vs)) w s r n w' s'
+      → y ≡ x → z ≡ x → Turns (inside m (updated ev i (slot_put ev env i slot (Some y) z))) w s r n w' s' → Turns (inside m (written_by ev env slot vs)) w s r n w' s'
   writes m n vs x v y z i r w s w' s' e d j k h =
-      turns_same (inside m (λ u. slot_changed ev env i slot (Some y) z (slot_found u.store i slot) u)) (inside m (written_by ev env slot vs)) w s r n w' s'
+      turns_same (inside m (updated ev i (slot_put ev env i slot (Some y) z))) (inside m (written_by ev env slot vs)) w s r n w' s'
       (λ t. ap (λ o. closed (resume m.levels m.context o))
-      (ap (λ q. slot_changed ev env i slot (Some q) z (slot_found w.store i slot) (at m w) t) j
-      ∙ ap (λ q. slot_changed ev env i slot (Some x) q (slot_found w.store i slot) (at m w) t) k
+      (ap (λ q. updated ev i (slot_put ev env i slot (Some q) z) (at m w) t) j
+      ∙ ap (λ q. updated ev i (slot_put ev env i slot (Some x) q) (at m w) t) k
       ∙ ap (λ q. written_of ev env slot x q (at m w) t) (sym d) ∙ two_at vs x v (at m w) t e)) h

@@ -15,7 +15,8 @@ use Rattle.clos_machine.specs.clos_world.declared.condition.Stop.TheVariants.{Re
 use Rattle.clos_machine.specs.Machine.{Leads, Turns, at, denote, inside, resume}
 use Rattle.clos_machine.specs.clos_meaning.Meaning.{closed, meaning}
 use Rattle.clos_machine.specs.clos_meaning.Outcome.{Run, Eval, Stopped, step_then, stopped}
-use Rattle.clos_machine.specs.clos_meaning.Slots.{slot_answer, slot_applied, slot_called, slot_changed, slot_designated, slot_given, slot_set, slot_stored}
+use Rattle.clos_machine.specs.clos_meaning.Slots.{slot_applied, slot_asked, slot_called, slot_changed, slot_designated, slot_given, slot_put, slot_set, slot_stored}
+use Rattle.clos_machine.specs.clos_meaning.Updating.{updated}
 use Rattle.clos_machine.specs.clos_meaning.declared.arguments.Context.{Context}
 use Rattle.clos_forms.specs.clos_names.declared.callee.SlotFunction.{SlotFunction}
 use Rattle.clos_machine.specs.declared.machine.Doing.{Doing}
@@ -47,10 +48,10 @@ module _ (ev : Eval) (env : Context) where
   two_at f (x ∷ (y ∷ (z ∷ xs))) a b w s e = absurd (cc e)
 
   pub called_goes : (m n : Machine) (f : SlotFunction) (vs us : List Val) (a b : Val) (p : InstanceId × Name) (w : State) (s : ℕ) (r : Result Doing Stop) (w' : State) (s' : ℕ)
-      → Some (a, b) ≡ two_of us → us ≡ vs → slot_designated a b ≡ Ok (p.0.0, p.1) → Turns (inside m (slot_answer ev env f p.0.0 p.1)) w s r n w' s'
+      → Some (a, b) ≡ two_of us → us ≡ vs → slot_designated a b ≡ Ok (p.0.0, p.1) → Turns (inside m (slot_asked ev env f p.0.0 p.1)) w s r n w' s'
       → Turns (inside m (slot_called ev env f vs)) w s r n w' s'
   called_goes m n f vs us a b p w s r w' s' e k d h =
-      turns_same (inside m (slot_answer ev env f p.0.0 p.1)) (inside m (slot_called ev env f vs)) w s r n w' s'
+      turns_same (inside m (slot_asked ev env f p.0.0 p.1)) (inside m (slot_called ev env f vs)) w s r n w' s'
       (λ t. ap (λ o. closed (resume m.levels m.context o))
       (ap (λ x. slot_applied ev env f x (at m w) t) (sym d) ∙ two_at f us a b (at m w) t e ∙ ap (λ xs. slot_called ev env f xs (at m w) t) k)) h
 
@@ -85,12 +86,12 @@ module _ (ev : Eval) (env : Context) where
 
   pub set_goes : (m n : Machine) (vs us : List Val) (a b x y z : Val) (p : InstanceId × Name) (w : State) (s : ℕ) (r : Result Doing Stop) (w' : State) (s' : ℕ)
       → Some (a, (b, x)) ≡ three_of us → us ≡ vs → slot_designated a b ≡ Ok (p.0.0, p.1) → y ≡ x → z ≡ x
-      → Turns (inside m (λ u. slot_changed ev env p.0.0 p.1 (Some y) z (slot_found u.store p.0.0 p.1) u)) w s r n w' s' → Turns (inside m (slot_set ev env vs)) w s r n w' s'
+      → Turns (inside m (updated ev p.0.0 (slot_put ev env p.0.0 p.1 (Some y) z))) w s r n w' s' → Turns (inside m (slot_set ev env vs)) w s r n w' s'
   set_goes m n vs us a b x y z p w s r w' s' e k d i j h =
-      turns_same (inside m (λ u. slot_changed ev env p.0.0 p.1 (Some y) z (slot_found u.store p.0.0 p.1) u)) (inside m (slot_set ev env vs)) w s r n w' s'
+      turns_same (inside m (updated ev p.0.0 (slot_put ev env p.0.0 p.1 (Some y) z))) (inside m (slot_set ev env vs)) w s r n w' s'
       (λ t. ap (λ o. closed (resume m.levels m.context o))
-      (ap (λ q. slot_changed ev env p.0.0 p.1 (Some q) z (slot_found w.store p.0.0 p.1) (at m w) t) i
-      ∙ ap (λ q. slot_changed ev env p.0.0 p.1 (Some x) q (slot_found w.store p.0.0 p.1) (at m w) t) j
+      (ap (λ q. updated ev p.0.0 (slot_put ev env p.0.0 p.1 (Some q) z) (at m w) t) i
+      ∙ ap (λ q. updated ev p.0.0 (slot_put ev env p.0.0 p.1 (Some x) q) (at m w) t) j
       ∙ ap (λ q. slot_given ev env x q (at m w) t) (sym d) ∙ three_at us a b x (at m w) t e ∙ ap (λ xs. slot_set ev env xs (at m w) t) k)) h
 
   pub set_stops : (m n : Machine) (vs us : List Val) (a b x : Val) (stop : Stop) (w : State) (s : ℕ)

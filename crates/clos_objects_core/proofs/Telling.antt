@@ -24,19 +24,3 @@ told_stops m m' f vs us Storage w e h = tt
 told_stops m m' f vs us (Refused c) w e h = λ t.
     ap (λ x. closed (resume m.levels m.context (comes_to x (at m w) t))) (ap (class_answer f w.classes (class_of w)) (sym e) ∙ h)
     ∙ stopped_through m.levels m.context c (at m w) t
-
--- a list that can't be made
-pub not_listed : (x : Result Val prims.Condition) (f : PrimFault) (stop : Stop) → AnswersUnlessMemory {A = Value} value_of (Err f) x
-    → ((c : prims.Condition) → StandsFor f c → Signals c stop) → (f ≡ fault.Memory → stop ≡ Storage) → Tells (in_words_of_conditions x) (Err stop)
-not_listed x f Storage a h k = tt
-not_listed x fault.Memory (Refused d) a h k = absurd (cc (k refl))
-not_listed (Ok v) fault.ProgramError (Refused d) a h k = absurd a
-not_listed (Err c) fault.ProgramError (Refused d) a h k = ap Err (sym (h c a))
-not_listed (Ok v) (fault.TypeError u) (Refused d) a h k = absurd a
-not_listed (Err c) (fault.TypeError u) (Refused d) a h k = ap Err (sym (h c a))
-not_listed (Ok v) fault.IntegerRange (Refused d) a h k = absurd a
-not_listed (Err c) fault.IntegerRange (Refused d) a h k = ap Err (sym (h c a))
-not_listed (Ok v) fault.DivisionByZero (Refused d) a h k = absurd a
-not_listed (Err c) fault.DivisionByZero (Refused d) a h k = ap Err (sym (h c a))
-not_listed (Ok v) fault.Unsupported (Refused d) a h k = absurd a
-not_listed (Err c) fault.Unsupported (Refused d) a h k = ap Err (sym (h c a))

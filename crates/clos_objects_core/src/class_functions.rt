@@ -10,15 +10,14 @@ ghost use Rattle.clos_machine.specs.clos_meaning.ClassFunctions.{Tells, class_an
 ghost use Rattle.clos_machine.specs.Machine.{Designates, Grows, Leads, inside, value_weight};
 
 use clos_forms::value_named;
-use clos_machine::fault::{incomplete_class, of_function, wrong_type};
+use clos_machine::fault::{incomplete_class, wrong_type};
 use clos_machine::machine::{Doing, Machine};
 use clos_machine::truth::{is_true, nil, t};
+use clos_machine::updating::listed;
 use clos_machine::{
     ClassFunction, Condition, ConditionKind, Stop, Values, World, about, about_name, plain,
 };
 use lisp_data::{ClassId, Name, Naming, Value};
-use lisp_prims::Primitive;
-use lisp_prims::lists::ListFunction;
 use std::alloc::{AllocError, Global};
 
 /// A call of a function of classes.
@@ -143,10 +142,7 @@ fn classes_listed(alloc: Global, classes: &[ClassId]) -> Result<Value, Stop>
     ensures { Tells (classes_listed (numbers classes.now)) result }
 {
     let values = class_values(alloc, classes)?;
-    match Primitive::Listed(ListFunction::List).call(alloc, values.as_slice()) {
-        Ok(list) => Ok(list),
-        Err(fault) => Err(of_function(alloc, fault)),
-    }
+    listed(alloc, values.as_slice())
 }
 
 fn class_values(alloc: Global, ids: &[ClassId]) -> Result<Vec<Value>, AllocError>

@@ -9,16 +9,18 @@ ghost use Rattle.clos_machine.specs.clos_world.clos_store.Store.{slot_found};
 ghost use Rattle.clos_machine.specs.clos_world.Values.{only_value};
 ghost use Rattle.clos_machine.specs.clos_world.World.{class_of_instance, seen};
 ghost use Rattle.clos_machine.specs.clos_meaning.Accessors.{read_by, written_by};
-ghost use Rattle.clos_machine.specs.Machine.{Grows, Leads, Turns, inside, value_weight, here};
+ghost use Rattle.clos_machine.specs.Machine.{Grows, Leads, Shrinks, Turns, act_weight, inside, slot_visited, value_weight, here};
 ghost use Rattle.clos_machine.specs.clos_meaning.Outcome.{Gave};
-ghost use Rattle.clos_machine.specs.clos_meaning.Slots.{class_value, operation_name, has_slot, instance_in, slot_answer, slot_called, slot_changed, slot_designated, slot_read, slot_set, slot_tested};
+ghost use Rattle.clos_machine.specs.clos_meaning.Slots.{class_value, operation_name, has_slot, instance_in, slot_asked, slot_called, slot_changed, slot_designated, slot_read, slot_set, slot_tested};
+ghost use Rattle.clos_machine.specs.clos_meaning.Updating.{updated};
 ghost use Rattle.clos_objects_core.specs.Slots.{DesignatesSlot, changed_arguments, three_of, two_of};
 
 use crate::class_functions::{symbol_in, truth};
 use clos_forms::{Forms, value_named};
 use clos_machine::fault::{instance_in, wrong_type};
-use clos_machine::machine::{Doing, Frame, Machine};
+use clos_machine::machine::{Doing, Frame, Machine, SlotVisit, Visit};
 use clos_machine::moves::invoke_under;
+use clos_machine::updating::{due, update};
 use clos_machine::{ConditionKind, SlotFunction, Stop, Values, World, plain};
 use clos_method::SystemFunction;
 use lisp_data::{InstanceId, Name, Value};
@@ -110,18 +112,20 @@ fn missing_arguments(
 /// A reader of the slot of this name is called.
 pub fn call_reader(
     alloc: Global,
-    machine: &Machine,
-    world: &World,
-    slot: &Name,
+    machine: &mut Machine,
+    world: &mut World,
+    slot: Name,
     values: &[Value],
+    steps: &mut u64,
 ) -> Result<Doing, Stop>
-    ensures leads { Leads (here machine.now (λ ev env. read_by ev env slot.now (map value_of values.now))) (seen world.now) result machine.now }
-    ensures small { Grows value_weight machine.now.levels result machine.now }
+    ensures turns { Turns (here machine.old (λ ev env. read_by ev env slot (map value_of values.now))) (seen world.old) steps.old result machine.new (seen world.new) steps.new }
+    ensures small { Shrinks act_weight steps.old steps.new machine.old.levels result machine.new }
+    ensures fewer { steps.new ≤ steps.old }
 {
     match only(values) {
         None => Err(Stop::Refused(plain(alloc, ConditionKind::ProgramError))),
         Some(object) => match instance_in(alloc, object) {
-            Ok(id) => read(alloc, machine, world, id, slot),
+            Ok(id) => visit(alloc, machine, world, id, SlotVisit::Read(slot), steps),
             Err(stop) => Err(stop),
         },
     }
@@ -137,7 +141,7 @@ pub fn call_writer(
     steps: &mut u64,
 ) -> Result<Doing, Stop>
     ensures turns { Turns (here machine.old (λ ev env. written_by ev env slot (map value_of values.now))) (seen world.old) steps.old result machine.new (seen world.new) steps.new }
-    ensures small { Grows value_weight machine.old.levels result machine.new }
+    ensures small { Shrinks act_weight steps.old steps.new machine.old.levels result machine.new }
     ensures fewer { steps.new ≤ steps.old }
 {
     match two(values) {
@@ -146,7 +150,8 @@ pub fn call_writer(
             Ok(id) => {
                 let stored = new.copy()?;
                 let given = new.copy()?;
-                change(alloc, machine, world, id, slot, Some(stored), given, steps)
+                let change = SlotVisit::Change(slot, Some(stored), given);
+                visit(alloc, machine, world, id, change, steps)
             }
             Err(stop) => Err(stop),
         },
@@ -163,7 +168,7 @@ pub fn call_slot_function(
     steps: &mut u64,
 ) -> Result<Doing, Stop>
     ensures turns { Turns (here machine.old (λ ev env. slot_called ev env function values.now)) (seen world.old) steps.old result machine.new (seen world.new) steps.new }
-    ensures small { Grows value_weight machine.old.levels result machine.new }
+    ensures small { Shrinks act_weight steps.old steps.new machine.old.levels result machine.new }
     ensures fewer { steps.new ≤ steps.old }
 {
     match two(values.as_slice()) {
@@ -175,7 +180,6 @@ pub fn call_slot_function(
     }
 }
 
-#[tactic(auto, using(clos_machine::proofs::Runs::turns_of_leads))]
 fn answer(
     alloc: Global,
     machine: &mut Machine,
@@ -185,26 +189,66 @@ fn answer(
     name: Name,
     steps: &mut u64,
 ) -> Result<Doing, Stop>
-    ensures turns { Turns (here machine.old (λ ev env. slot_answer ev env function id.0 name)) (seen world.old) steps.old result machine.new (seen world.new) steps.new }
-    ensures small { Grows value_weight machine.old.levels result machine.new }
+    ensures turns { Turns (here machine.old (λ ev env. slot_asked ev env function id.0 name)) (seen world.old) steps.old result machine.new (seen world.new) steps.new }
+    ensures small { Shrinks act_weight steps.old steps.new machine.old.levels result machine.new }
     ensures fewer { steps.new ≤ steps.old }
 {
     match function {
-        SlotFunction::SlotValue => read(alloc, machine, world, id, &name),
-        SlotFunction::SlotBoundp => test(alloc, machine, world, id, &name),
+        SlotFunction::SlotValue => visit(alloc, machine, world, id, SlotVisit::Read(name), steps),
+        SlotFunction::SlotBoundp => visit(alloc, machine, world, id, SlotVisit::Test(name), steps),
         SlotFunction::SlotMakunbound => {
-            change(
-                alloc,
-                machine,
-                world,
-                id,
-                name,
-                None,
-                Value::Instance(id),
-                steps,
-            )
+            let change = SlotVisit::Change(name, None, Value::Instance(id));
+            visit(alloc, machine, world, id, change, steps)
         }
         SlotFunction::SlotExistsP => Ok(exists(machine, world, id, &name)),
+    }
+}
+
+/// This is done with a slot of an instance, which is updated first where it is stale.
+fn visit(
+    alloc: Global,
+    machine: &mut Machine,
+    world: &mut World,
+    id: InstanceId,
+    visit: SlotVisit,
+    steps: &mut u64,
+) -> Result<Doing, Stop>
+    ensures turns { Turns (here machine.old (λ ev env. updated ev id.0 (slot_visited ev env id.0 visit))) (seen world.old) steps.old result machine.new (seen world.new) steps.new }
+    ensures small { Shrinks act_weight steps.old steps.new machine.old.levels result machine.new }
+    ensures fewer { steps.new ≤ steps.old }
+{
+    match due(world, id) {
+        Err(_) => {
+            drop(visit);
+            Err(Stop::Storage)
+        }
+        Ok(None) => visit_slot(alloc, machine, world, id, visit, steps),
+        Ok(Some(layout)) => {
+            update(alloc, machine, world, id, &layout, Visit::Slot(visit), steps)
+        }
+    }
+}
+
+/// This is done with a slot of an instance, which is up to date.
+#[tactic(auto, using(clos_machine::proofs::Runs::turns_of_leads, clos_machine::proofs::Turns::shrinks_by))]
+pub fn visit_slot(
+    alloc: Global,
+    machine: &mut Machine,
+    world: &mut World,
+    id: InstanceId,
+    visit: SlotVisit,
+    steps: &mut u64,
+) -> Result<Doing, Stop>
+    ensures turns { Turns (here machine.old (λ ev env. slot_visited ev env id.0 visit)) (seen world.old) steps.old result machine.new (seen world.new) steps.new }
+    ensures small { Shrinks act_weight steps.old steps.new machine.old.levels result machine.new }
+    ensures fewer { steps.new ≤ steps.old }
+{
+    match visit {
+        SlotVisit::Read(name) => read(alloc, machine, world, id, &name),
+        SlotVisit::Test(name) => test(alloc, machine, world, id, &name),
+        SlotVisit::Change(name, value, given) => {
+            change(alloc, machine, world, id, name, value, given, steps)
+        }
     }
 }
 
@@ -363,7 +407,7 @@ pub fn set_slot_value(
     steps: &mut u64,
 ) -> Result<Doing, Stop>
     ensures turns { Turns (here machine.old (λ ev env. slot_set ev env values.now)) (seen world.old) steps.old result machine.new (seen world.new) steps.new }
-    ensures small { Grows value_weight machine.old.levels result machine.new }
+    ensures small { Shrinks act_weight steps.old steps.new machine.old.levels result machine.new }
     ensures fewer { steps.new ≤ steps.old }
 {
     match three(values.as_slice()) {
@@ -372,7 +416,8 @@ pub fn set_slot_value(
             Ok((id, name)) => {
                 let stored = value.copy()?;
                 let given = value.copy()?;
-                change(alloc, machine, world, id, name, Some(stored), given, steps)
+                let change = SlotVisit::Change(name, Some(stored), given);
+                visit(alloc, machine, world, id, change, steps)
             }
             Err(stop) => Err(stop),
         },

@@ -1,9 +1,9 @@
 -- Which forms are served.
-use Rattle.std.specs.Prelude.{Bool, true, false, not, ◌&&◌, ◌||◌, Option, Some, None, codes}
+use Rattle.std.specs.Prelude.{Bool, true, false, not, ◌&&◌, Option, Some, None}
 use Rattle.std.specs.List.{list_all}
 use Rattle.lisp_data.specs.Name.{Name}
 use Rattle.clos_forms.specs.Form.{Form, form, Forms, nil, cons, operator_in}
-use Rattle.clos_forms.specs.clos_names.Names.{is_called, is_one_of, functions}
+use Rattle.clos_forms.specs.clos_names.Names.{is_one_of, functions}
 use Rattle.clos_forms.specs.Operator.{Operator, call_place}
 use Rattle.clos_forms.specs.Operator as of
 use Rattle.clos_lambda.specs.LambdaList.{entries_of}
@@ -19,13 +19,9 @@ use Rattle.clos_forms.specs.clos_names.Callee.{callee_of}
 use Rattle.clos_forms.specs.clos_names.declared.callee.Callee.{Callee}
 use Rattle.clos_forms.specs.clos_names.declared.callee.Callee.TheVariants.{Defined}
 
--- the system's functions that the program does not call
-abbrev pub is_update : Name → Bool
-is_update name = is_called (codes "UPDATE-INSTANCE-FOR-REDEFINED-CLASS") name || is_called (codes "UPDATE-INSTANCE-FOR-DIFFERENT-CLASS") name
-
 -- whether calls of a function are served: of those of the language some are not yet, and have no other meaning
 abbrev pub is_served_as : Callee → Name → Bool
-is_served_as Defined name = not (is_one_of functions name) && not (is_update name)
+is_served_as Defined name = not (is_one_of functions name)
 is_served_as _ name = true
 
 -- by the name that is called, whatever the arguments

@@ -4,9 +4,9 @@ ghost use Rattle.std.specs.List.{list_all};
 ghost use Rattle.clos_forms.specs.OperatorView.{operator_of};
 ghost use Rattle.clos_lambda.specs.LambdaList.{entries_of};
 ghost use Rattle.clos_definition_forms.specs.clos_definition.Method.{eql_form};
-ghost use Rattle.clos_session.specs.Served.{are_inits_served, are_served, calls, is_served, is_served_as, is_served_class, is_served_function, is_served_generic, is_served_if_any, is_served_method, is_served_optional, is_served_top, is_update, reads, reads_first, serves};
+ghost use Rattle.clos_session.specs.Served.{are_inits_served, are_served, calls, is_served, is_served_as, is_served_class, is_served_function, is_served_generic, is_served_if_any, is_served_method, is_served_optional, is_served_top, reads, reads_first, serves};
 
-use clos_forms::{CalledName, Callee, Form, Forms, Operator, Place, is_function, is_the};
+use clos_forms::{CalledName, Callee, Form, Forms, Operator, Place, is_function};
 use clos_syntax::{
     ClassDefinition, DefaultInitarg, GenericDefinition, Key, Keys, LambdaList, MethodDefinition,
     Optional, ParameterSpecializer, SlotSpecifier, Top,
@@ -209,15 +209,7 @@ fn is_served_as(callee: Callee, name: &Name) -> bool
     ensures { result ≡ is_served_as callee name.now }
 {
     match callee {
-        Callee::Defined => !is_function(name) && !is_update(name),
+        Callee::Defined => !is_function(name),
         _ => true,
     }
-}
-
-/// Whether it is one of the system's functions that the program does not call.
-fn is_update(name: &Name) -> bool
-    ensures { result ≡ is_update name.now }
-{
-    is_the(name, "UPDATE-INSTANCE-FOR-REDEFINED-CLASS")
-        || is_the(name, "UPDATE-INSTANCE-FOR-DIFFERENT-CLASS")
 }

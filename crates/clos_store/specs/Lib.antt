@@ -1,3 +1,5 @@
 pub mod Store
+pub mod Update
+pub mod UpdateView
 pub mod inner
 pub mod StoreFault

@@ -124,9 +124,12 @@ has_room_for n w = nat_le (length w.cells + n) w.most_cells
 
 -- ---- the slot of an instance by its name, a local or a shared one (7.5.1)
 
+abbrev pub cell_among : List (Option Val) → Option CellId → Option (Option Val)
+cell_among cells None = None
+cell_among cells (Some c) = slice_get cells c.0
+
 abbrev pub cell_found : Contents → Option CellId → Option (Option Val)
-cell_found w None = None
-cell_found w (Some c) = slice_get w.cells c.0
+cell_found w c = cell_among w.cells c
 
 abbrev pub found_or : Option (Option Val) → Option (Option Val) → Option (Option Val)
 found_or None shared = shared

@@ -1,11 +1,15 @@
 //! One instance.
-ghost use Rattle.std.specs.Prelude.{◌≡◌, ◌<◌, IfOk, length, option_map, position, replicate, slice_get, None};
+ghost use Rattle.std.specs.Prelude.{◌≡◌, ◌<◌, ◌++◌, [], IfOk, OnOk, length, map, option_map, position, replicate, slice_get, None};
+ghost use Rattle.std.specs.List.{zip};
 ghost use Rattle.std.specs.Map.{lookup};
 ghost use Rattle.lisp_data.specs.Name.{same_name};
 ghost use Rattle.lisp_data.specs.ValueView.{value_of};
-ghost use Rattle.clos_store.specs.Store.{allocated, kept_layout, slot_names, value_at, with_value_at};
+ghost use Rattle.clos_store.specs.Store.{allocated, if_bound, kept_layout, slot_names, value_at, with_value_at};
+ghost use Rattle.clos_store.specs.Update.{bound, lost, slot_of, updated};
+ghost use Rattle.clos_store.specs.UpdateView.{Tells, values_of};
 
 use crate::slot::Slot;
+use crate::update::{Discarded, Lost, added, copy_of, discarded, lost_values};
 use clos_class::Layout;
 use lisp_data::{CellId, ClassId, Name, Value};
 use std::alloc::{AllocError, Global};
@@ -125,4 +129,59 @@ impl Instance {
     {
         self.slots[place] = Slot::new(value);
     }
+
+    /// The same instance with this class and this layout, its slots moved into the places that they have there (HyperSpec
+    /// 4.3.6.1, 7.2.1).
+    #[tactic(auto, using(crate::proofs::Updating::slots_updated, crate::proofs::Updating::length_updated))]
+    pub fn updated(
+        &self,
+        alloc: Global,
+        cells: &[Slot],
+        class: ClassId,
+        layout: &Rc<Layout>,
+    ) -> Result<Instance, AllocError>
+        ensures { IfOk result (λ r. r ≡ updated cells.now class.0 layout.now.value self.now) }
+    {
+        let slots = updated_slots(alloc, self, cells, layout.locals().as_slice())?;
+        let layout = layout.clone()?;
+        Ok(Instance {
+            class,
+            layout,
+            slots,
+        })
+    }
+
+    /// What is told where it is given this layout.
+    #[tactic(auto, using(crate::proofs::Slots::names_of_zip))]
+    pub fn discarded(&self, alloc: Global, layout: &Layout) -> Result<Discarded, AllocError>
+        ensures { IfOk result (λ r. Tells r self.now layout.now.locals) }
+    {
+        let names = self.layout.locals().as_slice();
+        let values = lost_values(alloc, names, self.slots.as_slice(), layout)?;
+        let discarded = discarded(alloc, names, layout)?;
+        let added = added(alloc, self, layout.locals().as_slice())?;
+        Ok(Discarded {
+            added,
+            discarded,
+            values,
+        })
+    }
+}
+
+/// The slots of these names, those that an instance has with what they have there.
+fn updated_slots(
+    alloc: Global,
+    instance: &Instance,
+    cells: &[Slot],
+    names: &[Name],
+) -> Result<Vec<Slot>, AllocError>
+    ensures { IfOk result (λ r. r.items ≡ map (λ n. if_bound (slot_of cells.now instance.now n)) names.now) }
+{
+    let mut slots = Vec::with_capacity(alloc, names.len())?;
+    let mut left = names;
+    while let Some((name, others)) = left.split_first() {
+        slots.push(copy_of(instance, cells, name)?)?;
+        left = others;
+    }
+    Ok(slots)
 }

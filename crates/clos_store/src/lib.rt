@@ -5,7 +5,9 @@ mod fault;
 mod instance;
 mod slot;
 mod store;
+mod update;
 
 pub use fault::StoreFault;
 pub use slot::Slot;
 pub use store::Store;
+pub use update::{Discarded, Lost};

@@ -1,8 +1,9 @@
 //! The place of a slot's value.
-ghost use Rattle.std.specs.Prelude.{◌≡◌, option_map};
+ghost use Rattle.std.specs.Prelude.{◌≡◌, IfOk, option_map};
 ghost use Rattle.lisp_data.specs.ValueView.{value_of};
 
 use lisp_data::Value;
+use std::alloc::AllocError;
 use std::marker::Model;
 
 /// The place of a slot's value: where it has none, the slot is unbound (HyperSpec 7.5.1).
@@ -32,6 +33,18 @@ impl Slot {
         ensures { result ≡ option_map value_of value }
     {
         Slot { value }
+    }
+
+    /// The same, in a few steps whatever the value's size.
+    pub fn copy(&self) -> Result<Slot, AllocError>
+        ensures { IfOk result (λ r. r ≡ self.now) }
+    {
+        match &self.value {
+            None => Ok(Slot { value: None }),
+            Some(value) => Ok(Slot {
+                value: Some(value.copy()?),
+            }),
+        }
     }
 
     /// Its value, where it is bound.

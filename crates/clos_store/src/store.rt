@@ -1,18 +1,22 @@
 //! The instances of a session, and its cells.
-ghost use Rattle.std.specs.Prelude.{◌≡◌, ◌≤◌, ◌<◌, ◌+◌, ◌-◌, max, true, Some, None, IfOk, IfErr, IfSome, IsOk, OnOk, OnErr, length, option_map, option_copied};
+ghost use Rattle.std.specs.Prelude.{◌≡◌, ◌≤◌, ◌<◌, ◌+◌, ◌-◌, max, true, Some, None, IfOk, IfErr, IfSome, IsOk, IsSome, OnOk, OnErr, length, option_map, option_copied};
 ghost use Rattle.std.specs.Map.{lookup};
 ghost use Rattle.lisp_data.specs.Name.{same_name};
 ghost use Rattle.lisp_data.specs.ValueView.{value_of};
 ghost use Rattle.clos_store.specs.Store.{allocated, cell_value, cells_from, empty, has_room, has_room_for, instance, kept_layout, next_instance, place_named, shared_of, slot_found, slots_of, value_at, value_named, with_cell, with_cell_value, with_cells, with_instance, with_slot, with_slots, with_value, with_value_at};
 ghost use Rattle.clos_store.specs.StoreFault.{Refuses};
+ghost use Rattle.clos_store.specs.Update.{is_stale, with_change, with_update};
+ghost use Rattle.clos_store.specs.UpdateView.{TellsOf};
 
 use crate::fault::StoreFault;
 use crate::instance::Instance;
 use crate::slot::Slot;
+use crate::update::Discarded;
 use clos_class::Layout;
 use lisp_data::{CellId, ClassId, InstanceId, Name, Value};
 use std::alloc::{AllocError, Global};
 use std::marker::Model;
+use std::mem;
 use std::rc::Rc;
 
 /// The instances that were made, and the cells, in which the values of shared slots are (HyperSpec 7.5.1). Both are kept
@@ -128,6 +132,77 @@ impl Store {
             None => None,
             Some(instance) => Some(instance.layout()),
         }
+    }
+
+    /// Whether an instance keeps another layout than this one, which its class has now (HyperSpec 4.3.6).
+    pub fn is_stale(&self, id: InstanceId, layout: &Layout) -> bool
+        ensures { result ≡ is_stale self.now.contents id.0 layout.now }
+    {
+        match self.instance(id) {
+            None => false,
+            Some(instance) => !instance.layout().is_same(layout),
+        }
+    }
+
+    /// What is told where an instance is given this layout (HyperSpec 4.3.6.1).
+    pub fn discarded(
+        &self,
+        alloc: Global,
+        id: InstanceId,
+        layout: &Layout,
+    ) -> Result<Discarded, AllocError>
+        requires { IsSome (instance self.now.contents id.0) }
+        ensures { IfOk result (λ r. TellsOf r (instance self.now.contents id.0) layout.now.locals) }
+    {
+        self.instances[(id.0 - 1) as usize].discarded(alloc, layout)
+    }
+
+    /// Gives an instance this layout, which its class has now (HyperSpec 4.3.6.1): a slot that it has keeps its value, or
+    /// takes that of its cell, and any other is unbound.
+    pub fn restructure(
+        &mut self,
+        alloc: Global,
+        id: InstanceId,
+        layout: &Rc<Layout>,
+    ) -> Result<(), AllocError>
+        requires { IsSome (instance self.old.contents id.0) }
+        ensures ok { OnOk result (self.new ≡ record self.old { contents = with_update id.0 layout.now.value self.old.contents }) }
+        ensures err { OnErr result (self.new ≡ self.old) }
+    {
+        let place = (id.0 - 1) as usize;
+        let instance = &self.instances[place];
+        let class = instance.class();
+        let updated = instance.updated(alloc, self.cells.as_slice(), class, layout)?;
+        self.instances[place] = updated;
+        Ok(())
+    }
+
+    /// Makes an instance one of this class with this layout (HyperSpec 7.2.1), and a copy of it as it was, whose number is
+    /// told.
+    pub fn change(
+        &mut self,
+        alloc: Global,
+        id: InstanceId,
+        class: ClassId,
+        layout: &Rc<Layout>,
+    ) -> Result<InstanceId, StoreFault>
+        requires { IsSome (instance self.old.contents id.0) }
+        ensures ok { OnOk result ((has_room self.old.contents ≡ true) × (self.new ≡ record self.old { contents = with_change id.0 class.0 layout.now.value self.old.contents })) }
+        ensures id { IfOk result (λ r. r.0 ≡ length self.old.contents.instances + 1) }
+        ensures fault { IfErr result (λ e. Refuses e (has_room self.old.contents)) }
+        ensures err { OnErr result (self.new ≡ self.old) }
+    {
+        if !self.has_room() {
+            return Err(StoreFault::TableLimit);
+        }
+        let place = (id.0 - 1) as usize;
+        let changed = self.instances[place].updated(alloc, self.cells.as_slice(), class, layout)?;
+        self.instances.reserve(1)?;
+        let copy = mem::replace(&mut self.instances[place], changed);
+        let Ok(()) = self.instances.push(copy) else {
+            unreachable!()
+        };
+        Ok(InstanceId(self.instance_count()))
     }
 
     /// The place of the local slot of this name.

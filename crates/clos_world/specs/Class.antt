@@ -4,7 +4,7 @@ use Rattle.lisp_data.specs.Name.{Name}
 use Rattle.clos_hierarchy.specs.Classes.{listing, list_in}
 use Rattle.clos_hierarchy.specs.Classes as classes
 use Rattle.clos_hierarchy.specs.Table.{list_if}
-use Rattle.clos_class.specs.Slots.{Effective, effective_of}
+use Rattle.clos_class.specs.Slots.{Effective, Layout, effective_of, layout_of}
 use Rattle.clos_class.specs.SlotsView.{defaults, direct_slots}
 use Rattle.clos_class.specs.Table.{Table}
 
@@ -27,3 +27,7 @@ precedence_or_none t n = list_in (listing t.table.classes n)
 -- what a class has by its class precedence list, if it is complete: its slots, their layout and its default initargs (7.5.3)
 abbrev pub effective : Table → ℕ → Option Effective
 effective t n = option_map (effective_of (direct_slots t.slots) (defaults t.slots)) (precedence t n)
+
+-- the layout of its instances
+abbrev pub layout : Table → ℕ → Option Layout
+layout t n = option_map (layout_of (direct_slots t.slots)) (precedence t n)

@@ -13,6 +13,7 @@ pub mod world;
 pub use clos_class::{Effective, EffectiveSlot, Layout};
 pub use clos_comb::{CombinationDefinition, UseFault, name_of};
 pub use clos_method::{MethodIds, SystemFunction};
+pub use clos_store::{Discarded, Lost};
 pub use condition::{
     Condition, ConditionKind, Stop, about, about_both, about_call, about_name, about_names, plain,
 };

@@ -17,7 +17,7 @@ returns-in-Err-clause-turns c =
 
 pub returns-in_ok-given-in-Ok-clause-turns : goal.returns-in_ok-given-in-Ok-clause-turns
 returns-in_ok-given-in-Ok-clause-turns c =
-    writes (meaning c.args.machine.now.room) c.args.machine.now.context c.args.slot c.args.machine.now c.change.new.machine (map value_of c.args.values.now)
-    (value_of c.in-Some.new.now) (value_of c.in-Some.object.now) (value_of c.in_ok-stored-in-Ok.stored) (value_of c.in_ok-given-in-Ok.given) c.in-Ok.id.0 c.change.result
-    (seen c.args.world.now) c.args.steps.now (seen c.change.new.world) c.change.new.steps
-    c.in-Some.ensures c.in-Ok.ensures c.in_ok-stored-in-Ok.ensures c.in_ok-given-in-Ok.ensures c.change.ensures.turns
+    writes (meaning c.args.machine.now.room) c.args.machine.now.context c.args.slot c.args.machine.now c.visit.new.machine (map value_of c.args.values.now)
+    (value_of c.in-Some.new.now) (value_of c.in-Some.object.now) (value_of c.in_ok-stored-in-Ok.stored) (value_of c.in_ok-given-in-Ok.given) c.in-Ok.id.0 c.visit.result
+    (seen c.args.world.now) c.args.steps.now (seen c.visit.new.world) c.visit.new.steps
+    c.in-Some.ensures c.in-Ok.ensures c.in_ok-stored-in-Ok.ensures c.in_ok-given-in-Ok.ensures c.visit.ensures.turns

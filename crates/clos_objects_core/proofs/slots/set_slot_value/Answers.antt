@@ -17,7 +17,7 @@ returns-in-Err-clause-turns c =
 
 pub returns-in_ok-given-in-Ok-clause-turns : goal.returns-in_ok-given-in-Ok-clause-turns
 returns-in_ok-given-in-Ok-clause-turns c =
-    set_goes (meaning c.args.machine.now.room) c.args.machine.now.context c.args.machine.now c.change.new.machine c.args.values.now (map value_of c.as_slice.result.now)
+    set_goes (meaning c.args.machine.now.room) c.args.machine.now.context c.args.machine.now c.visit.new.machine c.args.values.now (map value_of c.as_slice.result.now)
     (value_of c.in-Some.object.now) (value_of c.in-Some.name.now) (value_of c.in-Some.value.now) (value_of c.in_ok-stored-in-Ok.stored) (value_of c.in_ok-given-in-Ok.given) (c.in-Ok.id, c.in-Ok.name)
-    (seen c.args.world.now) c.args.steps.now c.change.result (seen c.change.new.world) c.change.new.steps
-    c.in-Some.ensures c.as_slice.ensures c.in-Ok.ensures c.in_ok-stored-in-Ok.ensures c.in_ok-given-in-Ok.ensures c.change.ensures.turns
+    (seen c.args.world.now) c.args.steps.now c.visit.result (seen c.visit.new.world) c.visit.new.steps
+    c.in-Some.ensures c.as_slice.ensures c.in-Ok.ensures c.in_ok-stored-in-Ok.ensures c.in_ok-given-in-Ok.ensures c.visit.ensures.turns

@@ -1,0 +1,12 @@
+use Rattle.std.proofs.Common.{map}
+use Rattle.lisp_data.specs.ValueView.{value_of}
+use Rattle.lisp_prims.specs.Primitive.{answer}
+use Rattle.lisp_prims.specs.declared.lists.ListFunction.TheVariants.{List}
+use Rattle.lisp_prims.specs.declared.primitive.Primitive.TheVariants.{Listed}
+use Rattle.clos_machine.proofs.Updating.{not_listed}
+use Rattle.clos_machine.proofs.updating.listed.Goals as goal
+
+pub returns : goal.returns
+returns c =
+    not_listed (answer (Listed List) (map value_of c.args.values.now)) c.in-Err.fault c.of_function.result c.in-Err.ensures.answer
+    c.of_function.ensures.signals c.of_function.ensures.memory
