@@ -1,7 +1,7 @@
 -- What the system's methods do.
 use Rattle.std.proofs.Common.{◌≡◌, ℕ, List, [], ◌∷◌, true, false, Option, Some, None, Result, Ok, Err, refl, ap, sym, ◌∙◌}
 use Rattle.std.specs.Prelude.{if◌then◌else◌}
-use Rattle.lisp_data.specs.Value.{Val, list, nil}
+use Rattle.lisp_data.specs.Value.{Val}
 use Rattle.clos_class.specs.Slots.{Effective}
 use Rattle.clos_class.specs.declared.effective_slots.EffectiveSlot.{EffectiveSlot}
 use Rattle.clos_method.specs.declared.method.Method.{Method}
@@ -17,13 +17,15 @@ use Rattle.clos_method.specs.declared.system.SystemFunction.TheVariants.{Initial
 use Rattle.clos_machine.specs.clos_meaning.ClassFunctions.{wrong_type}
 use Rattle.clos_machine.specs.clos_meaning.Filling.{are_slot_names}
 use Rattle.clos_machine.specs.clos_meaning.Initialization.{invalid_for, invalid_initarg, methods_reached}
-use Rattle.clos_machine.specs.Machine.{DesignatesInstance, Leads, at, inside, resume, initargs_in, names_in}
+use Rattle.clos_machine.specs.Machine.{DesignatesInstance, Leads, Turns, at, inside, resume, initargs_in, names_in}
 use Rattle.clos_machine.specs.clos_meaning.Meaning.{closed}
 use Rattle.clos_machine.specs.clos_meaning.Outcome.{Eval, Run, Stopped, stopped}
 use Rattle.clos_machine.specs.clos_meaning.Slots.{instance_in}
-use Rattle.clos_machine.specs.clos_meaning.SystemMethods.{class_in, filled_as, if_valid, initialize_slots, reinitialize_as, shared_initialize, shared_initialized, system_method_run}
+use Rattle.clos_machine.specs.clos_meaning.SystemMethods.{checked_shared, class_in, filled_as, if_valid, initialize_slots, shared_if_valid, shared_initialize, shared_initialized, slots_filled, system_method_run}
+use Rattle.clos_machine.specs.clos_meaning.Updating.{updated}
 use Rattle.clos_machine.specs.declared.machine.Doing.{Doing}
 use Rattle.clos_machine.specs.declared.machine.Machine.{Machine}
+use Rattle.clos_machine.proofs.Runs.{turns_of_leads, turns_same}
 use Rattle.clos_machine.proofs.Turns.{bare, bare_same, bare_through, leads_same, stopped_through}
 use Rattle.clos_machine.specs.Fault.{TellsCondition}
 
@@ -65,48 +67,48 @@ module _ (m n : Machine) (w : State) where
   no_arguments ev f vs c e k =
       leads_refused (system_method_run ev f vs) c (record { kind = ProgramError; items = [] }) (λ t. ap (λ x. system_method_run ev f x (at m w) t) e ∙ none_at ev f t) k
 
-  -- ---- an instance that is initialized again
+  -- ---- shared-initialize, for initargs that are checked
 
-  module _ (ev : Eval) (vs : List Val) (i : ℕ) where
-    abbrev pub again : Run
-    again u = reinitialize_as ev vs i (class_in u i) u
+  module _ (ev : Eval) (f : SystemFunction) (us : List Val) (names : Val) (vs : List Val) (i : ℕ) where
+    abbrev pub sharing : Run
+    sharing = checked_shared ev f us names vs i
 
-    pub no_class_again : (c : Condition) → None ≡ class_in w i → c ≡ record { kind = ProgramError; items = [] } → Leads (inside m again) w (Err (Refused c)) n
-    no_class_again c e k = leads_refused again c (record { kind = ProgramError; items = [] }) (λ t. ap (λ o. reinitialize_as ev vs i o (at m w) t) (sym e)) k
+    pub no_class_to_share : (c : Condition) → None ≡ class_in w i → c ≡ record { kind = ProgramError; items = [] } → Leads (inside m sharing) w (Err (Refused c)) n
+    no_class_to_share c e k = leads_refused sharing c (record { kind = ProgramError; items = [] }) (λ t. ap (λ o. shared_if_valid ev f us names vs i o (at m w) t) (sym e)) k
 
     -- the leftmost initarg that is not valid
     abbrev pub wrong : Effective → Option Val
-    wrong e = invalid_initarg w.generics.methods (methods_reached w ReinitializeInstance i (list nil)) e.slots vs
+    wrong e = invalid_initarg w.generics.methods (methods_reached w f us i names) e.slots vs
 
-    pub wrong_given : (e : Effective) (methods : List Method) (ms : List ℕ) (names : Val) (slots : List EffectiveSlot) → methods ≡ w.generics.methods → ms ≡ methods_reached w ReinitializeInstance i names
-        → names ≡ list nil → slots ≡ e.slots → invalid_initarg methods ms slots vs ≡ wrong e
-    wrong_given e methods ms names slots h k l j =
+    pub wrong_given : (e : Effective) (methods : List Method) (ms : List ℕ) (v : Val) (slots : List EffectiveSlot) → methods ≡ w.generics.methods → ms ≡ methods_reached w f us i v
+        → v ≡ names → slots ≡ e.slots → invalid_initarg methods ms slots vs ≡ wrong e
+    wrong_given e methods ms v slots h k l j =
         ap (λ x. invalid_initarg x ms slots vs) h
-        ∙ ap (λ x. invalid_initarg w.generics.methods x slots vs) (k ∙ ap (methods_reached w ReinitializeInstance i) l)
-        ∙ ap (λ x. invalid_initarg w.generics.methods (methods_reached w ReinitializeInstance i (list nil)) x vs) j
+        ∙ ap (λ x. invalid_initarg w.generics.methods x slots vs) (k ∙ ap (methods_reached w f us i) l)
+        ∙ ap (λ x. invalid_initarg w.generics.methods (methods_reached w f us i names) x vs) j
 
-    pub invalid_again : (p : ℕ × Effective) (k : Val) (stop : Stop) → Some p ≡ class_in w i → Some k ≡ wrong p.1 → TellsCondition (invalid_for k (class_name w.classes p.0)) stop
-        → Leads (inside m again) w (Err stop) n
-    invalid_again p k Storage e h d = tt
-    invalid_again p k (Refused c) e h d =
-        leads_refused_after again c (invalid_for k (class_name w.classes p.0))
-        (λ t. ap (λ o. bare (reinitialize_as ev vs i o (at m w) t)) (sym e) ∙ ap (λ o. bare (if_valid p.0 o (shared_initialized ev i (list nil) vs) (at m w) t)) (sym h)) d
+    pub invalid_shared : (p : ℕ × Effective) (k : Val) (stop : Stop) → Some p ≡ class_in w i → Some k ≡ wrong p.1 → TellsCondition (invalid_for k (class_name w.classes p.0)) stop
+        → Leads (inside m sharing) w (Err stop) n
+    invalid_shared p k Storage e h d = tt
+    invalid_shared p k (Refused c) e h d =
+        leads_refused_after sharing c (invalid_for k (class_name w.classes p.0))
+        (λ t. ap (λ o. bare (shared_if_valid ev f us names vs i o (at m w) t)) (sym e) ∙ ap (λ o. bare (if_valid p.0 o (shared_initialized ev i names vs) (at m w) t)) (sym h)) d
 
-    pub valid_again : (p : ℕ × Effective) (names : Val) (r : Result Doing Stop) → Some p ≡ class_in w i → None ≡ wrong p.1 → names ≡ list nil
-        → Leads (inside m (shared_initialized ev i names vs)) w r n → Leads (inside m again) w r n
-    valid_again p names r e h q l =
-        leads_same (inside m (shared_initialized ev i names vs)) (inside m again) w r n
-        (λ t. ap (λ v. inside m (shared_initialized ev i v vs) w t) q
-        ∙ ap (λ o. inside m (if_valid p.0 o (shared_initialized ev i (list nil) vs)) w t) h
-        ∙ bare_same m.levels m.context (if_valid p.0 (wrong p.1) (shared_initialized ev i (list nil) vs) (at m w) t) (reinitialize_as ev vs i (Some p) (at m w) t) refl
-        ∙ ap (λ o. inside m (reinitialize_as ev vs i o) w t) e) l
+    pub valid_shared : (p : ℕ × Effective) (v : Val) (r : Result Doing Stop) → Some p ≡ class_in w i → None ≡ wrong p.1 → v ≡ names
+        → Leads (inside m (shared_initialized ev i v vs)) w r n → Leads (inside m sharing) w r n
+    valid_shared p v r e h q l =
+        leads_same (inside m (shared_initialized ev i v vs)) (inside m sharing) w r n
+        (λ t. ap (λ x. inside m (shared_initialized ev i x vs) w t) q
+        ∙ ap (λ o. inside m (if_valid p.0 o (shared_initialized ev i names vs)) w t) h
+        ∙ bare_same m.levels m.context (if_valid p.0 (wrong p.1) (shared_initialized ev i names vs) (at m w) t) (shared_if_valid ev f us names vs i (Some p) (at m w) t) refl
+        ∙ ap (λ o. inside m (shared_if_valid ev f us names vs i o) w t) e) l
 
   -- ---- slots that are initialized
 
   pub no_class_to_fill : (ev : Eval) (i : ℕ) (names : Val) (vs : List Val) (c : Condition) → None ≡ class_in w i → c ≡ record { kind = ProgramError; items = [] }
-      → Leads (inside m (λ u. filled_as ev i names vs (class_in u i) u)) w (Err (Refused c)) n
+      → Leads (inside m (slots_filled ev i names vs)) w (Err (Refused c)) n
   no_class_to_fill ev i names vs c e k =
-      leads_refused (λ u. filled_as ev i names vs (class_in u i) u) c (record { kind = ProgramError; items = [] }) (λ t. ap (λ o. filled_as ev i names vs o (at m w) t) (sym e)) k
+      leads_refused (slots_filled ev i names vs) c (record { kind = ProgramError; items = [] }) (λ t. ap (λ o. filled_as ev i names vs o (at m w) t) (sym e)) k
 
   module _ (ev : Eval) (v : Val) (us : List Val) where
     abbrev pub slots_run : Run
@@ -142,13 +144,13 @@ module _ (m n : Machine) (w : State) where
         no_slot_names i c d b k =
             leads_refused slots_run c (wrong_type names)
             (λ t. sym (runs t) ∙ ap (λ x. initialize_slots ev names initargs x (at m w) t) d
-            ∙ ap (λ x. if x then filled_as ev i names initargs (class_in w i) (at m w) t else Stopped (wrong_type names) (at m w) t) b) k
+            ∙ ap (λ x. if x then updated ev i (slots_filled ev i names initargs) (at m w) t else Stopped (wrong_type names) (at m w) t) b) k
 
-        pub slot_names : (i : ℕ) (r : Result Doing Stop) → instance_in v ≡ Ok i → are_slot_names names ≡ true
-            → Leads (inside m (λ u. filled_as ev i (names_in us) (initargs_in us) (class_in u i) u)) w r n → Leads (inside m slots_run) w r n
-        slot_names i r d b l =
-            leads_same (inside m (λ u. filled_as ev i (names_in us) (initargs_in us) (class_in u i) u)) (inside m slots_run) w r n
+        pub slot_names : (i : ℕ) (r : Result Doing Stop) (s : ℕ) (w' : State) (s' : ℕ) → instance_in v ≡ Ok i → are_slot_names names ≡ true
+            → Turns (inside m (updated ev i (slots_filled ev i (names_in us) (initargs_in us)))) w s r n w' s' → Turns (inside m slots_run) w s r n w' s'
+        slot_names i r s w' s' d b l =
+            turns_same (inside m (updated ev i (slots_filled ev i (names_in us) (initargs_in us)))) (inside m slots_run) w s r n w' s'
             (λ t. ap (λ o. closed (resume m.levels m.context o))
-            (ap (λ x. filled_as ev i (names_in x) (initargs_in x) (class_in w i) (at m w) t) whole
-            ∙ ap (λ x. if x then filled_as ev i names initargs (class_in w i) (at m w) t else Stopped (wrong_type names) (at m w) t) (sym b)
+            (ap (λ x. updated ev i (slots_filled ev i (names_in x) (initargs_in x)) (at m w) t) whole
+            ∙ ap (λ x. if x then updated ev i (slots_filled ev i names initargs) (at m w) t else Stopped (wrong_type names) (at m w) t) (sym b)
             ∙ ap (λ x. initialize_slots ev names initargs x (at m w) t) (sym d) ∙ runs t)) l

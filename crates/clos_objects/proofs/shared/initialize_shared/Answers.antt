@@ -10,7 +10,7 @@ use Rattle.clos_machine.specs.clos_meaning.Meaning.{meaning}
 use Rattle.clos_machine.specs.clos_meaning.Outcome.{then_do}
 use Rattle.clos_machine.specs.clos_meaning.SystemMethods.{shared_initialized}
 use Rattle.clos_machine.specs.declared.machine.Machine.{Machine}
-use Rattle.clos_objects.proofs.system_methods.initialize_shared.Goals as goal
+use Rattle.clos_objects.proofs.shared.initialize_shared.Goals as goal
 
 pub returns-clause-leads : goal.returns-clause-leads
 returns-clause-leads c =

@@ -1,0 +1,36 @@
+use Rattle.std.proofs.Common.{◌≡◌, map, subst, ◌∙◌}
+use Rattle.std.specs.Prelude.{option_map}
+use Rattle.lisp_data.specs.ValueView.{value_of}
+use Rattle.clos_machine.specs.clos_world.World.{seen}
+use Rattle.clos_machine.specs.clos_meaning.Meaning.{meaning}
+use Rattle.clos_machine.specs.clos_meaning.SystemMethods.{class_in}
+use Rattle.clos_objects.proofs.Methods.{invalid_shared, no_class_to_share, valid_shared, wrong_given}
+use Rattle.clos_objects.proofs.shared.check_shared.Goals as goal
+
+pub returns-in-None-clause-leads : goal.returns-in-None-clause-leads
+returns-in-None-clause-leads c =
+    no_class_to_share c.args.machine.now c.args.machine.now (seen c.args.world.now) (meaning c.args.machine.now.room) c.args.function (map value_of c.args.arguments.now)
+    (value_of c.args.names.now) (map value_of c.args.initargs.now) c.args.id.0 c.plain.result
+    (subst (λ o. option_map (λ p. (p.0.0, p.1)) o ≡ class_in (seen c.args.world.now) c.args.id.0) c.in-None.is c.in_ok-class_in.ensures) c.plain.ensures
+
+pub returns-in-Some-invalid_initarg-clause-leads : goal.returns-in-Some-invalid_initarg-clause-leads
+returns-in-Some-invalid_initarg-clause-leads c =
+    invalid_shared c.args.machine.now c.args.machine.now (seen c.args.world.now) (meaning c.args.machine.now.room) c.args.function (map value_of c.args.arguments.now)
+    (value_of c.args.names.now) (map value_of c.args.initargs.now) c.args.id.0
+    (c.in-Some.class.0, c.in-Some.effective) (value_of c.in-Some-invalid_initarg.name.now) c.refuse.result
+    (subst (λ o. option_map (λ p. (p.0.0, p.1)) o ≡ class_in (seen c.args.world.now) c.args.id.0) c.in-Some.is c.in_ok-class_in.ensures)
+    (c.in-Some-invalid_initarg.ensures
+    ∙ wrong_given c.args.machine.now c.args.machine.now (seen c.args.world.now) (meaning c.args.machine.now.room) c.args.function (map value_of c.args.arguments.now)
+    (value_of c.args.names.now) (map value_of c.args.initargs.now) c.args.id.0 c.in-Some.effective _ _ _ _
+    c.methods-methods.ensures c.in_ok-reached-in-Some.ensures c.in_ok-copy-in-Some.ensures c.slots.ensures) c.refuse.ensures
+
+pub returns-clause-leads : goal.returns-clause-leads
+returns-clause-leads c =
+    valid_shared c.args.machine.now c.initialize_shared.new.machine (seen c.args.world.now) (meaning c.args.machine.now.room) c.args.function (map value_of c.args.arguments.now)
+    (value_of c.args.names.now) (map value_of c.args.initargs.now) c.args.id.0
+    (c.in-Some.class.0, c.in-Some.effective) (value_of c.in_ok-copy-2.field-0) c.initialize_shared.result
+    (subst (λ o. option_map (λ p. (p.0.0, p.1)) o ≡ class_in (seen c.args.world.now) c.args.id.0) c.in-Some.is c.in_ok-class_in.ensures)
+    (c.in-None-invalid_initarg.ensures
+    ∙ wrong_given c.args.machine.now c.args.machine.now (seen c.args.world.now) (meaning c.args.machine.now.room) c.args.function (map value_of c.args.arguments.now)
+    (value_of c.args.names.now) (map value_of c.args.initargs.now) c.args.id.0 c.in-Some.effective _ _ _ _
+    c.methods-methods.ensures c.in_ok-reached-in-Some.ensures c.in_ok-copy-in-Some.ensures c.slots.ensures) c.in_ok-copy-2.ensures c.initialize_shared.ensures.leads
