@@ -16,8 +16,6 @@ use Rattle.clos_machine.specs.Machine.{apart, default_given}
 use Rattle.clos_machine.specs.declared.machine.Machine.{Machine}
 use Rattle.clos_machine.specs.clos_world.declared.condition.ConditionKind.TheVariants.{NoNextMethod, ProgramError}
 use Rattle.clos_machine.specs.clos_meaning.declared.arguments.Context.{Context}
-use Rattle.clos_method.specs.declared.system.SystemFunction.{SystemFunction}
-use Rattle.clos_method.specs.declared.system.SystemFunction.TheVariants.{ReinitializeInstance, SharedInitialize}
 use Rattle.clos_objects.specs.declared.filling.Found.{Found}
 use Rattle.clos_objects.specs.declared.filling.Found.TheVariants as found
 
@@ -83,12 +81,6 @@ next_condition [] = record { kind = ProgramError; items = [] }
 next_condition (m ∷ vs) = record { kind = NoNextMethod; items = m ∷ [] }
 
 -- ---- the system's methods
-
--- what a method of this function does takes no step by itself: it updates no instance
-abbrev pub IsStill : SystemFunction → Type 0
-IsStill ReinitializeInstance = ⊥
-IsStill SharedInitialize = ⊥
-IsStill f = Unit {0}
 
 -- of update-instance-for-redefined-class, after the instance
 abbrev pub names_and_initargs : List Val → Option (Val × List Val)

@@ -7,7 +7,7 @@ ghost use Rattle.clos_machine.specs.clos_meaning.Slots.{instance_in};
 ghost use Rattle.clos_machine.specs.clos_meaning.SystemMethods.{initialize, reinitialize, reinitialize_instance, slot_condition, slots_filled, system_method_run, told};
 ghost use Rattle.clos_machine.specs.Fault.{TellsCondition};
 ghost use Rattle.clos_machine.specs.clos_meaning.Updating.{updated};
-ghost use Rattle.clos_objects.specs.Objects.{IsStill, next_condition};
+ghost use Rattle.clos_objects.specs.Objects.{next_condition};
 ghost use Rattle.clos_machine.specs.clos_world.declared.condition.ConditionKind.TheVariants.{NoApplicableMethod};
 ghost use Rattle.clos_method.specs.declared.system.SystemFunction.TheVariants.{SharedInitialize};
 
@@ -50,7 +50,7 @@ pub fn run_system_method(
 }
 
 /// The same with arguments that begin with this one.
-#[tactic(auto, using(clos_machine::proofs::Runs::turns_of_leads, clos_machine::proofs::Turns::shrinks_by))]
+#[tactic(auto, using(clos_machine::proofs::Runs::turns_of_leads, clos_machine::proofs::Turns::shrinks_by, clos_machine::proofs::Turns::stopped_through))]
 fn run_with(
     alloc: Global,
     machine: &mut Machine,
@@ -67,34 +67,13 @@ fn run_with(
     ensures fewer { steps.new ≤ steps.old }
 {
     match function {
+        SystemFunction::InitializeInstance => initialize(alloc, machine, world, first, rest),
         SystemFunction::ReinitializeInstance => {
             reinitialize(alloc, machine, world, first, rest, steps)
         }
         SystemFunction::SharedInitialize => {
             initialize_slots(alloc, machine, world, first, rest, arguments, steps)
         }
-        _ => run_still(alloc, machine, world, function, first, rest, arguments),
-    }
-}
-
-/// The same of a method that takes no step by itself.
-#[tactic(auto, using(clos_machine::proofs::Turns::stopped_through))]
-fn run_still(
-    alloc: Global,
-    machine: &mut Machine,
-    world: &World,
-    function: SystemFunction,
-    first: &Value,
-    rest: &[Value],
-    arguments: &Arguments,
-) -> Result<Doing, Stop>
-    requires given { arguments.now ≡ value_of first.now ∷ map value_of rest.now }
-    requires still { IsStill function }
-    ensures leads { Leads (here machine.old (λ ev env. system_method_run ev function arguments.now)) (seen world.now) result machine.new }
-    ensures small { Grows value_weight machine.old.levels result machine.new }
-{
-    match function {
-        SystemFunction::InitializeInstance => initialize(alloc, machine, world, first, rest),
         SystemFunction::UpdateInstanceForRedefinedClass => {
             update_redefined(alloc, machine, world, first, rest, arguments)
         }
@@ -109,7 +88,6 @@ fn run_still(
         }
         SystemFunction::NoApplicableMethod => Err(signal_unmatched(alloc, world, first, rest)),
         SystemFunction::NoNextMethod => Err(signal_no_next(alloc, rest)),
-        SystemFunction::ReinitializeInstance | SystemFunction::SharedInitialize => unreachable!(),
     }
 }
 

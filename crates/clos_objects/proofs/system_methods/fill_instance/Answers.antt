@@ -24,5 +24,5 @@ returns-in_ok-enter-in-Some-clause-leads c = λ t.
     let m : Machine = c.args.machine.now in
     ap (λ x. denote x (Act (Fill (record { instance = c.args.id; class = c.in-Some.class; arguments = c.in_ok-copy-in-Some.field-0; effective = c.in-Some.effective; place = 0 })) c.new.result) (seen c.args.world.now) t) c.in_ok-enter-in-Some.ensures
     ∙ ap (λ a. closed (resume m.levels m.context (then_do (fill (meaning m.room) (known []) (record { instance = c.args.id.0; class = c.in-Some.class.0; names = names_in a; initargs = initargs_in a }) c.in-Some.effective.slots (bound_as [] (seen c.args.world.now)) t) (restoring m.locals)))) c.in_ok-copy-in-Some.ensures
-    ∙ ap (λ o. inside m (λ u. filled_as (meaning m.room) c.args.id.0 (names_in c.args.arguments.now) (initargs_in c.args.arguments.now) o u) (seen c.args.world.now) t)
+    ∙ ap (λ o. inside m (filled_as (meaning m.room) c.args.id.0 (names_in c.args.arguments.now) (initargs_in c.args.arguments.now) o) (seen c.args.world.now) t)
     (subst (λ o. option_map (λ p. (p.0.0, p.1)) o ≡ class_in (seen c.args.world.now) c.args.id.0) c.in-Some.is c.in_ok-class_in.ensures)
