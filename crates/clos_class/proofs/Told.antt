@@ -45,11 +45,11 @@ cell_alike (Some c) = eq-eqb c.0 c.0 refl
 
 agreed_at : (p : Name → Bool) (ns : List Name) (name : Name) → list_all p ns ≡ true → list_any (same_name name) ns ≡ true → p name ≡ true
 agreed_at p [] name a h = absurd (true≢false (sym h))
-agreed_at p (n ∷ ns) name a h = by (same_name name n) refl h
+agreed_at p (n ∷ ns) name a h = by (same_name name n) refl h (λ k. agreed_at p ns name (both (p n) (list_all p ns) a).1 k)
   where
-    by : (b : Bool) → same_name name n ≡ b → (b || list_any (same_name name) ns) ≡ true → p name ≡ true
-    by true e k = ap p ((same_name-Decides name n).0 e) ∙ (both (p n) (list_all p ns) a).0
-    by false e k = agreed_at p ns name (both (p n) (list_all p ns) a).1 k
+    by : (b : Bool) → same_name name n ≡ b → (b || list_any (same_name name) ns) ≡ true → (list_any (same_name name) ns ≡ true → p name ≡ true) → p name ≡ true
+    by true e k rest = ap p ((same_name-Decides name n).0 e) ∙ (both (p n) (list_all p ns) a).0
+    by false e k rest = rest k
 
 none_found : (es : List (Name × CellId)) (name : Name) → list_any (same_name name) (keys_of es) ≡ false → lookup (same_name name) es ≡ None
 none_found es name h = none (lookup (same_name name) es) (is_some-lookup (same_name name) es ∙ h)

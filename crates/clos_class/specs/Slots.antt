@@ -1,7 +1,8 @@
 -- The slots of a class, by its class precedence list (HyperSpec 4.3.4, 7.5.3). Classes are known by their numbers, and the most
 -- specific one stands first in the list.
+use lib.Pointwise.{pointwise}
 use Rattle.std.specs.Prelude.{ℕ, ◌==◌, ◌&&◌, List, [], ◌∷◌, Bool, true, false, not, Option, Some, None, map, option_map, reverse}
-use Rattle.std.specs.List.{filter, filter_map, flat_map, list_all, pointwise}
+use Rattle.std.specs.List.{filter, filter_map, flat_map, list_all}
 use Rattle.std.specs.Map.{keys_of, lookup}
 use Rattle.lisp_data.specs.Name.{Name, same_name}
 use Rattle.lisp_data.specs.declared.ids.CellId.{CellId}

@@ -1,5 +1,5 @@
 -- Instances that are updated before they are looked at.
-use Rattle.std.proofs.Common.{◌≡◌, ℕ, zero, suc, ◌+◌, ◌-◌, List, [], ◌∷◌, Bool, true, false, map, Option, Some, None, Result, Ok, Err, arith, refl, ap, sym, subst, ◌∙◌}
+use Rattle.std.proofs.Common.{◌≡◌, ℕ, zero, suc, ◌+◌, ◌-◌, List, [], ◌∷◌, Bool, true, false, map, Option, Some, None, Result, Ok, Err, arith, refl, ap, sym, subst, ◌∙◌, true≢false}
 use Rattle.std.specs.Prelude.{IsSome, option_map, if◌then◌else◌}
 use Rattle.lisp_data.specs.Name.{Name}
 use Rattle.lisp_data.specs.Value.{Val}
@@ -81,7 +81,7 @@ module _ (i : ℕ) where
 
 -- what is told of the instance that there is
 pub told_there : (i : ℕ) (names : List Name) (d : Discarded) (o : Option Object) (r : Result (List Val) Stop) → IsSome o → TellsOf d o names → TellsArguments i d r → TellsValues (told_if i names o) r
-told_there i names d None r s t h = absurd s
+told_there i names d None r s t h = absurd (true≢false (sym s))
 told_there i names d (Some o) r s t h =
     subst (λ x. TellsValues (arguments_of i (names_listed x) (names_listed (slot_names (lost names o.slots))) (listed (properties (bound (lost names o.slots))))) r) t.added
     (subst (λ x. TellsValues (arguments_of i (names_listed d.added.items) (names_listed x) (listed (properties (bound (lost names o.slots))))) r) t.discarded
@@ -92,7 +92,7 @@ told_there i names d (Some o) r s t h =
 stale_there : (w : State) (i : ℕ) (o : Option Object) (l : Layout) → store.instance w.store i ≡ o → due w i ≡ Some l → IsSome o
 stale_there w i None l e h =
     absurd (cc (sym (ap (λ x. if_stale w i (layout_if w (option_map (λ o. o.class) x))) e) ∙ h))
-stale_there w i (Some o) l e h = tt
+stale_there w i (Some o) l e h = refl
 
 pub due_there : (w : State) (i : ℕ) (l : Layout) → due w i ≡ Some l → IsSome (store.instance w.store i)
 due_there w i l h = stale_there w i (store.instance w.store i) l refl h

@@ -192,7 +192,7 @@ some_room false k i e = absurd (cc e)
 
 pub is_there : {A B : Type 0} (f : A → B) (o : Option A) (x : B) → Some x ≡ option_map f o → IsSome o
 is_there f None x e = absurd (cc e)
-is_there f (Some a) x e = tt
+is_there f (Some a) x e = refl
 
 one_more : (t : ℕ) → 1 + t ≡ suc t
 one_more t = omega arith

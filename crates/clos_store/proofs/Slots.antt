@@ -131,7 +131,7 @@ slots_there w v i p o is h e =
     found (x ∷ os) zero p o h e = ap (λ y. y.slots) (sym e)
     found (x ∷ os) (suc n) p o h e = found os n p o h e
 
-changed_there : (os : List Object) (n : ℕ) (o p : Object) (change : Object → Object) → o ≡ slice_index_or os n o → p ≡ change o → slice_set os n p ≡ with_changed change n os
+pub changed_there : (os : List Object) (n : ℕ) (o p : Object) (change : Object → Object) → o ≡ slice_index_or os n o → p ≡ change o → slice_set os n p ≡ with_changed change n os
 changed_there [] n o p change e h = refl
 changed_there (x ∷ os) zero o p change e h = ap (λ y. y ∷ os) (h ∙ ap change e)
 changed_there (x ∷ os) (suc n) o p change e h = ap (λ l. x ∷ l) (changed_there os n o p change e h)

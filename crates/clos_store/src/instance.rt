@@ -9,7 +9,7 @@ ghost use Rattle.clos_store.specs.Update.{bound, lost, slot_of, updated};
 ghost use Rattle.clos_store.specs.UpdateView.{Tells, values_of};
 
 use crate::slot::Slot;
-use crate::update::{Discarded, Lost, added, copy_of, discarded, lost_values};
+use crate::update::{Discarded, copy_of, lost_values, names_added, names_lost};
 use clos_class::Layout;
 use lisp_data::{CellId, ClassId, Name, Value};
 use std::alloc::{AllocError, Global};
@@ -158,8 +158,8 @@ impl Instance {
     {
         let names = self.layout.locals().as_slice();
         let values = lost_values(alloc, names, self.slots.as_slice(), layout)?;
-        let discarded = discarded(alloc, names, layout)?;
-        let added = added(alloc, self, layout.locals().as_slice())?;
+        let discarded = names_lost(alloc, names, layout)?;
+        let added = names_added(alloc, self, layout.locals().as_slice())?;
         Ok(Discarded {
             added,
             discarded,

@@ -94,6 +94,7 @@ impl Store {
     ) -> Result<InstanceId, StoreFault>
         ensures ok { OnOk result ((has_room self.old.contents ≡ true) × (self.new ≡ record self.old { contents = with_instance (allocated class.0 layout.now.value) self.old.contents })) }
         ensures id { IfOk result (λ r. r.0 ≡ length self.old.contents.instances + 1) }
+        ensures there { IfOk result (λ r. IsSome (instance self.new.contents r.0)) }
         ensures fault { IfErr result (λ e. Refuses e (has_room self.old.contents)) }
         ensures err { OnErr result (self.new ≡ self.old) }
     {

@@ -67,7 +67,11 @@ fn has_slot(instance: &Instance, name: &Name) -> bool
 }
 
 /// Those of these names that an instance has no slots of.
-pub fn added(alloc: Global, instance: &Instance, names: &[Name]) -> Result<Vec<Name>, AllocError>
+pub fn names_added(
+    alloc: Global,
+    instance: &Instance,
+    names: &[Name],
+) -> Result<Vec<Name>, AllocError>
     ensures { IfOk result (λ r. r.items ≡ added instance.now names.now) }
 {
     let mut added = Vec::new(alloc);
@@ -82,7 +86,7 @@ pub fn added(alloc: Global, instance: &Instance, names: &[Name]) -> Result<Vec<N
 }
 
 /// Those of these names that are no local slots of a layout.
-pub fn discarded(alloc: Global, names: &[Name], layout: &Layout) -> Result<Vec<Name>, AllocError>
+pub fn names_lost(alloc: Global, names: &[Name], layout: &Layout) -> Result<Vec<Name>, AllocError>
     ensures { IfOk result (λ r. r.items ≡ filter (λ n. not (is_among layout.now.locals n)) names.now) }
 {
     let mut discarded = Vec::new(alloc);

@@ -63,22 +63,73 @@ fn written(store: &mut Store, alloc: Global, layout: &Rc<Layout>) -> Result<i64,
     Ok(0)
 }
 
+/// What is told of an instance with this layout that is given another one: how many names are added and discarded, and how
+/// many values; and the number of the copy that is made as it changes its class.
+fn moved(
+    store: &mut Store,
+    alloc: Global,
+    kept: &Rc<Layout>,
+    other: &Rc<Layout>,
+) -> Result<(usize, usize, usize, u64), StoreFault> {
+    let instance = store.allocate(alloc, ClassId(70), kept)?;
+    let told = store.discarded(alloc, instance, other)?;
+    let copy = store.change(alloc, instance, ClassId(71), other)?;
+    Ok((
+        told.added.len(),
+        told.discarded.len(),
+        told.values.len(),
+        copy.0,
+    ))
+}
+
+/// Whether an instance with this layout is stale beside another one, and no more once it has that.
+fn updated(
+    store: &mut Store,
+    alloc: Global,
+    kept: &Rc<Layout>,
+    other: &Rc<Layout>,
+) -> Result<bool, StoreFault> {
+    let instance = store.allocate(alloc, ClassId(70), kept)?;
+    let was_stale = store.is_stale(instance, other);
+    store.restructure(alloc, instance, other)?;
+    Ok(was_stale && !store.is_stale(instance, other))
+}
+
 #[test]
 fn calls_succeed(rt: HostRuntime) -> Result<(), Fail> {
-    let mut store = Store::new(rt.alloc(), 1, 1);
-    let Ok(cell) = cell(&mut store) else {
+    let alloc = rt.alloc();
+    let mut store = Store::new(alloc, 5, 2);
+    let Ok(first) = cell(&mut store) else {
         assert!(rt; false);
         return Ok(());
     };
-    let Ok(Some(layout)) = layout(rt.alloc(), cell) else {
+    let Ok(second) = cell(&mut store) else {
         assert!(rt; false);
         return Ok(());
     };
-    let Ok(number) = written(&mut store, rt.alloc(), &layout) else {
+    let Ok(Some(kept)) = layout(alloc, first) else {
         assert!(rt; false);
         return Ok(());
     };
-    assert_eq!(rt; cell.0, 0);
+    let Ok(Some(other)) = layout(alloc, second) else {
+        assert!(rt; false);
+        return Ok(());
+    };
+    assert_eq!(rt; first.0, 0);
+    let Ok(number) = written(&mut store, alloc, &kept) else {
+        assert!(rt; false);
+        return Ok(());
+    };
     assert_eq!(rt; number, 5);
+    let Ok(told) = moved(&mut store, alloc, &kept, &other) else {
+        assert!(rt; false);
+        return Ok(());
+    };
+    assert_eq!(rt; told, (0, 0, 0, 3));
+    let Ok(holds) = updated(&mut store, alloc, &kept, &other) else {
+        assert!(rt; false);
+        return Ok(());
+    };
+    assert!(rt; holds);
     Ok(())
 }

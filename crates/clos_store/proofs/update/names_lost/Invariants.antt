@@ -2,7 +2,7 @@ use Rattle.std.proofs.Common.{◌≡◌, ◌++◌, length}
 use Rattle.std.specs.Prelude.{not}
 use Rattle.std.specs.List.{filter}
 use Rattle.clos_store.specs.Update.{is_among}
-use Rattle.clos_store.proofs.update.discarded.Given as goal
+use Rattle.clos_store.proofs.update.names_lost.Given as goal
 
 abbrev pub invariant-loop-name : goal.invariant-loop-name
 invariant-loop-name l =
