@@ -2,5 +2,5 @@ pub mod Lists
 pub mod Turns
 pub mod Quiet
 pub mod Runs
-pub mod Updating
+pub mod Updates
 pub use Rattle.clos_meaning.proofs as clos_meaning

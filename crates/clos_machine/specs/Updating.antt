@@ -1,12 +1,18 @@
 -- What is told of an instance that is updated, as the code has it.
-use Rattle.std.specs.Prelude.{◌≡◌, ℕ, List, Result, Ok, Err}
+use Rattle.std.specs.Prelude.{◌≡◌, ℕ, List, IsSome, Result, Ok, Err}
 use Rattle.lisp_data.specs.Value.{Val}
+use Rattle.clos_meaning.specs.clos_world.clos_store.Store.{instance}
 use Rattle.clos_meaning.specs.clos_world.clos_store.UpdateView.{values_of}
 use Rattle.clos_meaning.specs.clos_world.clos_store.declared.update.Discarded.{Discarded}
+use Rattle.clos_meaning.specs.clos_world.World.{State}
 use Rattle.clos_meaning.specs.clos_world.declared.condition.Condition.{Condition}
 use Rattle.clos_meaning.specs.clos_world.declared.condition.Stop.{Stop}
 use Rattle.clos_meaning.specs.clos_world.declared.condition.Stop.TheVariants.{Refused, Storage}
 use Rattle.clos_meaning.specs.Updating.{arguments_of, listed, names_listed, properties}
+
+-- the instance is there
+abbrev pub IsThere : State → ℕ → Type 0
+IsThere w i = IsSome (instance w.store i)
 
 -- these values, or the condition in their place, unless memory ran out
 abbrev pub TellsValues : Result (List Val) Condition → Result (List Val) Stop → Type 0

@@ -1,15 +1,14 @@
 //! Instances whose class was defined again (HyperSpec 4.3.6): each is updated before its slots are looked at.
-ghost use Rattle.std.specs.Prelude.{◌≡◌, ◌≤◌, ◌∷◌, [], IfOk, IsSome, Some, map, option_map};
+ghost use Rattle.std.specs.Prelude.{◌≡◌, ◌≤◌, ◌∷◌, [], IfOk, Some, map, option_map};
 ghost use Rattle.lisp_data.specs.Value.{instance};
 ghost use Rattle.lisp_data.specs.ValueView.{value_of};
 ghost use Rattle.clos_forms.specs.Quotation.{name_value};
-ghost use Rattle.clos_meaning.specs.clos_world.clos_store.Store as store;
 ghost use Rattle.clos_meaning.specs.clos_world.clos_store.UpdateView.{values_of};
 ghost use Rattle.clos_meaning.specs.clos_world.World.{class_of_instance, seen};
 ghost use Rattle.clos_meaning.specs.ClassFunctions.{Tells};
 ghost use Rattle.clos_meaning.specs.Updating.{due, layout_if, listed, names_listed, properties, restructured, told, updated};
 ghost use Rattle.clos_machine.specs.Machine.{Shrinks, Turns, act_weight, here, visited};
-ghost use Rattle.clos_machine.specs.Updating.{TellsArguments, TellsValues};
+ghost use Rattle.clos_machine.specs.Updating.{IsThere, TellsArguments, TellsValues};
 
 use crate::fault::of_function;
 use crate::machine::{Doing, Frame, Level, Machine, Visit};
@@ -127,7 +126,7 @@ fn arguments_for(alloc: Global, id: InstanceId, told: &Discarded) -> Result<Valu
 
 /// The same where an instance is given this layout.
 fn told(alloc: Global, world: &World, id: InstanceId, layout: &Layout) -> Result<Values, Stop>
-    requires { IsSome (store.instance (seen world.now).store id.0) }
+    requires { IsThere (seen world.now) id.0 }
     ensures { TellsValues (told (seen world.now) id.0 layout.now) result }
 {
     let discarded = world.store.discarded(alloc, id, layout)?;
@@ -170,7 +169,7 @@ fn restructure(
     visit: Visit,
     steps: &mut u64,
 ) -> Result<Doing, Stop>
-    requires { IsSome (store.instance (seen world.old).store id.0) }
+    requires { IsThere (seen world.old) id.0 }
     ensures turns { Turns (here machine.old (λ ev env. restructured ev id.0 layout.now.value arguments (visited ev env id.0 visit))) (seen world.old) steps.old result machine.new (seen world.new) steps.new }
     ensures small { Shrinks act_weight steps.old steps.new machine.old.levels result machine.new }
     ensures fewer { steps.new ≤ steps.old }

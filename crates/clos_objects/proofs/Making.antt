@@ -152,16 +152,16 @@ allocate_goes m class e vs i w w' s s' h z k = (1, z, λ t. after_step m class.0
 module _ (m n : Machine) (ev : Eval) (c : ℕ) (e : Effective) (vs : List Val) (i : ℕ) (w : State) where
   -- the leftmost initarg that is not valid
   abbrev pub wrong_new : Option Val
-  wrong_new = invalid_initarg w.generics.methods (methods_reached w InitializeInstance i (truth true)) e.slots vs
+  wrong_new = invalid_initarg w.generics.methods (methods_reached w InitializeInstance (instance i ∷ []) i (truth true)) e.slots vs
 
   -- the same, of what is at hand
-  pub new_given : (methods : List Method) (ms : List ℕ) (names : Val) (slots : List EffectiveSlot) (us : List Val) → methods ≡ w.generics.methods → ms ≡ methods_reached w InitializeInstance i names
+  pub new_given : (methods : List Method) (ms : List ℕ) (names : Val) (slots : List EffectiveSlot) (us : List Val) → methods ≡ w.generics.methods → ms ≡ methods_reached w InitializeInstance (instance i ∷ []) i names
       → names ≡ truth true → slots ≡ e.slots → us ≡ vs → invalid_initarg methods ms slots us ≡ wrong_new
   new_given methods ms names slots us h k l j q =
       ap (λ x. invalid_initarg x ms slots us) h
-      ∙ ap (λ x. invalid_initarg w.generics.methods x slots us) (k ∙ ap (methods_reached w InitializeInstance i) l)
-      ∙ ap (λ x. invalid_initarg w.generics.methods (methods_reached w InitializeInstance i (truth true)) x us) j
-      ∙ ap (invalid_initarg w.generics.methods (methods_reached w InitializeInstance i (truth true)) e.slots) q
+      ∙ ap (λ x. invalid_initarg w.generics.methods x slots us) (k ∙ ap (methods_reached w InitializeInstance (instance i ∷ []) i) l)
+      ∙ ap (λ x. invalid_initarg w.generics.methods (methods_reached w InitializeInstance (instance i ∷ []) i (truth true)) x us) j
+      ∙ ap (invalid_initarg w.generics.methods (methods_reached w InitializeInstance (instance i ∷ []) i (truth true)) e.slots) q
 
   pub invalid_new : (k : Val) (stop : Stop) → Some k ≡ wrong_new → TellsCondition (invalid_for k (class_name w.classes c)) stop → Leads (inside m (checked ev c e vs i)) w (Err stop) n
   invalid_new k Storage h d = tt

@@ -1,11 +1,12 @@
 //! Instances that change their class (HyperSpec 7.2, 7.7 `change-class`).
-ghost use Rattle.std.specs.Prelude.{◌≡◌, ◌≤◌, ◌∷◌, IfOk, IfSome, IsSome, Some, option_map};
-ghost use Rattle.lisp_data.specs.Value as value;
+ghost use Rattle.std.specs.Prelude.{◌≡◌, ◌≤◌, ◌∷◌, IfOk, IfSome, Some, option_map};
+ghost use Rattle.lisp_data.specs.Value.{instance};
 ghost use Rattle.lisp_data.specs.ValueView.{value_of};
 ghost use Rattle.clos_machine.specs.clos_world.Class.{layout};
-ghost use Rattle.clos_machine.specs.clos_world.clos_store.Store.{instance, next_instance};
+ghost use Rattle.clos_machine.specs.clos_world.clos_store.Store.{next_instance};
 ghost use Rattle.clos_machine.specs.clos_world.World.{class_of_instance, seen};
 ghost use Rattle.clos_machine.specs.Machine.{Shrinks, Turns, act_weight, here};
+ghost use Rattle.clos_machine.specs.Updating.{IsThere};
 ghost use Rattle.clos_machine.specs.clos_meaning.ChangeClass.{change_called, changed_of, changed_to, class_changed, if_there};
 ghost use Rattle.clos_machine.specs.clos_meaning.Slots.{instance_in};
 ghost use Rattle.clos_machine.specs.clos_meaning.Updating.{updated};
@@ -102,7 +103,7 @@ fn layout_for(
     class: ClassId,
 ) -> Result<Option<Rc<Layout>>, AllocError>
     ensures layout { IfOk result (λ r. option_map (λ l. l.value) r ≡ if_there (class_of_instance (seen world.now) id.0) (layout (seen world.now).classes class.0)) }
-    ensures there { IfOk result (λ r. IfSome r (λ l. IsSome (instance (seen world.now).store id.0))) }
+    ensures there { IfOk result (λ r. IfSome r (λ l. IsThere (seen world.now) id.0)) }
 {
     match world.store.class_of(id) {
         None => Ok(None),
@@ -151,7 +152,7 @@ fn change(
     initargs: Values,
     steps: &mut u64,
 ) -> Result<Doing, Stop>
-    requires there { IsSome (instance (seen world.old).store id.0) }
+    requires there { IsThere (seen world.old) id.0 }
     requires next { Some copy.0 ≡ next_instance (seen world.old).store }
     ensures turns { Turns (here machine.old (λ ev env. class_changed ev id.0 class.0 layout.now.value initargs)) (seen world.old) steps.old result machine.new (seen world.new) steps.new }
     ensures small { Shrinks act_weight steps.old steps.new machine.old.levels result machine.new }
@@ -180,7 +181,7 @@ fn arguments(
     id: InstanceId,
     mut initargs: Values,
 ) -> Result<Values, AllocError>
-    ensures { IfOk result (λ r. r ≡ value.instance copy.0 ∷ value.instance id.0 ∷ initargs) }
+    ensures { IfOk result (λ r. r ≡ instance copy.0 ∷ instance id.0 ∷ initargs) }
 {
     initargs.push_first(Value::Instance(id))?;
     initargs.push_first(Value::Instance(copy))?;

@@ -4,7 +4,7 @@ use Rattle.clos_machine.specs.clos_world.World.{seen}
 use Rattle.clos_machine.specs.Machine.{here}
 use Rattle.clos_machine.specs.clos_meaning.SystemMethods.{reinitialize_instance}
 use Rattle.clos_machine.proofs.Runs.{turns_of_leads}
-use Rattle.clos_machine.proofs.Updating.{turns_due}
+use Rattle.clos_machine.proofs.Updates.{turns_due}
 use Rattle.clos_objects.proofs.system_methods.update_and_reinitialize.Goals as goal
 
 pub returns-in-None-clause-turns : goal.returns-in-None-clause-turns

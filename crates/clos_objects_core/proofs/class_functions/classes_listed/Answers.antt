@@ -2,7 +2,7 @@ use Rattle.std.proofs.Common.{map, ap, ◌∙◌}
 use Rattle.lisp_data.specs.Value.{class}
 use Rattle.lisp_data.specs.ValueView.{value_of}
 use Rattle.clos_machine.specs.clos_world.clos_precedence.PrecedenceView.{numbers}
-use Rattle.clos_machine.proofs.Updating.{told_of_values}
+use Rattle.clos_machine.proofs.Updates.{told_of_values}
 use Rattle.clos_objects_core.proofs.class_functions.classes_listed.Goals as goal
 
 pub returns : goal.returns

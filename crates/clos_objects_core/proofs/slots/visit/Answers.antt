@@ -1,7 +1,7 @@
 use Rattle.std.proofs.Common.{None, sym}
 use Rattle.clos_machine.specs.clos_world.World.{seen}
 use Rattle.clos_machine.specs.Machine.{slot_visited}
-use Rattle.clos_machine.proofs.Updating.{turns_due}
+use Rattle.clos_machine.proofs.Updates.{turns_due}
 use Rattle.clos_objects_core.proofs.slots.visit.Goals as goal
 
 pub returns-in-Ok-None-clause-turns : goal.returns-in-Ok-None-clause-turns
