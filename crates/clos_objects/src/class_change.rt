@@ -169,18 +169,11 @@ fn change(
         return Err(Stop::Storage);
     };
     *steps -= 1;
-    Ok(Doing::Invoke(
-        SystemFunction::UpdateInstanceForDifferentClass,
-        arguments,
-    ))
+    Ok(Doing::Invoke(SystemFunction::UpdateInstanceForDifferentClass, arguments))
 }
 
 /// The copy and the instance, before the initargs.
-fn arguments(
-    copy: InstanceId,
-    id: InstanceId,
-    mut initargs: Values,
-) -> Result<Values, AllocError>
+fn arguments(copy: InstanceId, id: InstanceId, mut initargs: Values) -> Result<Values, AllocError>
     ensures { IfOk result (λ r. r ≡ instance copy.0 ∷ instance id.0 ∷ initargs) }
 {
     initargs.push_first(Value::Instance(id))?;

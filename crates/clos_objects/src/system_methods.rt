@@ -44,7 +44,9 @@ pub fn run_system_method(
     match split(arguments.as_slice()) {
         None => Err(Stop::Refused(plain(alloc, ConditionKind::ProgramError))),
         Some((first, rest)) => {
-            run_with(alloc, machine, world, function, first, rest, arguments, steps)
+            run_with(
+                alloc, machine, world, function, first, rest, arguments, steps,
+            )
         }
     }
 }
@@ -171,7 +173,16 @@ pub fn reinitialize_instance(
 {
     let function = SystemFunction::ReinitializeInstance;
     let object = [Value::Instance(id)];
-    check_shared(alloc, machine, world, function, &object, &nil(), id, initargs)
+    check_shared(
+        alloc,
+        machine,
+        world,
+        function,
+        &object,
+        &nil(),
+        id,
+        initargs,
+    )
 }
 
 /// The method of shared-initialize.

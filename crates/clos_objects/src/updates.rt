@@ -127,7 +127,9 @@ fn update_to(
         Err(stop) => Err(stop),
         Ok(names) => {
             let function = SystemFunction::UpdateInstanceForDifferentClass;
-            check_shared(alloc, machine, world, function, arguments, &names, id, initargs)
+            check_shared(
+                alloc, machine, world, function, arguments, &names, id, initargs,
+            )
         }
     }
 }

@@ -28,9 +28,9 @@ pub returns-clause-leads : goal.returns-clause-leads
 returns-clause-leads c =
     valid_shared c.args.machine.now c.initialize_shared.new.machine (seen c.args.world.now) (meaning c.args.machine.now.room) c.args.function (map value_of c.args.arguments.now)
     (value_of c.args.names.now) (map value_of c.args.initargs.now) c.args.id.0
-    (c.in-Some.class.0, c.in-Some.effective) (value_of c.in_ok-copy-2.field-0) c.initialize_shared.result
+    (c.in-Some.class.0, c.in-Some.effective) (value_of c.in_ok-copy-in-None-invalid_initarg.field-0) c.initialize_shared.result
     (subst (λ o. option_map (λ p. (p.0.0, p.1)) o ≡ class_in (seen c.args.world.now) c.args.id.0) c.in-Some.is c.in_ok-class_in.ensures)
     (c.in-None-invalid_initarg.ensures
     ∙ wrong_given c.args.machine.now c.args.machine.now (seen c.args.world.now) (meaning c.args.machine.now.room) c.args.function (map value_of c.args.arguments.now)
     (value_of c.args.names.now) (map value_of c.args.initargs.now) c.args.id.0 c.in-Some.effective _ _ _ _
-    c.methods-methods.ensures c.in_ok-reached-in-Some.ensures c.in_ok-copy-in-Some.ensures c.slots.ensures) c.in_ok-copy-2.ensures c.initialize_shared.ensures.leads
+    c.methods-methods.ensures c.in_ok-reached-in-Some.ensures c.in_ok-copy-in-Some.ensures c.slots.ensures) c.in_ok-copy-in-None-invalid_initarg.ensures c.initialize_shared.ensures.leads

@@ -1,13 +1,22 @@
-use Rattle.std.proofs.Common.{None}
+use Rattle.std.proofs.Common.{◌≡◌, None, subst}
+use Rattle.std.specs.Prelude.{option_map}
 use Rattle.clos_machine.specs.clos_world.World.{seen}
-use Rattle.clos_machine.specs.Machine.{here, initargs_in, names_in}
+use Rattle.clos_machine.specs.Machine.{Turns, here, initargs_in, names_in}
 use Rattle.clos_machine.specs.clos_meaning.SystemMethods.{slots_filled}
+use Rattle.clos_machine.specs.clos_meaning.Updating.{due, updated}
 use Rattle.clos_machine.proofs.Runs.{turns_of_leads}
 use Rattle.clos_machine.proofs.Updates.{turns_due}
 use Rattle.clos_objects.proofs.system_methods.update_and_fill.Goals as goal
 
 pub returns-in-None-clause-turns : goal.returns-in-None-clause-turns
 returns-in-None-clause-turns c =
-    turns_due c.args.machine.now c.fill_instance.new.machine (λ ev env. slots_filled ev c.args.id.0 (names_in c.args.arguments.now) (initargs_in c.args.arguments.now)) c.args.id.0 None (seen c.args.world.now) c.args.steps.now
-    c.fill_instance.result (seen c.args.world.now) c.args.steps.now c.in-None.ensures
-    (turns_of_leads (here c.args.machine.now (λ ev env. slots_filled ev c.args.id.0 (names_in c.args.arguments.now) (initargs_in c.args.arguments.now))) (seen c.args.world.now) c.args.steps.now c.fill_instance.result c.fill_instance.new.machine c.fill_instance.ensures.leads)
+    turns_due c.args.machine.now c.fill_instance.new.machine (λ ev env. slots_filled ev c.args.id.0 (names_in c.args.arguments.now) (initargs_in c.args.arguments.now)) c.args.id.0 None
+    (seen c.args.world.now) c.args.steps.now c.fill_instance.result (seen c.args.world.now) c.args.steps.now
+    (subst (λ o. option_map (λ l. l.value) o ≡ due (seen c.args.world.now) c.args.id.0) c.in-None.is c.in_ok-due.ensures)
+    (turns_of_leads (here c.args.machine.now (λ ev env. slots_filled ev c.args.id.0 (names_in c.args.arguments.now) (initargs_in c.args.arguments.now))) (seen c.args.world.now)
+    c.args.steps.now c.fill_instance.result c.fill_instance.new.machine c.fill_instance.ensures.leads)
+
+pub returns-in_ok-copy-in-Some-clause-turns : goal.returns-in_ok-copy-in-Some-clause-turns
+returns-in_ok-copy-in-Some-clause-turns c =
+    subst (λ vs. Turns (here c.args.machine.now (λ ev env. updated ev c.args.id.0 (slots_filled ev c.args.id.0 (names_in vs) (initargs_in vs)))) (seen c.args.world.now) c.args.steps.now
+    c.update.result c.update.new.machine (seen c.update.new.world) c.update.new.steps) c.in_ok-copy-in-Some.ensures c.update.ensures.turns
