@@ -217,14 +217,22 @@ fn visit(
     ensures small { Shrinks act_weight steps.old steps.new machine.old.levels result machine.new }
     ensures fewer { steps.new ≤ steps.old }
 {
-    match due(world, id) {
-        Err(_) => {
-            drop(visit);
-            Err(Stop::Storage)
-        }
-        Ok(None) => visit_slot(alloc, machine, world, id, visit, steps),
-        Ok(Some(layout)) => {
-            update(alloc, machine, world, id, &layout, Visit::Slot(visit), steps)
+    let Ok(due) = due(world, id) else {
+        drop(visit);
+        return Err(Stop::Storage);
+    };
+    match due {
+        None => visit_slot(alloc, machine, world, id, visit, steps),
+        Some(layout) => {
+            update(
+                alloc,
+                machine,
+                world,
+                id,
+                &layout,
+                Visit::Slot(visit),
+                steps,
+            )
         }
     }
 }
