@@ -15,6 +15,7 @@ use Rattle.clos_generic.specs.declared.changes.Definition.{Definition}
 use Rattle.clos_method.specs.declared.method.Method.{Method}
 use Rattle.clos_method.specs.declared.method.MethodBody.{MethodBody}
 use Rattle.clos_method.specs.declared.method.MethodBody.TheVariants as body
+use Rattle.clos_method.specs.declared.origin.Origin.TheVariants.{Accessor as ByAccessor}
 use Rattle.clos_method.specs.declared.shape.Shape.{Shape}
 use Rattle.clos_world.specs.World.{State}
 use Rattle.clos_world.specs.declared.condition.Condition.{Condition}
@@ -63,7 +64,7 @@ accessor_method c g a = record {
   qualifiers = [];
   specializers = accessor_specializers c a.accessor;
   shape = accessor_shape a.accessor;
-  initial = false;
+  origin = ByAccessor (record { 0 = c });
   body = accessor_body a.slot a.accessor;
 }
 

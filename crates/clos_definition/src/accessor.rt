@@ -10,7 +10,7 @@ use crate::refusal::{not_congruent, refuse_taken};
 use clos_forms::FunctionName;
 use clos_generic::{Changes, Definition, Generics, Options, copy_name, is_same};
 use clos_hierarchy::numbers;
-use clos_method::{Method, MethodBody, Qualifiers, Shape, Specializer, Specializers};
+use clos_method::{Method, MethodBody, Origin, Qualifiers, Shape, Specializer, Specializers};
 use clos_syntax::{Accessor, SlotSpecifier};
 use clos_world::{Stop, World};
 use lisp_data::{ClassId, GenericId, Name};
@@ -130,7 +130,7 @@ fn accessor_method(
         qualifiers: Qualifiers::new(alloc),
         specializers: accessor_specializers(alloc, class, &accessor.accessor)?,
         shape: accessor_shape(&accessor.accessor),
-        initial: false,
+        origin: Origin::Accessor(class),
         body: accessor_body(&accessor.slot, &accessor.accessor)?,
     })
 }

@@ -19,7 +19,7 @@ use clos_generic::{
     Addition, Changes, Definition, Generics, Options, Positions, Removal, copy_name,
     standard_combination,
 };
-use clos_method::Shape;
+use clos_method::{Origin, Shape};
 use clos_store::Slot;
 use clos_syntax::{CombinationUse, GenericDefinition, MethodDefinition, Sequence};
 use clos_world::{ConditionKind, Stop, UseFault, World, about_name, plain};
@@ -190,7 +190,7 @@ fn is_initial(generics: &Generics, id: MethodId) -> bool
 {
     match generics.method(id) {
         None => false,
-        Some(method) => method.initial,
+        Some(method) => method.origin.is_method_option(),
     }
 }
 
@@ -300,7 +300,7 @@ fn with_methods(
         let count = method.specializers.len();
         effect.add(
             alloc,
-            method_with(alloc, classes, id, true, method, values)?,
+            method_with(alloc, classes, id, Origin::MethodOption, method, values)?,
         )?;
         values = past(values, count);
     }

@@ -8,6 +8,7 @@ use Rattle.clos_forms.specs.declared.operator.FunctionName.TheVariants.{Symbol, 
 use Rattle.clos_method.specs.System.{system_shape}
 use Rattle.clos_method.specs.declared.method.Method.{Method}
 use Rattle.clos_method.specs.declared.method.MethodBody.TheVariants.{Reader}
+use Rattle.clos_method.specs.declared.origin.Origin.TheVariants.{Defmethod}
 use Rattle.clos_method.specs.declared.shape.Shape.{Shape}
 use Rattle.clos_method.specs.declared.system.SystemFunction.TheVariants.{SlotMissing}
 use Rattle.clos_generic.specs.Changes.{Changes, changes_refusal}
@@ -33,7 +34,7 @@ abbrev taking : Shape → Options
 taking shape = record { shape = shape; precedence = []; combination = standard }
 
 abbrev on : Specializer → ℕ → Method
-on s n = record { generic = record { 0 = 9 }; qualifiers = []; specializers = s ∷ []; shape = of_required n; initial = false; body = Reader (name (codes "A")) }
+on s n = record { generic = record { 0 = 9 }; qualifiers = []; specializers = s ∷ []; shape = of_required n; origin = Defmethod; body = Reader (name (codes "A")) }
 
 slot_missing_is_there : named (initial 4 4) slot_missing ≡ Some 6
 slot_missing_is_there = refl

@@ -7,7 +7,8 @@ use clos_forms::{FunctionName, Operator};
 use clos_generic::{GenericFault, Generics, Options, Positions};
 use clos_hierarchy::numbers;
 use clos_method::{
-    Arguments, Method, MethodBody, Qualifiers, Shape, Specializer, Specializers, SystemFunction,
+    Arguments, Method, MethodBody, Origin, Qualifiers, Shape, Specializer, Specializers,
+    SystemFunction,
 };
 use clos_syntax::CombinationUse;
 use lisp_data::{ClassId, Data, GenericId, MethodId, Name, Value};
@@ -46,7 +47,7 @@ fn method(alloc: Global, generic: GenericId, specializer: Specializer) -> Result
         qualifiers: Qualifiers::new(alloc),
         specializers,
         shape: shape(),
-        initial: false,
+        origin: Origin::Defmethod,
         body: MethodBody::Reader(Name::fixed(&"X")),
     })
 }
