@@ -23,9 +23,9 @@ use Rattle.clos_world.specs.clos_comb.Fault.{Misuse, undefined, arguments, misus
 use Rattle.clos_world.specs.World.{State}
 use Rattle.clos_world.specs.declared.condition.Condition.{Condition}
 use Rattle.clos_world.specs.declared.condition.ConditionKind.TheVariants.{UndefinedCombination}
-use Rattle.clos_definition.specs.Effect.{changed, changes_of}
+use Rattle.clos_definition.specs.Effect.{changed, changes_of, removal}
 use Rattle.clos_definition.specs.Method.{eql_form, method_with, open_addition, specializers_refusal}
-use Rattle.clos_definition.specs.Refusal.{or_else, program_error, table_refusal, taken_refusal, when}
+use Rattle.clos_definition.specs.Refusal.{or_else, program_error, table_refusal, taken_refusal}
 
 -- ---- its options: one that is not written is as if the function were new
 
@@ -64,9 +64,6 @@ abbrev pub is_initial : Option Method → Bool
 is_initial None = false
 is_initial (Some m) = is_method_option m.origin
 
-abbrev pub removal : ℕ → ℕ → Removal
-removal g m = record { generic = record { 0 = g }; method = record { 0 = m } }
-
 -- those of these methods of a function
 abbrev pub initial_among : ℕ → List Method → List ℕ → List Removal
 initial_among g methods ms = map (removal g) (filter (λ m. is_initial (slice_get methods m)) ms)
@@ -74,10 +71,6 @@ initial_among g methods ms = map (removal g) (filter (λ m. is_initial (slice_ge
 abbrev pub earlier_methods : Table → Option ℕ → List Removal
 earlier_methods t None = []
 earlier_methods t (Some g) = initial_among g t.methods (methods_of t g)
-
--- with these removals after its own
-abbrev pub removing : Changes → List Removal → Changes
-removing changes more = record changes { removals = changes.removals ++ more }
 
 -- ---- its own methods
 

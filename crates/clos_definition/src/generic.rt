@@ -5,8 +5,8 @@ ghost use Rattle.clos_generic.specs.Initial.{standard};
 ghost use Rattle.clos_generic.specs.Table.{named};
 ghost use Rattle.clos_method.specs.MethodIds.{method_numbers};
 ghost use Rattle.clos_world.specs.World.{seen};
-ghost use Rattle.clos_definition.specs.Effect.{IsReserved, adding, addition_of, with_effect};
-ghost use Rattle.clos_definition.specs.Generic.{combination_refusal, definition_of, earlier_methods, eql_forms, generic_refusal, initial_among, is_initial, methods_refusal, methods_with, names_refusal, options_of, place_in, precedence_of, removing, with_defined_generic};
+ghost use Rattle.clos_definition.specs.Effect.{IsReserved, adding, addition_of, removing, with_effect};
+ghost use Rattle.clos_definition.specs.Generic.{combination_refusal, definition_of, earlier_methods, eql_forms, generic_refusal, initial_among, is_initial, methods_refusal, methods_with, names_refusal, options_of, place_in, precedence_of, with_defined_generic};
 ghost use Rattle.clos_definition.specs.Method.{open_addition};
 ghost use Rattle.clos_definition.specs.Refusal.{Allows};
 
