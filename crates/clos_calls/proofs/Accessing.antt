@@ -1,5 +1,5 @@
 -- What a method's body does, whatever it knows of its call.
-use Rattle.std.proofs.Common.{◌≡◌, ℕ, List, [], ◌∷◌, Option, Some, None, Result, Ok, Err, refl, ap, sym, true, ◌∙◌}
+use Rattle.std.proofs.Common.{◌≡◌, ℕ, zero, suc, List, [], ◌∷◌, Option, Some, None, Result, Ok, Err, refl, ap, sym, true, ◌∙◌}
 use Rattle.std.specs.Prelude.{if◌then◌else◌}
 use Rattle.lisp_data.specs.Name.{Name}
 use Rattle.lisp_data.specs.Value.{Val}
@@ -7,8 +7,12 @@ use Rattle.clos_forms.specs.Form.{Forms}
 use Rattle.clos_method.specs.declared.method.MethodBody.{MethodBody}
 use Rattle.clos_method.specs.declared.method.MethodBody.TheVariants.{Forms as Body, Reader, System, Writer}
 use Rattle.clos_method.specs.declared.system.SystemFunction.{SystemFunction}
+use Rattle.clos_method.specs.declared.system.SystemFunction.TheVariants.{UpdateInstanceForRedefinedClass}
 use Rattle.clos_lambda.specs.declared.lambda_list.LambdaList.{LambdaList}
+use Rattle.clos_forms.specs.clos_names.declared.callee.SlotFunction.TheVariants.{SlotValue}
+use Rattle.clos_machine.specs.clos_world.clos_class.Slots.{Layout}
 use Rattle.clos_machine.specs.clos_world.clos_store.Store.{slot_found}
+use Rattle.clos_machine.specs.clos_world.clos_store.Update.{with_update}
 use Rattle.clos_machine.specs.clos_world.World.{State}
 use Rattle.clos_machine.specs.clos_world.declared.condition.Condition.{Condition}
 use Rattle.clos_machine.specs.clos_meaning.Accessors.{read_by, read_of, written_by, written_of}
@@ -18,9 +22,11 @@ use Rattle.clos_machine.specs.clos_meaning.Bodies.{body_run}
 use Rattle.clos_machine.specs.clos_meaning.Calls.{keys_are_even, method_body_run}
 use Rattle.clos_machine.specs.Machine.{Leads, at, inside, performed, resume}
 use Rattle.clos_machine.specs.clos_meaning.Meaning.{closed, meaning}
-use Rattle.clos_machine.specs.clos_meaning.Outcome.{Eval, Run, stopped}
+use Rattle.clos_machine.specs.clos_meaning.GenericCalls.{invoked}
+use Rattle.clos_machine.specs.clos_meaning.Outcome.{Out, Gave, Stopped, Noted, Eval, Run, stopped, then_do}
 use Rattle.clos_machine.specs.clos_meaning.Parameters.{sources}
-use Rattle.clos_machine.specs.clos_meaning.Slots.{instance_in, slot_changed, slot_read}
+use Rattle.clos_machine.specs.clos_meaning.Slots.{instance_in, slot_answer, slot_changed, slot_put, slot_read}
+use Rattle.clos_machine.specs.clos_meaning.Updating.{due, restructured, told, updated, updated_if, updated_with}
 use Rattle.clos_machine.specs.clos_meaning.declared.arguments.Context.{Context}
 use Rattle.clos_machine.specs.declared.machine.BuiltIn.{BuiltIn}
 use Rattle.clos_machine.specs.declared.machine.BuiltIn.TheVariants as built_in
@@ -30,34 +36,64 @@ use Rattle.clos_machine.specs.declared.machine.Machine.{Machine}
 use Rattle.clos_machine.proofs.Turns.{leads_same}
 use Rattle.clos_calls.specs.Methods.{forms_run}
 
-module _ (ev : Eval) (env ctx : Context) (slot : Name) (w : State) (s : ℕ) where
-  found_any : (i : ℕ) (o : Option (Option Val)) → slot_read ev env i slot o w s ≡ slot_read ev ctx i slot o w s
-  found_any i None = refl
-  found_any i (Some None) = refl
-  found_any i (Some (Some v)) = refl
+-- ---- what is done with an instance that is updated first
 
-  of_any : (x : Result ℕ Condition) → read_of ev env slot x w s ≡ read_of ev ctx slot x w s
-  of_any (Err c) = refl
-  of_any (Ok i) = found_any i (slot_found w.store i slot)
+module _ (go on : Val → Run) (h : (v : Val) (w : State) (s : ℕ) → go v w s ≡ on v w s) where
+  then_same : (o : Out) → then_do o go ≡ then_do o on
+  then_same (Gave v w s) = h v w s
+  then_same (Stopped c w s) = refl
+  then_same (Noted n o) = ap (Noted n) (then_same o)
 
-  pub read_any : (vs : List Val) → read_by ev env slot vs w s ≡ read_by ev ctx slot vs w s
-  read_any [] = refl
-  read_any (v ∷ []) = of_any (instance_in v)
-  read_any (v ∷ (x ∷ vs)) = refl
+module _ (ev : Eval) (i : ℕ) (go on : Run) (h : (w : State) (s : ℕ) → go w s ≡ on w s) (w : State) where
+  restructured_same : (l : Layout) (vs : List Val) (s : ℕ) → restructured ev i l vs go w s ≡ restructured ev i l vs on w s
+  restructured_same l vs zero = refl
+  restructured_same l vs (suc k) =
+      then_same (λ v x t. go x t) (λ v x t. on x t) (λ v x t. h x t) (invoked ev UpdateInstanceForRedefinedClass vs (record w { store = with_update i l w.store }) k)
 
-  changed_any : (i : ℕ) (new : Val) (o : Option (Option Val)) → slot_changed ev env i slot (Some new) new o w s ≡ slot_changed ev ctx i slot (Some new) new o w s
-  changed_any i new None = refl
-  changed_any i new (Some old) = refl
+  told_same : (l : Layout) (s : ℕ) (x : Result (List Val) Condition) → updated_with ev i l go x w s ≡ updated_with ev i l on x w s
+  told_same l s (Err c) = refl
+  told_same l s (Ok vs) = restructured_same l vs s
 
-  to_any : (new : Val) (x : Result ℕ Condition) → written_of ev env slot new x w s ≡ written_of ev ctx slot new x w s
-  to_any new (Err c) = refl
-  to_any new (Ok i) = changed_any i new (slot_found w.store i slot)
+  due_same : (s : ℕ) (o : Option Layout) → updated_if ev i go o w s ≡ updated_if ev i on o w s
+  due_same s None = h w s
+  due_same s (Some l) = told_same l s (told w i l)
 
-  pub written_any : (vs : List Val) → written_by ev env slot vs w s ≡ written_by ev ctx slot vs w s
-  written_any [] = refl
-  written_any (new ∷ []) = refl
-  written_any (new ∷ (v ∷ [])) = to_any new (instance_in v)
-  written_any (new ∷ (v ∷ (x ∷ vs))) = refl
+  updated_same : (s : ℕ) → updated ev i go w s ≡ updated ev i on w s
+  updated_same s = due_same s (due w i)
+
+-- ---- readers and writers
+
+module _ (ev : Eval) (env ctx : Context) (slot : Name) where
+  found_any : (i : ℕ) (o : Option (Option Val)) (w : State) (s : ℕ) → slot_read ev env i slot o w s ≡ slot_read ev ctx i slot o w s
+  found_any i None w s = refl
+  found_any i (Some None) w s = refl
+  found_any i (Some (Some v)) w s = refl
+
+  changed_any : (i : ℕ) (new : Val) (o : Option (Option Val)) (w : State) (s : ℕ) → slot_changed ev env i slot (Some new) new o w s ≡ slot_changed ev ctx i slot (Some new) new o w s
+  changed_any i new None w s = refl
+  changed_any i new (Some old) w s = refl
+
+  module _ (w : State) (s : ℕ) where
+    of_any : (x : Result ℕ Condition) → read_of ev env slot x w s ≡ read_of ev ctx slot x w s
+    of_any (Err c) = refl
+    of_any (Ok i) =
+        updated_same ev i (slot_answer ev env SlotValue i slot) (slot_answer ev ctx SlotValue i slot) (λ u t. found_any i (slot_found u.store i slot) u t) w s
+
+    pub read_any : (vs : List Val) → read_by ev env slot vs w s ≡ read_by ev ctx slot vs w s
+    read_any [] = refl
+    read_any (v ∷ []) = of_any (instance_in v)
+    read_any (v ∷ (x ∷ vs)) = refl
+
+    to_any : (new : Val) (x : Result ℕ Condition) → written_of ev env slot new x w s ≡ written_of ev ctx slot new x w s
+    to_any new (Err c) = refl
+    to_any new (Ok i) =
+        updated_same ev i (slot_put ev env i slot (Some new) new) (slot_put ev ctx i slot (Some new) new) (λ u t. changed_any i new (slot_found u.store i slot) u t) w s
+
+    pub written_any : (vs : List Val) → written_by ev env slot vs w s ≡ written_by ev ctx slot vs w s
+    written_any [] = refl
+    written_any (new ∷ []) = refl
+    written_any (new ∷ (v ∷ [])) = to_any new (instance_in v)
+    written_any (new ∷ (v ∷ (x ∷ vs))) = refl
 
 -- ---- bodies of methods
 
