@@ -16,7 +16,9 @@ use clos_objects::filling::{fill, fill_with};
 use clos_objects::system_methods::{fill_instance, reinitialize_instance, run_system_method};
 use clos_objects_core::class_functions::call_class_function;
 use clos_objects_core::find_method::call_find_method;
-use clos_objects_core::slots::{call_reader, call_slot_function, call_writer, set_slot_value, visit_slot};
+use clos_objects_core::slots::{
+    call_reader, call_slot_function, call_writer, set_slot_value, visit_slot,
+};
 use clos_places::assignment::with_amount;
 use clos_places::places::{change_name, change_place, new_value, set_name};
 use lisp_data::InstanceId;

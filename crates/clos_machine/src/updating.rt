@@ -13,7 +13,9 @@ ghost use Rattle.clos_machine.specs.Updating.{IsThere, TellsArguments, TellsValu
 use crate::fault::of_function;
 use crate::machine::{Doing, Frame, Level, Machine, Visit};
 use clos_forms::value_named;
-use clos_meaning::{ConditionKind, Discarded, Layout, Lost, Stop, SystemFunction, Values, World, plain};
+use clos_meaning::{
+    ConditionKind, Discarded, Layout, Lost, Stop, SystemFunction, Values, World, plain,
+};
 use lisp_data::{InstanceId, Name, Value};
 use lisp_prims::Primitive;
 use lisp_prims::lists::ListFunction;
@@ -185,8 +187,5 @@ fn restructure(
         return Err(Stop::Storage);
     };
     *steps -= 1;
-    Ok(Doing::Invoke(
-        SystemFunction::UpdateInstanceForRedefinedClass,
-        arguments,
-    ))
+    Ok(Doing::Invoke(SystemFunction::UpdateInstanceForRedefinedClass, arguments))
 }

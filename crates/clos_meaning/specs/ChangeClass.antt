@@ -46,11 +46,11 @@ changed_if ev i initargs (Ok c) w s = updated ev i (changed_to ev i c initargs) 
 
 -- the instance is looked at before the class
 abbrev pub changed_of : Eval → Val → List Val → Result ℕ Condition → Run
-changed_of ev class initargs (Err e) w s = Stopped e w s
-changed_of ev class initargs (Ok i) w s = changed_if ev i initargs (designated w.classes class) w s
+changed_of ev designator initargs (Err e) w s = Stopped e w s
+changed_of ev designator initargs (Ok i) w s = changed_if ev i initargs (designated w.classes designator) w s
 
 -- of an instance and a class; what follows are initargs
 abbrev pub change_called : Eval → List Val → Run
 change_called ev [] w s = stopped ProgramError [] w s
 change_called ev (v ∷ []) w s = stopped ProgramError [] w s
-change_called ev (v ∷ (class ∷ initargs)) w s = changed_of ev class initargs (instance_in v) w s
+change_called ev (v ∷ (designator ∷ initargs)) w s = changed_of ev designator initargs (instance_in v) w s
