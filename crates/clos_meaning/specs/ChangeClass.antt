@@ -40,6 +40,7 @@ abbrev pub changed_to : Eval → ℕ → ℕ → List Val → Run
 changed_to ev i c initargs w s =
     if has_room w.store then changed_by_layout ev i c initargs (if_there (class_of_instance w i) (layout w.classes c)) w s else stopped TableLimit [] w s
 
+-- The class is found, or the condition ends it; the instance is updated before it changes.
 abbrev pub changed_if : Eval → ℕ → List Val → Result ℕ Condition → Run
 changed_if ev i initargs (Err e) w s = Stopped e w s
 changed_if ev i initargs (Ok c) w s = updated ev i (changed_to ev i c initargs) w s

@@ -90,6 +90,7 @@ abbrev pub lacking : State → Option ℕ → Option Layout → List Name
 lacking w before None = []
 lacking w before (Some l) = filter (λ name. not (has_slot w.classes before name)) l.locals
 
+-- those of the class of an instance that the class of its copy has no slots of, by both classes as they are now
 abbrev pub new_slots : State → ℕ → ℕ → List Name
 new_slots w copy i = lacking w (class_of_instance w copy) (layout_if w (class_of_instance w i))
 
@@ -98,10 +99,12 @@ abbrev pub different_with : Eval → List Val → List Val → ℕ → Answer �
 different_with ev vs initargs i (Err c) w s = Stopped c w s
 different_with ev vs initargs i (Ok names) w s = checked_shared ev UpdateInstanceForDifferentClass vs names initargs i w s
 
+-- the same with the copy: the second argument is the instance, whose new slots are named
 abbrev pub different_from : Eval → List Val → List Val → ℕ → Result ℕ Condition → Run
 different_from ev vs initargs copy (Err c) w s = Stopped c w s
 different_from ev vs initargs copy (Ok i) w s = different_with ev vs initargs i (names_listed (new_slots w copy i)) w s
 
+-- the same with the first argument, which is the copy; it is looked at before the second
 abbrev pub different : Eval → Val → Val → List Val → Result ℕ Condition → Run
 different ev previous current initargs (Err c) w s = Stopped c w s
 different ev previous current initargs (Ok copy) w s = different_from ev (previous ∷ current ∷ initargs) initargs copy (instance_in current) w s

@@ -20,10 +20,12 @@ use Rattle.clos_meaning.specs.Outcome.{Stopped, Run, Eval, then_do, step_then}
 
 -- ---- whether it is to be updated
 
+-- the layout of this class, if there is one
 abbrev pub layout_if : State → Option ℕ → Option Layout
 layout_if w None = None
 layout_if w (Some c) = layout w.classes c
 
+-- this layout, where the instance keeps another
 abbrev pub if_stale : State → ℕ → Option Layout → Option Layout
 if_stale w i None = None
 if_stale w i (Some l) = if is_stale w.store i l then Some l else None
@@ -38,6 +40,7 @@ due w i = if_stale w i (layout_if w (class_of_instance w i))
 abbrev pub listed : List Val → Answer
 listed vs = in_words_of_conditions (answer (Listed lists.List) vs)
 
+-- the list of these names, as symbols
 abbrev pub names_listed : List Name → Answer
 names_listed names = listed (map name_value names)
 
@@ -58,10 +61,12 @@ abbrev pub told_of : ℕ → List Name → Object → Result (List Val) Conditio
 told_of i names o =
     arguments_of i (names_listed (added o names)) (names_listed (slot_names (lost names o.slots))) (listed (properties (bound (lost names o.slots))))
 
+-- the same of an instance that may not be there: then nothing is told
 abbrev pub told_if : ℕ → List Name → Option Object → Result (List Val) Condition
 told_if i names None = Ok []
 told_if i names (Some o) = told_of i names o
 
+-- where this instance is given this layout
 abbrev pub told : State → ℕ → Layout → Result (List Val) Condition
 told w i l = told_if i l.locals (store.instance w.store i)
 
@@ -72,10 +77,12 @@ abbrev pub restructured : Eval → ℕ → Layout → List Val → Run → Run
 restructured ev i l vs go w s =
     step_then (λ u k. then_do (invoked ev UpdateInstanceForRedefinedClass vs (record u { store = with_update i l u.store }) k) (λ v x t. go x t)) w s
 
+-- the update with these arguments of the function, or the condition where they can't be made
 abbrev pub updated_with : Eval → ℕ → Layout → Run → Result (List Val) Condition → Run
 updated_with ev i l go (Err c) w s = Stopped c w s
 updated_with ev i l go (Ok vs) w s = restructured ev i l vs go w s
 
+-- the update to this layout, or none, and then what is done with the instance
 abbrev pub updated_if : Eval → ℕ → Run → Option Layout → Run
 updated_if ev i go None w s = go w s
 updated_if ev i go (Some l) w s = updated_with ev i l go (told w i l) w s
