@@ -45,6 +45,10 @@ module _ (o : Option Condition) (go : Run) (w u : State) where
 storage_at : (run : Run) (w : State) (s : ℕ) → leaves (run w 0) w 0 → Answers run w s (Err Storage) w s
 storage_at run w s l = (0, omega arith, l)
 
+-- an effect for which there is no memory
+pub effect_not_made : (v : Val) (t w u : State) (s : ℕ) → u ≡ w → Answers (takes_effect v t) w s (Err Storage) u s
+effect_not_made v t w u s e = subst (λ x. Answers (takes_effect v t) w s (Err Storage) x s) (sym e) (storage_at (takes_effect v t) w s (refl, refl))
+
 -- with an effect that is the same
 takes_same : (v v' : Val) (x x' w u y : State) (s j : ℕ) (r : Result Value Stop) → u ≡ w → v ≡ v' → x ≡ x' → Answers (takes_effect v x) u s r y j → Answers (takes_effect v' x') w s r y j
 takes_same v v' x x' w u y s j r e h g a =
@@ -131,7 +135,6 @@ module _ (d : GenericDefinition) (w u : State) (s : ℕ) where
 -- ---- defclass
 
 -- A class that is not defined is a new one.
-
 
 module _ (d : ClassDefinition) (w u : State) (s : ℕ) where
   pub class_refused : (stop : Stop) → w.locals ≡ [] → u ≡ w → StopsFor (class_refusal d (length (cells_needed d w)) w) stop → Answers (define_class d) w s (Err stop) u s
