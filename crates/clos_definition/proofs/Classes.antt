@@ -1,5 +1,5 @@
 -- A class that is made, with its cells.
-use Rattle.std.proofs.Common.{◌≡◌, ℕ, ◌-◌, List, Option, Some, None, length, refl, ap, sym, ◌∙◌, subst}
+use Rattle.std.proofs.Common.{◌≡◌, ℕ, List, Option, Some, None, length, refl, ap, sym, ◌∙◌, subst}
 use Rattle.std.specs.Prelude.{not, option_map}
 use Rattle.lisp_data.specs.Value.{Val}
 use Rattle.lisp_data.specs.declared.ids.CellId.{CellId}
@@ -14,13 +14,21 @@ use Rattle.clos_definition.specs.Refusal.{StopsFor, or_else, table_full, table_r
 use Rattle.clos_store.specs.Store.{Contents, cells_from, has_room_for, with_cells}
 use Rattle.clos_syntax.specs.declared.class.ClassDefinition.{ClassDefinition}
 use Rattle.clos_world.specs.World.{State}
-use Rattle.clos_definition.specs.Class.{class_changes, class_functions, class_number, class_refusal, condition_for, others_refusal, with_class}
+use Rattle.clos_definition.specs.Class.{class_changes, class_functions, class_methods, class_number, class_refusal, class_removals, condition_for, others_refusal, with_accessors, with_class}
+use Rattle.clos_definition.specs.Effect.{changed, with_effect}
+use Rattle.clos_definition.specs.declared.effect.Effect.{Effect}
 
 pub made : (d : ClassDefinition) (vs : List (Option Val)) (w : State) (ids : List CellId) (t : Table) (st : Contents) → t ≡ with_definition w.classes d ids
     → ids ≡ cells_from (length w.store.cells) (length vs) → st ≡ with_cells vs w.store → record w { classes = t; store = st } ≡ with_class d vs w
 made d vs w ids t st e h g =
     ap (λ x. record w { classes = x; store = st }) (e ∙ ap (λ x. with_definition w.classes d x) h)
     ∙ ap (λ x. record w { classes = with_definition w.classes d (cells_from (length w.store.cells) (length vs)); store = x }) g
+
+-- An effect that was found in a state that is the same is that of the accessors.
+pub effect_made : (d : ClassDefinition) (w u : State) (e : Effect) → u ≡ w → e.changes ≡ class_changes d u → e.methods.items ≡ class_methods d u → with_effect e w ≡ with_accessors d w
+effect_made d w u e q h g =
+    ap (λ c. record w { generics = changed c.removals c.definitions e.methods.items w.generics }) (subst (λ x. e.changes ≡ class_changes d x) q h)
+    ∙ ap (λ m. record w { generics = changed (class_removals d w) (class_functions d w) m w.generics }) (subst (λ x. e.methods.items ≡ class_methods d x) q g)
 
 -- ---- the first check that fails decides
 

@@ -1,5 +1,6 @@
 -- The accessors of the slots of a class: methods that read and write them (HyperSpec 7.5.2).
-use Rattle.std.specs.Prelude.{ℕ, ◌+◌, codes, Bool, false, not, ◌||◌, is_some, List, [], ◌∷◌, ◌++◌, Option, None, length, map, position, unwrap_or, if◌then◌else◌}
+use Rattle.std.specs.Prelude.{ℕ, ◌+◌, codes, Bool, false, not, ◌||◌, is_some, List, [], ◌∷◌, ◌++◌, Option, None, Some, length, map, position, slice_get, unwrap_or, if◌then◌else◌}
+use Rattle.std.specs.List.{flat_map}
 use Rattle.lisp_data.specs.Name.{Name}
 use Rattle.lisp_data.specs.Print.{Specializer, on_class}
 use Rattle.clos_hierarchy.specs.Initial.{number as predefined_number}
@@ -8,17 +9,20 @@ use Rattle.clos_forms.specs.declared.operator.FunctionName.TheVariants.{Symbol}
 use Rattle.clos_syntax.specs.declared.slot.Accessor.{Accessor}
 use Rattle.clos_syntax.specs.declared.slot.Accessor.TheVariants.{Reader, Writer}
 use Rattle.clos_syntax.specs.declared.slot.SlotSpecifier.{SlotSpecifier}
+use Rattle.clos_generic.specs.Accessors.{accessors_there}
 use Rattle.clos_generic.specs.Changes.{addition_fits}
 use Rattle.clos_generic.specs.Initial.{standard_options}
 use Rattle.clos_generic.specs.Table.{Table, named, same_function}
 use Rattle.clos_generic.specs.declared.changes.Definition.{Definition}
+use Rattle.clos_generic.specs.declared.changes.Removal.{Removal}
 use Rattle.clos_method.specs.declared.method.Method.{Method}
 use Rattle.clos_method.specs.declared.method.MethodBody.{MethodBody}
 use Rattle.clos_method.specs.declared.method.MethodBody.TheVariants as body
+use Rattle.clos_method.specs.declared.origin.Origin.TheVariants.{Accessor as ByAccessor}
 use Rattle.clos_method.specs.declared.shape.Shape.{Shape}
 use Rattle.clos_world.specs.World.{State}
 use Rattle.clos_world.specs.declared.condition.Condition.{Condition}
-use Rattle.clos_definition.specs.Effect.{addition_of}
+use Rattle.clos_definition.specs.Effect.{addition_of, removal}
 use Rattle.clos_definition.specs.Refusal.{not_congruent, or_else, taken_refusal, when}
 use Rattle.clos_definition.specs.declared.accessor.SlotAccessor.{SlotAccessor}
 
@@ -63,9 +67,23 @@ accessor_method c g a = record {
   qualifiers = [];
   specializers = accessor_specializers c a.accessor;
   shape = accessor_shape a.accessor;
-  initial = false;
+  origin = ByAccessor (record { 0 = c });
   body = accessor_body a.slot a.accessor;
 }
+
+-- ---- those of an earlier definition of the class, which go if they are still there (4.3.6)
+
+-- the removal of the method of this number from its function
+abbrev pub removal_in : ℕ → Option Method → List Removal
+removal_in n None = []
+removal_in n (Some m) = removal m.generic.0 n ∷ []
+
+-- those of the methods of these numbers
+abbrev pub removals_of : List Method → List ℕ → List Removal
+removals_of methods ns = flat_map (λ n. removal_in n (slice_get methods n)) ns
+
+abbrev pub earlier_accessors : ℕ → Table → List Removal
+earlier_accessors c t = removals_of t.methods (accessors_there t c)
 
 -- ---- their functions, which are made where there are none
 

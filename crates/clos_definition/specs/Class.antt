@@ -12,11 +12,12 @@ use Rattle.clos_store.specs.Store.{cells_from, has_room_for, with_cells}
 use Rattle.clos_syntax.specs.declared.class.ClassDefinition.{ClassDefinition}
 use Rattle.clos_generic.specs.Changes.{Changes}
 use Rattle.clos_generic.specs.declared.changes.Definition.{Definition}
+use Rattle.clos_generic.specs.declared.changes.Removal.{Removal}
 use Rattle.clos_method.specs.declared.method.Method.{Method}
 use Rattle.clos_world.specs.World.{State}
 use Rattle.clos_world.specs.declared.condition.Condition.{Condition}
 use Rattle.clos_world.specs.declared.condition.ConditionKind.TheVariants.{ProgramError, InvalidSuperclass, InconsistentPrecedence, SuperclassCycle, IncompleteClass, TableLimit}
-use Rattle.clos_definition.specs.Accessor.{accessor_methods, accessors_of, accessors_refusal, functions_for}
+use Rattle.clos_definition.specs.Accessor.{accessor_methods, accessors_of, accessors_refusal, earlier_accessors, functions_for}
 use Rattle.clos_definition.specs.Effect.{changed, changes_of}
 use Rattle.clos_definition.specs.Refusal.{or_else, table_full, table_refusal, when}
 
@@ -44,6 +45,10 @@ initforms cells = map (λ c. c.initform) cells
 
 -- ---- its accessors
 
+-- those of an earlier definition of the class go
+abbrev pub class_removals : ClassDefinition → State → List Removal
+class_removals d w = earlier_accessors (class_number d w) w.generics
+
 abbrev pub class_functions : ClassDefinition → State → List Definition
 class_functions d w = functions_for w.generics (accessors_of d.slots)
 
@@ -51,7 +56,7 @@ abbrev pub class_methods : ClassDefinition → State → List Method
 class_methods d w = accessor_methods (class_number d w) w.generics (class_functions d w) (accessors_of d.slots)
 
 abbrev pub class_changes : ClassDefinition → State → Changes
-class_changes d w = changes_of [] (class_functions d w) (class_methods d w)
+class_changes d w = changes_of (class_removals d w) (class_functions d w) (class_methods d w)
 
 -- ---- defclass
 
@@ -73,9 +78,9 @@ with_class d values w = record w {
   store = with_cells values w.store;
 }
 
--- with its accessors
+-- with its accessors, and without those of an earlier definition
 abbrev pub with_accessors : ClassDefinition → State → State
-with_accessors d w = record w { generics = changed [] (class_functions d w) (class_methods d w) w.generics }
+with_accessors d w = record w { generics = changed (class_removals d w) (class_functions d w) (class_methods d w) w.generics }
 
 -- the state after it is defined
 abbrev pub with_defined_class : ClassDefinition → List (Option Val) → State → State

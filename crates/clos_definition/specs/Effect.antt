@@ -1,6 +1,6 @@
 -- What a definition form does to the table of generic functions (HyperSpec 7.6.3, 7.7): methods go, functions are defined, and methods
 -- come, in this order.
-use Rattle.std.specs.Prelude.{◌≡◌, List, [], ◌∷◌, ◌++◌, Some, map}
+use Rattle.std.specs.Prelude.{◌≡◌, ℕ, List, [], ◌∷◌, ◌++◌, Some, map}
 use Rattle.clos_generic.specs.Changes.{Changes}
 use Rattle.clos_generic.specs.Held.{Held}
 use Rattle.clos_generic.specs.Table.{Table, with_definition, with_method, without_method}
@@ -27,6 +27,10 @@ with_methods (m ∷ ms) t = with_methods ms (with_method m.generic.0 m t)
 abbrev pub changed : List Removal → List Definition → List Method → Table → Table
 changed removals definitions methods t = with_methods methods (with_definitions definitions (without_all removals t))
 
+-- the removal of this method from this function
+abbrev pub removal : ℕ → ℕ → Removal
+removal g m = record { generic = record { 0 = g }; method = record { 0 = m } }
+
 -- the addition of a method
 abbrev pub addition_of : Method → Addition
 addition_of m = record { generic = m.generic; shape = m.shape; likeness = Some (record { qualifiers = m.qualifiers; specializers = m.specializers }) }
@@ -34,6 +38,10 @@ addition_of m = record { generic = m.generic; shape = m.shape; likeness = Some (
 -- the changes that the table of generic functions is asked for
 abbrev pub changes_of : List Removal → List Definition → List Method → Changes
 changes_of removals definitions methods = record { removals = removals; definitions = definitions; additions = map addition_of methods }
+
+-- with these removals after its own
+abbrev pub removing : Changes → List Removal → Changes
+removing changes more = record changes { removals = changes.removals ++ more }
 
 -- with these additions after its own
 abbrev pub adding : Changes → List Addition → Changes

@@ -1,5 +1,5 @@
 -- Generic functions that are defined (HyperSpec 7.7 defgeneric).
-use Rattle.std.specs.Prelude.{ℕ, Bool, true, false, not, List, [], ◌∷◌, ◌++◌, Option, Some, None, drop, length, map, option_map, position, slice_get, unwrap_or}
+use Rattle.std.specs.Prelude.{ℕ, Bool, false, List, [], ◌∷◌, ◌++◌, Option, Some, None, drop, length, map, option_map, position, slice_get, unwrap_or}
 use Rattle.std.specs.List.{filter}
 use Rattle.lisp_data.specs.Name.{Name, same_name}
 use Rattle.lisp_data.specs.Value.{Val}
@@ -14,16 +14,18 @@ use Rattle.clos_generic.specs.Table.{Table, methods_of, named, number}
 use Rattle.clos_generic.specs.declared.changes.Definition.{Definition}
 use Rattle.clos_generic.specs.declared.changes.Removal.{Removal}
 use Rattle.clos_generic.specs.declared.options.Options.{Options}
+use Rattle.clos_method.specs.Origin.{is_method_option}
 use Rattle.clos_method.specs.Shape.{shape_of}
 use Rattle.clos_method.specs.declared.method.Method.{Method}
+use Rattle.clos_method.specs.declared.origin.Origin.TheVariants.{MethodOption}
 use Rattle.clos_forms.specs.Quotation.{name_value}
 use Rattle.clos_world.specs.clos_comb.Fault.{Misuse, undefined, arguments, misuse}
 use Rattle.clos_world.specs.World.{State}
 use Rattle.clos_world.specs.declared.condition.Condition.{Condition}
 use Rattle.clos_world.specs.declared.condition.ConditionKind.TheVariants.{UndefinedCombination}
-use Rattle.clos_definition.specs.Effect.{changed, changes_of}
+use Rattle.clos_definition.specs.Effect.{changed, changes_of, removal}
 use Rattle.clos_definition.specs.Method.{eql_form, method_with, open_addition, specializers_refusal}
-use Rattle.clos_definition.specs.Refusal.{or_else, program_error, table_refusal, taken_refusal, when}
+use Rattle.clos_definition.specs.Refusal.{or_else, program_error, table_refusal, taken_refusal}
 
 -- ---- its options: one that is not written is as if the function were new
 
@@ -60,10 +62,7 @@ combination_refusal (Some c) w = option_map (misuse_told c.name) (misuse w.combi
 
 abbrev pub is_initial : Option Method → Bool
 is_initial None = false
-is_initial (Some m) = m.initial
-
-abbrev pub removal : ℕ → ℕ → Removal
-removal g m = record { generic = record { 0 = g }; method = record { 0 = m } }
+is_initial (Some m) = is_method_option m.origin
 
 -- those of these methods of a function
 abbrev pub initial_among : ℕ → List Method → List ℕ → List Removal
@@ -72,10 +71,6 @@ initial_among g methods ms = map (removal g) (filter (λ m. is_initial (slice_ge
 abbrev pub earlier_methods : Table → Option ℕ → List Removal
 earlier_methods t None = []
 earlier_methods t (Some g) = initial_among g t.methods (methods_of t g)
-
--- with these removals after its own
-abbrev pub removing : Changes → List Removal → Changes
-removing changes more = record changes { removals = changes.removals ++ more }
 
 -- ---- its own methods
 
@@ -91,7 +86,7 @@ eql_forms (m ∷ ms) = map eql_form m.specializers ++ eql_forms ms
 -- The values are those of all their specializers.
 abbrev pub methods_with : classes.Table → ℕ → List MethodDefinition → List (Option Val) → List Method
 methods_with t g [] vs = []
-methods_with t g (m ∷ ms) vs = method_with t g true m vs ∷ methods_with t g ms (drop (length m.specializers) vs)
+methods_with t g (m ∷ ms) vs = method_with t g MethodOption m vs ∷ methods_with t g ms (drop (length m.specializers) vs)
 
 -- ---- defgeneric
 

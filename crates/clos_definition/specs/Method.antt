@@ -1,5 +1,5 @@
 -- Methods that are defined (HyperSpec 7.6.2, 7.7 defmethod).
-use Rattle.std.specs.Prelude.{ℕ, Bool, false, is_none, is_some, List, [], ◌∷◌, Option, Some, None, drop, unwrap_or, if◌then◌else◌}
+use Rattle.std.specs.Prelude.{ℕ, is_none, is_some, List, [], ◌∷◌, Option, Some, None, drop, unwrap_or, if◌then◌else◌}
 use Rattle.lisp_data.specs.Datum.{Dats}
 use Rattle.lisp_data.specs.Datum as datum
 use Rattle.lisp_data.specs.Print.{Specializer, on_class, on_eql}
@@ -19,6 +19,8 @@ use Rattle.clos_generic.specs.declared.changes.Definition.{Definition}
 use Rattle.clos_method.specs.Shape.{made_by, shape_of}
 use Rattle.clos_method.specs.declared.method.Method.{Method}
 use Rattle.clos_method.specs.declared.method.MethodBody.TheVariants.{Forms}
+use Rattle.clos_method.specs.declared.origin.Origin.{Origin}
+use Rattle.clos_method.specs.declared.origin.Origin.TheVariants.{Defmethod}
 use Rattle.clos_method.specs.declared.shape.Shape.{Shape}
 use Rattle.clos_world.specs.Class.{named}
 use Rattle.clos_world.specs.World.{State}
@@ -64,14 +66,14 @@ specializers_with t (s ∷ ss) vs = specializer_with t s (first_value vs) ∷ sp
 
 -- ---- methods
 
--- of the function of this number; whether it comes with a defgeneric
-abbrev pub method_with : classes.Table → ℕ → Bool → MethodDefinition → List (Option Val) → Method
-method_with t g initial m vs = record {
+-- of the function of this number; what makes it is a defmethod or a :method option
+abbrev pub method_with : classes.Table → ℕ → Origin → MethodDefinition → List (Option Val) → Method
+method_with t g origin m vs = record {
   generic = record { 0 = g };
   qualifiers = qualifiers_of m.qualifiers;
   specializers = specializers_with t m.specializers vs;
   shape = shape_of m.lambda_list;
-  initial = initial;
+  origin = origin;
   body = Forms m.lambda_list m.body;
 }
 
@@ -86,7 +88,7 @@ abbrev pub function_for : Table → FunctionName → Shape → List Definition
 function_for t name shape = if is_some (function_named t name) then [] else (record { name = name; options = standard_options (made_by shape) } ∷ [])
 
 abbrev pub defined_method : FunctionName → MethodDefinition → List (Option Val) → State → Method
-defined_method name m vs w = method_with w.classes (number w.generics name) false m vs
+defined_method name m vs w = method_with w.classes (number w.generics name) Defmethod m vs
 
 -- where the values of the forms of its specializers are known, or not
 abbrev pub method_changes : FunctionName → MethodDefinition → Option (List (Option Val)) → State → Changes

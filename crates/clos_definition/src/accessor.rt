@@ -1,19 +1,20 @@
 //! The accessors of the slots of a class.
-ghost use Rattle.std.specs.Prelude.{◌≡◌, ◌++◌, ◌∷◌, [], IfOk, OnOk, length, map, unwrap_or};
+ghost use Rattle.std.specs.Prelude.{◌≡◌, ◌++◌, ◌∷◌, [], IfOk, OnOk, length, map, slice_get, unwrap_or};
+ghost use Rattle.clos_method.specs.MethodIds.{method_numbers};
 ghost use Rattle.clos_world.specs.World.{seen};
-ghost use Rattle.clos_definition.specs.Accessor.{accessor_body, accessor_method, accessor_methods, accessor_refusal, accessor_shape, accessor_specializers, accessors_of, accessors_refusal, fits, function_of, functions_for, number_after, of_slot, place_of, with_functions};
-ghost use Rattle.clos_definition.specs.Effect.{adding, addition_of};
+ghost use Rattle.clos_definition.specs.Accessor.{accessor_body, accessor_method, accessor_methods, accessor_refusal, accessor_shape, accessor_specializers, accessors_of, accessors_refusal, earlier_accessors, fits, function_of, functions_for, number_after, of_slot, place_of, removal_in, removals_of, with_functions};
+ghost use Rattle.clos_definition.specs.Effect.{adding, addition_of, removing};
 ghost use Rattle.clos_definition.specs.Refusal.{Allows};
 
 use crate::effect::{Effect, addition_of};
 use crate::refusal::{not_congruent, refuse_taken};
 use clos_forms::FunctionName;
-use clos_generic::{Changes, Definition, Generics, Options, copy_name, is_same};
+use clos_generic::{Changes, Definition, Generics, Options, Removal, copy_name, is_same};
 use clos_hierarchy::numbers;
-use clos_method::{Method, MethodBody, Qualifiers, Shape, Specializer, Specializers};
+use clos_method::{Method, MethodBody, Origin, Qualifiers, Shape, Specializer, Specializers};
 use clos_syntax::{Accessor, SlotSpecifier};
 use clos_world::{Stop, World};
-use lisp_data::{ClassId, GenericId, Name};
+use lisp_data::{ClassId, GenericId, MethodId, Name};
 use std::alloc::{AllocError, Global};
 
 /// An accessor of the slot of this name.
@@ -130,26 +131,86 @@ fn accessor_method(
         qualifiers: Qualifiers::new(alloc),
         specializers: accessor_specializers(alloc, class, &accessor.accessor)?,
         shape: accessor_shape(&accessor.accessor),
-        initial: false,
+        origin: Origin::Accessor(class),
         body: accessor_body(&accessor.slot, &accessor.accessor)?,
     })
 }
 
-/// The functions that are to be made for these accessors, each once.
-pub fn functions_for(
+/// The accessors of an earlier definition of a class go, and the functions that are to be made for these are, each once.
+pub fn changes_for(
     alloc: Global,
     generics: &Generics,
+    class: ClassId,
     accessors: &[SlotAccessor],
 ) -> Result<Changes, AllocError>
-    ensures { IfOk result (λ r. r ≡ record { removals = []; definitions = functions_for generics.now.table accessors.now; additions = [] }) }
+    ensures { IfOk result (λ r. r ≡ record { removals = earlier_accessors class.0 generics.now.table; definitions = functions_for generics.now.table accessors.now; additions = [] }) }
 {
     let mut changes = Changes::new(alloc);
-    let mut left = accessors;
-    while let Some((accessor, others)) = left.split_first() {
-        add_function(alloc, generics, &mut changes, accessor)?;
+    remove_earlier(alloc, generics, &mut changes, class)?;
+    add_functions(alloc, generics, &mut changes, accessors)?;
+    Ok(changes)
+}
+
+/// Removes the methods of the accessors of an earlier definition of a class that are still there.
+fn remove_earlier(
+    alloc: Global,
+    generics: &Generics,
+    changes: &mut Changes,
+    class: ClassId,
+) -> Result<(), AllocError>
+    ensures { OnOk result (changes.new ≡ removing changes.old (earlier_accessors class.0 generics.now.table)) }
+{
+    let methods = generics.accessors_there(alloc, class)?;
+    remove_methods(generics, changes, &methods)
+}
+
+/// Removes these methods from their functions.
+fn remove_methods(
+    generics: &Generics,
+    changes: &mut Changes,
+    methods: &[MethodId],
+) -> Result<(), AllocError>
+    ensures { OnOk result (changes.new ≡ removing changes.old (removals_of generics.now.table.methods (method_numbers methods.now))) }
+{
+    let mut left = methods;
+    while let Some((method, others)) = left.split_first() {
+        remove_method(generics, changes, *method)?;
         left = others;
     }
-    Ok(changes)
+    Ok(())
+}
+
+/// Removes a method from its function.
+fn remove_method(generics: &Generics, changes: &mut Changes, id: MethodId) -> Result<(), AllocError>
+    ensures { OnOk result (changes.new ≡ removing changes.old (removal_in id.0 (slice_get generics.now.table.methods id.0))) }
+{
+    match generics.method(id) {
+        None => Ok(()),
+        Some(method) => {
+            changes.remove(Removal {
+                generic: method.generic,
+                method: id,
+            })?;
+            Ok(())
+        }
+    }
+}
+
+/// Adds the functions that are to be made for these accessors, each once.
+fn add_functions(
+    alloc: Global,
+    generics: &Generics,
+    changes: &mut Changes,
+    accessors: &[SlotAccessor],
+) -> Result<(), AllocError>
+    ensures { OnOk result (changes.new ≡ record changes.old { definitions = with_functions generics.now.table changes.old.definitions accessors.now }) }
+{
+    let mut left = accessors;
+    while let Some((accessor, others)) = left.split_first() {
+        add_function(alloc, generics, changes, accessor)?;
+        left = others;
+    }
+    Ok(())
 }
 
 /// With the function of an accessor, unless it is there.
@@ -273,18 +334,18 @@ fn fits(
     Ok(generics.addition_fits(definitions, &addition))
 }
 
-/// These definitions of new functions, with the methods of the accessors.
+/// These changes, with the methods of the accessors.
 pub fn with_accessors(
     alloc: Global,
     generics: &Generics,
     class: ClassId,
-    functions: Changes,
+    changes: Changes,
     accessors: &[SlotAccessor],
 ) -> Result<Effect, AllocError>
-    ensures changes { IfOk result (λ e. e.changes ≡ adding functions (map addition_of (accessor_methods class.0 generics.now.table functions.definitions accessors.now))) }
-    ensures methods { IfOk result (λ e. e.methods.items ≡ accessor_methods class.0 generics.now.table functions.definitions accessors.now) }
+    ensures changes { IfOk result (λ e. e.changes ≡ adding changes (map addition_of (accessor_methods class.0 generics.now.table changes.definitions accessors.now))) }
+    ensures methods { IfOk result (λ e. e.methods.items ≡ accessor_methods class.0 generics.now.table changes.definitions accessors.now) }
 {
-    let mut effect = Effect::new(alloc, functions);
+    let mut effect = Effect::new(alloc, changes);
     let mut left = accessors;
     while let Some((accessor, others)) = left.split_first() {
         let definitions = effect.changes.definitions();

@@ -12,7 +12,7 @@ ghost use Rattle.clos_definition.specs.Class.{cells_needed, class_changes, class
 ghost use Rattle.clos_definition.specs.Effect.{IsReserved, changes_of, with_effect};
 ghost use Rattle.clos_definition.specs.Refusal.{Allows, StopsFor, table_full, table_refusal, when};
 
-use crate::accessor::{accessors_of, functions_for, refuse_accessors, with_accessors};
+use crate::accessor::{accessors_of, changes_for, refuse_accessors, with_accessors};
 use crate::effect::{Effect, check, make, reserve};
 use clos_class::{ClassFault, Reserved};
 use clos_forms::FunctionName;
@@ -45,7 +45,8 @@ pub fn check_class(
     Ok(reserved)
 }
 
-/// Prepares a class with so many new cells, and tells its number. What is prepared is its accessors.
+/// Prepares a class with so many new cells, and tells its number. What is prepared is its accessors: those of an earlier
+/// definition go, and its own come.
 #[tactic(auto, using(crate::proofs::Classes::class_stops))]
 pub fn prepare_class(
     alloc: Global,
@@ -133,9 +134,9 @@ fn effect_for(
     ensures methods { IfOk result (λ e. e.methods.items ≡ class_methods definition.now (seen world.now)) }
 {
     let accessors = accessors_of(alloc, definition.slots.as_slice())?;
-    let functions = functions_for(alloc, &world.generics, &accessors)?;
-    refuse_accessors(alloc, world, class, functions.definitions(), &accessors)?;
-    Ok(with_accessors(alloc, &world.generics, class, functions, &accessors)?)
+    let changes = changes_for(alloc, &world.generics, class, &accessors)?;
+    refuse_accessors(alloc, world, class, changes.definitions(), &accessors)?;
+    Ok(with_accessors(alloc, &world.generics, class, changes, &accessors)?)
 }
 
 /// Whether the table of generic functions allows the accessors of the class of this name.

@@ -5,8 +5,8 @@ ghost use Rattle.clos_generic.specs.Initial.{standard};
 ghost use Rattle.clos_generic.specs.Table.{named};
 ghost use Rattle.clos_method.specs.MethodIds.{method_numbers};
 ghost use Rattle.clos_world.specs.World.{seen};
-ghost use Rattle.clos_definition.specs.Effect.{IsReserved, adding, addition_of, with_effect};
-ghost use Rattle.clos_definition.specs.Generic.{combination_refusal, definition_of, earlier_methods, eql_forms, generic_refusal, initial_among, is_initial, methods_refusal, methods_with, names_refusal, options_of, place_in, precedence_of, removing, with_defined_generic};
+ghost use Rattle.clos_definition.specs.Effect.{IsReserved, adding, addition_of, removing, with_effect};
+ghost use Rattle.clos_definition.specs.Generic.{combination_refusal, definition_of, earlier_methods, eql_forms, generic_refusal, initial_among, is_initial, methods_refusal, methods_with, names_refusal, options_of, place_in, precedence_of, with_defined_generic};
 ghost use Rattle.clos_definition.specs.Method.{open_addition};
 ghost use Rattle.clos_definition.specs.Refusal.{Allows};
 
@@ -19,7 +19,7 @@ use clos_generic::{
     Addition, Changes, Definition, Generics, Options, Positions, Removal, copy_name,
     standard_combination,
 };
-use clos_method::Shape;
+use clos_method::{Origin, Shape};
 use clos_store::Slot;
 use clos_syntax::{CombinationUse, GenericDefinition, MethodDefinition, Sequence};
 use clos_world::{ConditionKind, Stop, UseFault, World, about_name, plain};
@@ -190,7 +190,7 @@ fn is_initial(generics: &Generics, id: MethodId) -> bool
 {
     match generics.method(id) {
         None => false,
-        Some(method) => method.initial,
+        Some(method) => method.origin.is_method_option(),
     }
 }
 
@@ -300,7 +300,7 @@ fn with_methods(
         let count = method.specializers.len();
         effect.add(
             alloc,
-            method_with(alloc, classes, id, true, method, values)?,
+            method_with(alloc, classes, id, Origin::MethodOption, method, values)?,
         )?;
         values = past(values, count);
     }

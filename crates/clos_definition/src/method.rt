@@ -1,5 +1,5 @@
 //! Methods that are defined: what a `defmethod` does, and what a `:method` option of a `defgeneric` stands for.
-ghost use Rattle.std.specs.Prelude.{◌≡◌, ◌++◌, ◌∷◌, [], IfOk, OnOk, None, Some, drop, false, map, option_map, unwrap_or};
+ghost use Rattle.std.specs.Prelude.{◌≡◌, ◌++◌, ◌∷◌, [], IfOk, OnOk, None, Some, drop, map, option_map, unwrap_or};
 ghost use Rattle.lisp_data.specs.DatumView.{datum_of};
 ghost use Rattle.lisp_data.specs.Value.{list, nil};
 ghost use Rattle.lisp_data.specs.ValueView.{value_of};
@@ -17,7 +17,7 @@ use clos_class::Classes;
 use clos_forms::{Form, FunctionName, quoted_value};
 use clos_generic::{Addition, Changes, Definition, Generics, Options, copy_name};
 use clos_method::{
-    Method, MethodBody, Qualifiers, Shape, SharedLambdaList, Specializer, Specializers,
+    Method, MethodBody, Origin, Qualifiers, Shape, SharedLambdaList, Specializer, Specializers,
 };
 use clos_store::Slot;
 use clos_syntax::{MethodDefinition, ParameterSpecializer};
@@ -91,7 +91,14 @@ fn effect_for(
     ensures methods { IfOk result (λ e. e.methods.items ≡ defined_method name.now definition values.now (seen world.now) ∷ []) }
 {
     let id = number_of(&world.generics, name);
-    let method = method_with(alloc, &world.classes, id, false, definition, values)?;
+    let method = method_with(
+        alloc,
+        &world.classes,
+        id,
+        Origin::Defmethod,
+        definition,
+        values,
+    )?;
     let changes = changes_for(alloc, &world.generics, name, &method.shape)?;
     let mut effect = Effect::new(alloc, changes);
     effect.add(alloc, method)?;
@@ -190,11 +197,11 @@ pub fn method_with(
     alloc: Global,
     classes: &Classes,
     generic: GenericId,
-    initial: bool,
+    origin: Origin,
     definition: MethodDefinition,
     values: &[Slot],
 ) -> Result<Method, AllocError>
-    ensures { IfOk result (λ r. r ≡ method_with classes.now generic.0 initial definition values.now) }
+    ensures { IfOk result (λ r. r ≡ method_with classes.now generic.0 origin definition values.now) }
 {
     let MethodDefinition {
         qualifiers,
@@ -207,7 +214,7 @@ pub fn method_with(
         qualifiers: qualifiers_of(alloc, &qualifiers)?,
         specializers: specializers_with(alloc, classes, specializers.as_slice(), values)?,
         shape: Shape::of(alloc, &lambda_list)?,
-        initial,
+        origin,
         body: MethodBody::Forms(SharedLambdaList::new(alloc, lambda_list)?, body),
     })
 }

@@ -9,7 +9,6 @@ use Rattle.clos_machine.specs.clos_world.clos_generic.Table.{number}
 use Rattle.clos_syntax.specs.declared.class.ClassDefinition.{ClassDefinition}
 use Rattle.clos_syntax.specs.declared.generic.GenericDefinition.{GenericDefinition}
 use Rattle.clos_syntax.specs.declared.method.MethodDefinition.{MethodDefinition}
-use Rattle.clos_machine.specs.clos_world.Class.{named}
 use Rattle.clos_machine.specs.clos_world.World.{State}
 use Rattle.clos_machine.specs.clos_world.declared.condition.Condition.{Condition}
 use Rattle.clos_machine.specs.clos_world.declared.condition.Stop.{Stop}
@@ -23,10 +22,10 @@ use Rattle.clos_definition.specs.Removal.{Finds, removable, with_removed}
 use Rattle.clos_definition.specs.declared.effect.Effect.{Effect}
 use Rattle.clos_machine.specs.Machine.{Answers}
 use Rattle.clos_machine.specs.clos_meaning.Outcome.{Run, Stopped, leaves}
-use Rattle.clos_definition_forms.specs.Definition.{class_made, define_class, define_generic, define_method, generic_made, method_made, new_class, remove_method, removed_if, takes_effect, unless, value_at, values_removed}
+use Rattle.clos_definition_forms.specs.Definition.{class_made, define_class, define_generic, define_method, generic_made, method_made, remove_method, removed_if, takes_effect, unless, value_at, values_removed}
 use Rattle.clos_definition_forms.specs.Forms.{EndsBefore, GoesOn, forms_evaluated}
 use Rattle.clos_definition_forms.proofs.Evaluations.{answers_same}
-use Rattle.clos_definition_forms.proofs.Quiet.{class_forms_quiet, class_made_quiet, define_generic_quiet, define_method_quiet, generic_forms_quiet, generic_made_quiet, method_forms_quiet, method_made_quiet, new_class_quiet, remove_method_quiet, values_removed_quiet}
+use Rattle.clos_definition_forms.proofs.Quiet.{class_forms_quiet, class_made_quiet, define_generic_quiet, define_method_quiet, generic_forms_quiet, generic_made_quiet, method_forms_quiet, method_made_quiet, define_class_quiet, remove_method_quiet, values_removed_quiet}
 use Rattle.clos_definition_forms.proofs.Evaluated.{forms_go_on, forms_stop}
 
 -- ---- a check, and then what goes on
@@ -132,19 +131,15 @@ module _ (d : GenericDefinition) (w u : State) (s : ℕ) where
 -- ---- defclass
 
 -- A class that is not defined is a new one.
-pub of_new_name : (d : ClassDefinition) (w u : State) (s j : ℕ) (r : Result Value Stop) → named w.classes d.name ≡ None → Answers (new_class d) w s r u j
-    → Answers (λ v k. define_class d (named v.classes d.name) v k) w s r u j
-of_new_name d w u s j (Ok v) n h = ap (λ o. define_class d o w s) n ∙ h
-of_new_name d w u s j (Err (Refused c)) n h = ap (λ o. define_class d o w s) n ∙ h
-of_new_name d w u s j (Err Storage) n h = (h.0, h.1, subst (λ o. leaves (define_class d o w h.0) u 0) (sym n) h.2)
+
 
 module _ (d : ClassDefinition) (w u : State) (s : ℕ) where
-  pub class_refused : (stop : Stop) → w.locals ≡ [] → u ≡ w → StopsFor (class_refusal d (length (cells_needed d w)) w) stop → Answers (new_class d) w s (Err stop) u s
+  pub class_refused : (stop : Stop) → w.locals ≡ [] → u ≡ w → StopsFor (class_refusal d (length (cells_needed d w)) w) stop → Answers (define_class d) w s (Err stop) u s
   class_refused stop l e h =
-      stops_at (class_refusal d (length (cells_needed d w)) w) (forms_evaluated (initforms (cells_needed d w)) [] (class_made d)) w u s stop e (new_class_quiet d w l) h
+      stops_at (class_refusal d (length (cells_needed d w)) w) (forms_evaluated (initforms (cells_needed d w)) [] (class_made d)) w u s stop e (define_class_quiet d w l) h
 
   pub class_evaluated : (cs : List NewCell) (j : ℕ) (x : State) (r : Result Value Stop) → u ≡ w → cs ≡ cells_needed d w → class_refusal d (length (cells_needed d w)) w ≡ None
-      → Answers (forms_evaluated (initforms cs) [] (class_made d)) u s r x j → Answers (new_class d) w s r x j
+      → Answers (forms_evaluated (initforms cs) [] (class_made d)) u s r x j → Answers (define_class d) w s r x j
   class_evaluated cs j x r e q h a =
       passes_at (class_refusal d (length (cells_needed d w)) w) (forms_evaluated (initforms (cells_needed d w)) [] (class_made d)) w u s j x r e h
       (subst (λ l. Answers (forms_evaluated (initforms l) [] (class_made d)) u s r x j) q a)

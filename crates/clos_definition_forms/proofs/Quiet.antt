@@ -18,7 +18,7 @@ use Rattle.clos_definition.specs.Method.{eql_form, method_refusal, with_defined_
 use Rattle.clos_definition.specs.Removal.{removable}
 use Rattle.clos_machine.specs.clos_meaning.Outcome.{Out, Run, leaves}
 use Rattle.clos_definition_forms.specs.Combination.{define_combination}
-use Rattle.clos_definition_forms.specs.Definition.{class_made, define_class, define_generic, define_method, generic_made, method_made, new_class, removed_if, remove_method, takes_effect, unless, value_at, values_removed}
+use Rattle.clos_definition_forms.specs.Definition.{class_made, define_class, define_generic, define_method, generic_made, method_made, removed_if, remove_method, takes_effect, unless, value_at, values_removed}
 use Rattle.clos_definition_forms.specs.Forms.{forms_evaluated}
 use Rattle.clos_definition_forms.proofs.Evaluated.{forms_quiet}
 
@@ -60,14 +60,11 @@ class_made_quiet d vs w = effect_quiet (class_refusal d (length vs) w) (class (c
 pub class_forms_quiet : (d : ClassDefinition) (fs : List (Option Form)) (w : State) → w.locals ≡ [] → leaves (forms_evaluated fs [] (class_made d) w 0) w 0
 class_forms_quiet d fs w e = forms_quiet fs [] (class_made d) w e (λ vs. class_made_quiet d vs w)
 
-pub new_class_quiet : (d : ClassDefinition) (w : State) → w.locals ≡ [] → leaves (new_class d w 0) w 0
-new_class_quiet d w e =
+pub define_class_quiet : (d : ClassDefinition) (w : State) → w.locals ≡ [] → leaves (define_class d w 0) w 0
+define_class_quiet d w e =
     unless_quiet (class_refusal d (length (cells_needed d w)) w) (forms_evaluated (initforms (cells_needed d w)) [] (class_made d)) w
     (class_forms_quiet d (initforms (cells_needed d w)) w e)
 
-pub define_class_quiet : (d : ClassDefinition) (o : Option ℕ) (w : State) → w.locals ≡ [] → leaves (define_class d o w 0) w 0
-define_class_quiet d None w e = new_class_quiet d w e
-define_class_quiet d (Some n) w e = (refl, refl)
 
 -- ---- remove-method
 

@@ -10,12 +10,11 @@ use Rattle.clos_syntax.specs.declared.generic.GenericDefinition.{GenericDefiniti
 use Rattle.clos_syntax.specs.declared.method.MethodDefinition.{MethodDefinition}
 use Rattle.clos_machine.specs.clos_world.World.{State}
 use Rattle.clos_machine.specs.clos_world.declared.condition.Condition.{Condition}
-use Rattle.clos_machine.specs.clos_world.declared.condition.ConditionKind.TheVariants.{Unsupported}
 use Rattle.clos_definition.specs.Class.{cells_needed, class_number, class_refusal, initforms, with_defined_class}
 use Rattle.clos_definition.specs.Generic.{eql_forms, generic_refusal, with_defined_generic}
 use Rattle.clos_definition.specs.Method.{eql_form, method_refusal, with_defined_method}
 use Rattle.clos_definition.specs.Removal.{removable, with_removed}
-use Rattle.clos_machine.specs.clos_meaning.Outcome.{Gave, Run, Stopped, step_then, stopped}
+use Rattle.clos_machine.specs.clos_meaning.Outcome.{Gave, Run, Stopped, step_then}
 use Rattle.clos_definition_forms.specs.Forms.{forms_evaluated}
 
 -- it goes on where nothing is wrong
@@ -55,14 +54,9 @@ define_generic d w k = unless (generic_refusal d None w) (forms_evaluated (eql_f
 abbrev pub class_made : ClassDefinition → List (Option Val) → Run
 class_made d vs w k = unless (class_refusal d (length vs) w) (takes_effect (class (class_number d w)) (with_defined_class d vs w)) w k
 
--- a class of a new name, of whose direct superclasses some may not be defined yet
-abbrev pub new_class : ClassDefinition → Run
-new_class d w k = unless (class_refusal d (length (cells_needed d w)) w) (forms_evaluated (initforms (cells_needed d w)) [] (class_made d)) w k
-
--- A class that is defined is not defined again.
-abbrev pub define_class : ClassDefinition → Option ℕ → Run
-define_class d None w k = new_class d w k
-define_class d (Some n) w k = stopped Unsupported [] w k
+-- A new class, of whose direct superclasses some may not be defined yet; or one that is defined, and is defined again (4.3.6).
+abbrev pub define_class : ClassDefinition → Run
+define_class d w k = unless (class_refusal d (length (cells_needed d w)) w) (forms_evaluated (initforms (cells_needed d w)) [] (class_made d)) w k
 
 -- ---- remove-method: both forms are evaluated first
 

@@ -2,7 +2,6 @@
 //! is refused takes none.
 ghost use Rattle.std.specs.Prelude.{◌≡◌, [], ◌∷◌, Some, IfOk, map};
 ghost use Rattle.lisp_data.specs.ValueView.{value_of};
-ghost use Rattle.clos_machine.specs.clos_world.Class.{named};
 ghost use Rattle.clos_machine.specs.clos_world.World.{seen};
 ghost use Rattle.lisp_data.specs.Value.{class};
 ghost use Rattle.clos_definition.specs.Class.{initforms, with_class};
@@ -11,7 +10,7 @@ ghost use Rattle.clos_definition.specs.Generic.{eql_forms};
 ghost use Rattle.clos_definition.specs.Method.{eql_form};
 ghost use Rattle.clos_definition.specs.Removal.{with_removed};
 ghost use Rattle.clos_machine.specs.Machine.{Answers};
-ghost use Rattle.clos_definition_forms.specs.Definition.{class_made, define_class, define_generic, define_method, generic_made, method_made, new_class, remove_method, takes_effect, value_at, values_removed};
+ghost use Rattle.clos_definition_forms.specs.Definition.{class_made, define_class, define_generic, define_method, generic_made, method_made, remove_method, takes_effect, value_at, values_removed};
 ghost use Rattle.clos_definition_forms.specs.Forms.{forms_evaluated};
 
 use crate::forms::evaluate_forms;
@@ -155,31 +154,16 @@ fn take_effect(
     Ok(value)
 }
 
-/// Defines a class of a new name, with the methods of its accessors. Some of its direct superclasses may not be defined yet.
-#[tactic(auto, using(crate::proofs::Defining::of_new_name))]
+/// Defines a class, or defines it again, with the methods of its accessors. Some of its direct superclasses may not be defined
+/// yet.
+#[tactic(auto, using(crate::proofs::Defining::class_refused, crate::proofs::Defining::class_evaluated))]
 pub fn defclass(
     alloc: Global,
     world: &mut World,
     definition: &ClassDefinition,
     steps: &mut u64,
 ) -> Result<Value, Stop>
-    ensures { Answers (λ w k. define_class definition.now (named w.classes definition.now.name) w k) (seen world.old) steps.old result (seen world.new) steps.new }
-{
-    if world.classes.hierarchy().named(&definition.name).is_some() {
-        return Err(Stop::Refused(plain(alloc, ConditionKind::Unsupported)));
-    }
-    define_new_class(alloc, world, definition, steps)
-}
-
-/// The same, where the name is known to be new.
-#[tactic(auto, using(crate::proofs::Defining::class_refused, crate::proofs::Defining::class_evaluated))]
-fn define_new_class(
-    alloc: Global,
-    world: &mut World,
-    definition: &ClassDefinition,
-    steps: &mut u64,
-) -> Result<Value, Stop>
-    ensures { Answers (new_class definition.now) (seen world.old) steps.old result (seen world.new) steps.new }
+    ensures { Answers (define_class definition.now) (seen world.old) steps.old result (seen world.new) steps.new }
 {
     match check_class(alloc, world, definition) {
         Err(stop) => Err(stop),
@@ -205,7 +189,7 @@ fn define_checked_class(
     };
     match evaluate_forms(alloc, world, &forms, steps) {
         Err(stop) => Err(stop),
-        Ok(values) => make_new_class(alloc, world, definition, values, steps),
+        Ok(values) => make_checked_class(alloc, world, definition, values, steps),
     }
 }
 
@@ -233,7 +217,7 @@ fn copy_form(form: &Option<Form>) -> Result<Option<Form>, AllocError>
 
 /// Makes a class, whose new cells have these values.
 #[tactic(auto, using(crate::proofs::Defining::class_not_made))]
-fn make_new_class(
+fn make_checked_class(
     alloc: Global,
     world: &mut World,
     definition: &ClassDefinition,

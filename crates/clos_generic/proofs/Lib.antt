@@ -4,3 +4,4 @@ pub mod Places
 pub mod Told
 pub mod Rooms
 pub mod Ready
+pub mod Kept

@@ -1,11 +1,11 @@
 -- The memory that is reserved, as the table changes.
-use Rattle.std.proofs.Common.{◌≡◌, ℕ, zero, suc, ◌+◌, ◌≤◌, List, [], ◌∷◌, ◌++◌, Some, None, Bool, true, false, length, arith, refl, ap, sym, ◌∙◌, subst, true≢false}
+use Rattle.std.proofs.Common.{◌≡◌, ℕ, zero, suc, ◌+◌, ◌≤◌, List, [], ◌∷◌, ◌++◌, Some, None, Bool, true, false, length, arith, map, refl, ap, sym, ◌∙◌, subst, true≢false}
 use Rattle.std.specs.Prelude.{◌==◌, ◌||◌, slice_get, vec_len, vec_capacity, if◌then◌else◌}
 use Rattle.std.specs.declared.alloc.Global.{Global}
 use Rattle.std.specs.declared.vec.Vec.{Vec}
 use Rattle.lisp_data.specs.declared.ids.GenericId.{GenericId}
 use Rattle.clos_method.specs.declared.method.Method.{Method}
-use Rattle.clos_generic.specs.inner.Reserved.{HasRoom, HasSpare, IsReady, first_if, ids_of, is_added}
+use Rattle.clos_generic.specs.inner.Reserved.{HasRoom, HasSpare, IsReady, first_if, ids_of, is_added, keys_of}
 use Rattle.clos_generic.specs.Held.{after_first, is_first}
 use Rattle.clos_generic.specs.declared.function.Function.{Function}
 use Rattle.clos_generic.specs.declared.spare.Spare.{Spare}
@@ -117,6 +117,29 @@ module _ (F E : Vec Function Global) (a b : ℕ) (M N : Vec Method Global) (ss :
       by : (A : List GenericId) → IsReady F a b M ss A → IsReady E a b N ss (after_first p A)
       by [] r = none [] r
       by (x ∷ xs) r = elim (p x) as (λ q. IsReady E a b N ss (if q then xs else [])) [ true ↦ one x xs r | false ↦ none (x ∷ xs) r ]
+
+-- Nothing is reserved.
+pub ready_idle : (E : Vec Function Global) (x y : ℕ) (N : Vec Method Global) (ss : List Spare) (A : List GenericId) → ss ≡ [] → A ≡ [] → IsReady E x y N ss A
+ready_idle E x y N ss A e h =
+    let none : IsReady E x y N [] [] = record {
+      functions_fit = omega (arith, E.ok.1);
+      symbols_fit = omega arith;
+      setters_fit = omega arith;
+      methods_fit = omega (arith, N.ok.1);
+      rooms = λ g i. absurd (true≢false (sym i));
+      spare_rooms = λ k. no_spare 0 k;
+    } in
+    subst (λ l. IsReady E x y N l A) (sym e) (subst (λ l. IsReady E x y N [] l) (sym h) none)
+
+none_of_map : {X Y : Type 0} (f : X → Y) (xs : List X) → map f xs ≡ [] → xs ≡ []
+none_of_map f [] e = refl
+none_of_map f (x ∷ xs) e = absurd (cc e)
+
+pub no_spares : (ss : List Spare) → keys_of ss ≡ [] → ss ≡ []
+no_spares ss e = none_of_map (λ (s : Spare). s.key) ss e
+
+pub no_additions : (A : List GenericId) → ids_of A ≡ [] → A ≡ []
+no_additions A e = none_of_map (λ (g : GenericId). g.0) A e
 
 -- The first of the additions has room.
 pub first_room : (fs : List Function) (A : List GenericId) (ns : List ℕ) (g : ℕ) → ids_of A ≡ ns → is_first (λ h. h == g) ns ≡ true

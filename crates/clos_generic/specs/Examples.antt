@@ -8,8 +8,10 @@ use Rattle.clos_forms.specs.declared.operator.FunctionName.TheVariants.{Symbol, 
 use Rattle.clos_method.specs.System.{system_shape}
 use Rattle.clos_method.specs.declared.method.Method.{Method}
 use Rattle.clos_method.specs.declared.method.MethodBody.TheVariants.{Reader}
+use Rattle.clos_method.specs.declared.origin.Origin.TheVariants.{Accessor, Defmethod}
 use Rattle.clos_method.specs.declared.shape.Shape.{Shape}
 use Rattle.clos_method.specs.declared.system.SystemFunction.TheVariants.{SlotMissing}
+use Rattle.clos_generic.specs.Accessors.{accessors_below, accessors_there}
 use Rattle.clos_generic.specs.Changes.{Changes, changes_refusal}
 use Rattle.clos_generic.specs.Fault.{addition_refusal, definition_refusal, incongruent, removal_refusal, no_such_method, table_limit, unsupported}
 use Rattle.clos_generic.specs.Initial.{initial, standard}
@@ -33,7 +35,7 @@ abbrev taking : Shape → Options
 taking shape = record { shape = shape; precedence = []; combination = standard }
 
 abbrev on : Specializer → ℕ → Method
-on s n = record { generic = record { 0 = 9 }; qualifiers = []; specializers = s ∷ []; shape = of_required n; initial = false; body = Reader (name (codes "A")) }
+on s n = record { generic = record { 0 = 9 }; qualifiers = []; specializers = s ∷ []; shape = of_required n; origin = Defmethod; body = Reader (name (codes "A")) }
 
 slot_missing_is_there : named (initial 4 4) slot_missing ≡ Some 6
 slot_missing_is_there = refl
@@ -77,6 +79,23 @@ string_by_identity = refl
 
 two_parameters : addition_refusal speaking 9 (on (on_class 1) 2) ≡ Some incongruent
 two_parameters = refl
+
+-- the reader of a class that is called SPEAK
+abbrev reader : ℕ → Method
+reader c = record (on (on_class c) 1) { origin = Accessor (record { 0 = c }) }
+
+-- with readers of the classes 1, 2 and 1 again
+abbrev reading : Table
+reading = with_method 9 (reader 1) (with_method 9 (reader 2) (with_method 9 (reader 1) (with_definition speak (taking (of_required 1)) (initial 4 4))))
+
+readers_made : accessors_below reading.methods 1 12 ≡ 9 ∷ 11 ∷ []
+readers_made = refl
+
+readers_there : accessors_there reading 1 ≡ 11 ∷ []
+readers_there = refl
+
+replaced_by_the_program : accessors_there (with_method 9 (on (on_class 1) 1) reading) 1 ≡ []
+replaced_by_the_program = refl
 
 -- SPEAK with a method of so many required parameters, all at once
 abbrev with_first : ℕ → Changes

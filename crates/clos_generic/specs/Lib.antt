@@ -7,4 +7,5 @@ pub mod TableView
 pub mod Calls
 pub mod Changes
 pub mod Held
+pub mod Accessors
 pub mod Examples

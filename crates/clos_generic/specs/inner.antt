@@ -1,3 +1,4 @@
 -- What stands behind the contracts: how the logic stores values, what is kept, what private functions answer.
 pub mod TableCode
 pub mod Reserved
+pub mod AccessorMethods

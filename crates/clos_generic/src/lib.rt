@@ -1,6 +1,7 @@
 //! The generic functions of a session and their methods (HyperSpec 7.6).
 #![tactic(auto)]
 
+mod accessors;
 mod calls;
 mod changes;
 mod fault;

@@ -1,7 +1,8 @@
 //! The generic functions of a session and their methods.
-ghost use Rattle.std.specs.Prelude.{◌≡◌, ◌==◌, ◌<◌, ◌-◌, ◌∷◌, ◌||◌, [], true, None, IfOk, IsOk, IfErr, OnOk, OnErr, MatchResult, is_some, length, option_map, option_copied, slice_get};
+ghost use Rattle.std.specs.Prelude.{◌≡◌, ◌==◌, ◌<◌, ◌-◌, ◌∷◌, ◌||◌, [], ℕ, true, None, IfOk, IsOk, IfErr, OnOk, OnErr, MatchResult, is_some, length, option_map, option_copied, slice_get};
 ghost use Rattle.std.specs.List.{list_any};
 ghost use Rattle.clos_forms.specs.declared.operator.FunctionName.TheVariants.{Symbol, Setf};
+ghost use Rattle.clos_generic.specs.Accessors.{is_accessor_in};
 ghost use Rattle.clos_generic.specs.Changes.{changes_refusal};
 ghost use Rattle.clos_generic.specs.Held.{by_addition, by_definition, is_first, released, reserved};
 ghost use Rattle.clos_method.specs.System.{system_functions};
@@ -10,7 +11,9 @@ ghost use Rattle.clos_generic.specs.FaultView.{Refuses, Tells};
 ghost use Rattle.clos_generic.specs.Initial.{empty, initial, with_system, with_systems};
 ghost use Rattle.clos_generic.specs.Table.{find_method, methods_named, methods_of, named, number, same_function, with_definition, with_method, without_method};
 ghost use Rattle.clos_generic.specs.TableView.{function_of, with_made, with_redefined};
+ghost use Rattle.clos_generic.specs.inner.AccessorMethods.{latest_below};
 
+use crate::accessors::AccessorMethods;
 use crate::changes::Changes;
 use crate::fault::GenericFault;
 use crate::function::Function;
@@ -22,7 +25,7 @@ use crate::spare::{Spare, functions_of, pass_addition, spares_for, take_spare};
 use crate::system::system_options;
 use clos_forms::FunctionName;
 use clos_method::{Method, Qualifiers, Shape, Specializers, SystemFunction, is_congruent};
-use lisp_data::{GenericId, MethodId, Name};
+use lisp_data::{ClassId, GenericId, MethodId, Name};
 use std::alloc::{AllocError, Global};
 use std::collections::{HashMap, VecDeque};
 use std::marker::Model;
@@ -37,6 +40,7 @@ pub struct Generics {
     /// Of each name `(setf name)` the function that has it, by that name.
     setters: HashMap<Name, GenericId>,
     methods: Vec<Method>,
+    accessors: AccessorMethods,
     most_functions: u64,
     most_methods: u64,
     /// For the next definitions, in order.
@@ -55,6 +59,8 @@ impl Model for Generics {
     ghost coded = { held_code };
 
     ghost use Rattle.std.specs.HashMap.{get, spare};
+    ghost use Rattle.std.specs.Prelude.{length};
+    ghost use Rattle.clos_generic.specs.inner.AccessorMethods.{HasPlaces, IsKept};
     ghost use Rattle.clos_generic.specs.inner.Reserved.{IsReady, ids_of, keys_of};
     ghost use Rattle.lisp_data.specs.Name.{same_name};
     ghost use Rattle.clos_forms.specs.declared.operator.FunctionName.TheVariants.{Symbol, Setf};
@@ -63,7 +69,8 @@ impl Model for Generics {
     ghost view = { λ a. record { table = record { functions = functions_in a.functions.items; methods = a.methods.items; most_functions = a.most_functions; most_methods = a.most_methods }; definitions = keys_of a.spares.items; additions = ids_of a.additions.items } };
 
     ghost invariant = { λ a. IsIndexed (functions_in a.functions.items) Symbol (λ n. get same_name a.symbols n) × IsIndexed (functions_in a.functions.items) Setf (λ n. get same_name a.setters n)
-        × IsReady a.functions (spare a.symbols) (spare a.setters) a.methods a.spares.items a.additions.items };
+        × IsReady a.functions (spare a.symbols) (spare a.setters) a.methods a.spares.items a.additions.items
+        × IsKept a.accessors a.methods.items × HasPlaces (length a.additions.items) a.accessors };
 }
 
 impl Generics {
@@ -156,7 +163,22 @@ impl Generics {
         }
     }
 
+    /// The latest method that came with an accessor of a class.
+    pub(crate) fn latest_accessor(&self, class: ClassId) -> Option<MethodId>
+        ensures { option_map (λ m. m.0) result ≡ latest_below self.now.table.methods class.0 (length self.now.table.methods) }
+    {
+        self.accessors.latest_of(class)
+    }
+
+    /// The method before this one that came with an accessor of the same class, where this one came with one.
+    pub(crate) fn accessor_before(&self, id: MethodId) -> Option<MethodId>
+        ensures { (c : ℕ) → is_accessor_in c (slice_get self.now.table.methods id.0) ≡ true → option_map (λ m. m.0) result ≡ latest_below self.now.table.methods c id.0 }
+    {
+        self.accessors.before(id)
+    }
+
     /// No functions.
+    #[tactic(auto, using(crate::proofs::Kept::kept_none))]
     fn empty(alloc: Global, functions: u64, methods: u64) -> Generics
         ensures { result.table ≡ empty functions methods }
     {
@@ -165,6 +187,7 @@ impl Generics {
             symbols: HashMap::new(alloc),
             setters: HashMap::new(alloc),
             methods: Vec::new(alloc),
+            accessors: AccessorMethods::new(alloc),
             most_functions: functions,
             most_methods: methods,
             spares: VecDeque::new(alloc),
@@ -449,8 +472,11 @@ impl Generics {
         ensures succeeds { is_first (λ h. h == id.0) self.old.additions ≡ true → IsOk result }
         ensures err { OnErr result (self.new ≡ self.old) }
     {
+        self.accessors.reserve(1)?;
         self.methods.reserve(1)?;
         let replaced = put_at(&mut self.functions, id, &self.methods, &method)?;
+        let number = MethodId(self.methods.len() as u64);
+        self.accessors.note(number, method.origin);
         self.methods.push_reserved(method);
         pass_addition(&mut self.additions, id);
         Ok(replaced)
@@ -505,7 +531,7 @@ impl Generics {
     }
 
     /// Whether this is a method of this function.
-    fn has_method(&self, id: GenericId, method: MethodId) -> bool
+    pub(crate) fn has_method(&self, id: GenericId, method: MethodId) -> bool
         ensures { result ≡ list_any (λ n. n == method.0) (methods_of self.now.table id.0) }
     {
         match self.function(id) {
@@ -553,8 +579,9 @@ impl Generics {
         self.functions.reserve(definitions)?;
         self.symbols.reserve(definitions)?;
         self.setters.reserve(definitions)?;
-        self.methods.reserve(methods)?;
         reserve_each(&mut self.functions, &additions, methods)?;
+        self.methods.reserve(methods)?;
+        self.accessors.reserve(methods)?;
         self.spares = spares;
         self.additions = additions;
         Ok(())

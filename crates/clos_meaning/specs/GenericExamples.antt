@@ -23,6 +23,7 @@ use Rattle.clos_world.specs.clos_method.Method.{system_method}
 use Rattle.clos_world.specs.clos_method.System.{system_functions}
 use Rattle.clos_world.specs.clos_method.declared.method.Method.{Method}
 use Rattle.clos_world.specs.clos_method.declared.method.MethodBody.TheVariants.{Forms as Body}
+use Rattle.clos_world.specs.clos_method.declared.origin.Origin.TheVariants.{Defmethod}
 use Rattle.clos_world.specs.clos_method.declared.shape.Shape.{Shape}
 use Rattle.clos_meaning.specs.Meaning.{evaluation}
 use Rattle.clos_meaning.specs.Outcome.{Out, Gave, Stopped, Noted, stopped}
@@ -72,7 +73,7 @@ on class qualifiers forms = record {
   qualifiers = qualifiers;
   specializers = on_class class ∷ [];
   shape = one;
-  initial = false;
+  origin = Defmethod;
   body = Body (record { required = name (codes "X") ∷ []; optional = []; rest = None; keys = None }) forms;
 }
 

@@ -13,6 +13,7 @@ use Rattle.clos_method.specs.Shape.{is_congruent, made_by, takes_count}
 use Rattle.clos_method.specs.System.{system_shape}
 use Rattle.clos_method.specs.declared.method.Method.{Method}
 use Rattle.clos_method.specs.declared.method.MethodBody.TheVariants.{Reader}
+use Rattle.clos_method.specs.declared.origin.Origin.TheVariants.{Defmethod}
 use Rattle.clos_method.specs.declared.shape.Shape.{Shape}
 use Rattle.clos_method.specs.declared.system.SystemFunction.TheVariants.{SlotMissing}
 
@@ -57,7 +58,7 @@ slot_missing_with_more = refl
 
 -- a method of these specializers
 abbrev on : List Specializer → Shape → Method
-on ss shape = record { generic = record { 0 = 0 }; qualifiers = []; specializers = ss; shape = shape; initial = false; body = Reader (key (codes "A")) }
+on ss shape = record { generic = record { 0 = 0 }; qualifiers = []; specializers = ss; shape = shape; origin = Defmethod; body = Reader (key (codes "A")) }
 
 -- an argument 3 of the class 5, below 4, below 0
 abbrev three : Argument

@@ -4,6 +4,7 @@ pub mod SpecializerLaws
 pub mod SharedNames
 pub mod Shape
 pub mod System
+pub mod Origin
 pub mod Method
 pub mod MethodIds
 pub mod Keywords

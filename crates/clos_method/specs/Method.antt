@@ -7,6 +7,7 @@ use Rattle.clos_method.specs.Specializer.{same_specializers}
 use Rattle.clos_method.specs.System.{system_method_shape, system_number, system_specializers}
 use Rattle.clos_method.specs.declared.method.Method.{Method}
 use Rattle.clos_method.specs.declared.method.MethodBody.TheVariants.{System}
+use Rattle.clos_method.specs.declared.origin.Origin.TheVariants.{System as BySystem}
 use Rattle.clos_method.specs.declared.system.SystemFunction.{SystemFunction}
 
 -- Two methods of a function agree with each other on qualifiers and specializers (7.6.3): the later takes the place of the earlier.
@@ -20,6 +21,6 @@ system_method f = record {
   qualifiers = [];
   specializers = system_specializers f;
   shape = system_method_shape f;
-  initial = false;
+  origin = BySystem;
   body = System f;
 }

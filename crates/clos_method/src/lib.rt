@@ -8,6 +8,7 @@ pub mod laws;
 pub mod method;
 pub mod method_ids;
 pub mod order;
+pub mod origin;
 pub mod qualifiers;
 pub mod shape;
 pub mod specializer;
@@ -19,6 +20,7 @@ pub use keywords::{accepts_keyword, allows_all, any_allows, any_names, checks_ke
 pub use method::{Method, MethodBody, SharedLambdaList, method_numbered};
 pub use method_ids::MethodIds;
 pub use order::ordered_methods;
+pub use origin::Origin;
 pub use qualifiers::Qualifiers;
 pub use shape::{Keywords, Shape, SharedNames, is_congruent};
 pub use specializer::{Specializer, Specializers, is_permitted};

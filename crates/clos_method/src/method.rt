@@ -2,6 +2,7 @@
 ghost use Rattle.std.specs.Prelude.{◌≡◌, ◌↔◌, IfOk, IsTrue, option_map, slice_get};
 ghost use Rattle.clos_method.specs.Method.{is_alike, system_method};
 
+use crate::origin::Origin;
 use crate::qualifiers::Qualifiers;
 use crate::shape::Shape;
 use crate::specializer::Specializers;
@@ -76,8 +77,7 @@ pub struct Method {
     pub qualifiers: Qualifiers,
     pub specializers: Specializers,
     pub shape: Shape,
-    /// Whether it came with a `:method` option of its function's `defgeneric`.
-    pub initial: bool,
+    pub origin: Origin,
     pub body: MethodBody,
 }
 
@@ -91,7 +91,7 @@ impl Method {
             qualifiers: Qualifiers::new(alloc),
             specializers: function.specializers(alloc)?,
             shape: function.method_shape(),
-            initial: false,
+            origin: Origin::System,
             body: MethodBody::System(function),
         })
     }

@@ -15,7 +15,6 @@ use Rattle.clos_syntax.specs.declared.method.MethodDefinition.{MethodDefinition}
 use Rattle.clos_syntax.specs.declared.top.Top.{Top}
 use Rattle.clos_syntax.specs.declared.top.Top.TheVariants.{DefClass, DefGeneric, DefMethod, DefCombination, Defun, DefVar, RemoveMethod, AddDependent, RemoveDependent, InPackage, Expr}
 use Rattle.clos_syntax.specs.declared.variable.VariableDefinition.{VariableDefinition}
-use Rattle.clos_definition_forms.specs.clos_world.Class.{named}
 use Rattle.clos_definition_forms.specs.clos_world.Definitions.{Same}
 use Rattle.clos_definition_forms.specs.clos_world.Functions.{function_in}
 use Rattle.clos_definition_forms.specs.clos_world.Globals.{is_global}
@@ -110,12 +109,11 @@ generic_refuses d w k =
     (forms_refuse (eql_forms d.methods) [] (generic_made d) w k
     (λ vs u j. effect_refuses (generic_refusal d (Some vs) u) (generic (number u.generics d.name)) (with_defined_generic d vs u) u j))
 
-class_refuses : (d : ClassDefinition) (o : Option ℕ) (w : State) (k : ℕ) → Refuses w (define_class d o w k)
-class_refuses d None w k =
+class_refuses : (d : ClassDefinition) (w : State) (k : ℕ) → Refuses w (define_class d w k)
+class_refuses d w k =
     unless_refuses (class_refusal d (length (cells_needed d w)) w) (forms_evaluated (initforms (cells_needed d w)) [] (class_made d)) w k
     (forms_refuse (initforms (cells_needed d w)) [] (class_made d) w k
     (λ vs u j. effect_refuses (class_refusal d (length vs) u) (class (class_number d u)) (with_defined_class d vs u) u j))
-class_refuses d (Some n) w k = same w
 
 removed_refuses : (v : Val) (r : Result (ℕ × ℕ) Condition) (w : State) (k : ℕ) → Refuses w (removed_if v r w k)
 removed_refuses v (Err c) w k = same w
@@ -164,7 +162,7 @@ variable_refuses d w k =
 -- ---- top-level forms
 
 performed_refuses : (top : Top) (w : State) (k : ℕ) → Refuses w (performed top w k)
-performed_refuses (DefClass d) w k = class_refuses d (named w.classes d.name) w k
+performed_refuses (DefClass d) w k = class_refuses d w k
 performed_refuses (DefGeneric d) w k = generic_refuses d w k
 performed_refuses (DefMethod name m) w k = method_refuses name m w k
 performed_refuses (DefCombination c) w k = combination_refuses c w k

@@ -12,7 +12,6 @@ use Rattle.clos_syntax.specs.Top.{top_of}
 use Rattle.clos_syntax.specs.declared.top.Top.{Top}
 use Rattle.clos_syntax.specs.declared.top.Top.TheVariants.{DefClass, DefGeneric, DefMethod, DefCombination, Defun, DefVar, RemoveMethod, AddDependent, RemoveDependent, InPackage, Expr}
 use Rattle.clos_syntax.specs.declared.variable.VariableDefinition.{VariableDefinition}
-use Rattle.clos_definition_forms.specs.clos_world.Class.{named}
 use Rattle.clos_definition_forms.specs.clos_world.Functions.{function_in}
 use Rattle.clos_definition_forms.specs.clos_world.Globals.{is_global}
 use Rattle.clos_definition_forms.specs.clos_world.World.{State, seen}
@@ -62,7 +61,7 @@ variable_quiet d w =
     (either (keeps_value (seen w) d.definer d.name) _ _ (seen w) (refl, refl) (value_quiet d.name d.form w)) (refl, refl)
 
 performed_quiet : (top : Top) (w : World) → leaves (performed top (seen w) 0) (seen w) 0
-performed_quiet (DefClass d) w = define_class_quiet d (named (seen w).classes d.name) (seen w) refl
+performed_quiet (DefClass d) w = define_class_quiet d (seen w) refl
 performed_quiet (DefGeneric d) w = define_generic_quiet d (seen w) refl
 performed_quiet (DefMethod name m) w = define_method_quiet name m (seen w) refl
 performed_quiet (DefCombination c) w = define_combination_quiet c (seen w)

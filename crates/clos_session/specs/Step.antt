@@ -5,7 +5,6 @@ use Rattle.lisp_data.specs.Value.{list, nil}
 use Rattle.clos_syntax.specs.Top.{top_of}
 use Rattle.clos_syntax.specs.declared.top.Top.{Top}
 use Rattle.clos_syntax.specs.declared.top.Top.TheVariants.{DefClass, DefGeneric, DefMethod, DefCombination, Defun, DefVar, RemoveMethod, AddDependent, RemoveDependent, InPackage, Expr}
-use Rattle.clos_definition_forms.specs.clos_world.Class.{named}
 use Rattle.clos_definition_forms.specs.clos_world.World.{State}
 use Rattle.clos_definition_forms.specs.clos_world.declared.condition.ConditionKind.TheVariants.{ProgramError, Unsupported}
 use Rattle.clos_definition_forms.specs.clos_machine.clos_meaning.Meaning.{evaluation}
@@ -22,7 +21,7 @@ room_of w = min w.limits.depth 4_000
 
 -- by the kind of the form; in-package does nothing, and gives NIL
 abbrev pub performed : Top → Run
-performed (DefClass d) w k = define_class d (named w.classes d.name) w k
+performed (DefClass d) w k = define_class d w k
 performed (DefGeneric d) w k = define_generic d w k
 performed (DefMethod name m) w k = define_method name m w k
 performed (DefCombination c) w k = define_combination c w k

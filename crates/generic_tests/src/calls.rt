@@ -7,7 +7,8 @@ use clos_forms::{FunctionName, Operator};
 use clos_generic::{GenericFault, Generics, Options, Positions};
 use clos_hierarchy::numbers;
 use clos_method::{
-    Arguments, Method, MethodBody, Qualifiers, Shape, Specializer, Specializers, SystemFunction,
+    Arguments, Method, MethodBody, Origin, Qualifiers, Shape, Specializer, Specializers,
+    SystemFunction,
 };
 use clos_syntax::CombinationUse;
 use lisp_data::{ClassId, Data, GenericId, MethodId, Name, Value};
@@ -36,7 +37,12 @@ fn options(alloc: Global) -> Result<Options, AllocError> {
     })
 }
 
-fn method(alloc: Global, generic: GenericId, specializer: Specializer) -> Result<Method, AllocError>
+fn method(
+    alloc: Global,
+    generic: GenericId,
+    origin: Origin,
+    specializer: Specializer,
+) -> Result<Method, AllocError>
     ensures { IfOk result (λ m. m.generic ≡ generic) }
 {
     let mut specializers = Specializers::new(alloc);
@@ -46,18 +52,19 @@ fn method(alloc: Global, generic: GenericId, specializer: Specializer) -> Result
         qualifiers: Qualifiers::new(alloc),
         specializers,
         shape: shape(),
-        initial: false,
+        origin,
         body: MethodBody::Reader(Name::fixed(&"X")),
     })
 }
 
-/// A function G with a method on INTEGER.
+/// A function G with a method on INTEGER, as an accessor has.
 fn begin(alloc: Global) -> Result<Generics, GenericFault> {
     let mut generics = Generics::new(alloc, 1, 2)?;
     let name = FunctionName::Symbol(Name::fixed(&"G"));
     let generic = generics.ensure(alloc, name, options(alloc)?)?;
     if generic.0 < generics.function_count() {
-        let method = method(alloc, generic, Specializer::Class(numbers::INTEGER))?;
+        let origin = Origin::Accessor(numbers::INTEGER);
+        let method = method(alloc, generic, origin, Specializer::Class(numbers::INTEGER))?;
         let _replaced = generics.add_method(generic, method)?;
     }
     Ok(generics)
@@ -66,7 +73,8 @@ fn begin(alloc: Global) -> Result<Generics, GenericFault> {
 /// One more method, on the object 3.
 fn add_eql(alloc: Global, generics: &mut Generics, generic: GenericId) -> Result<(), GenericFault> {
     if generic.0 < generics.function_count() {
-        let method = method(alloc, generic, Specializer::Eql(Value::Int(3)))?;
+        let three = Specializer::Eql(Value::Int(3));
+        let method = method(alloc, generic, Origin::Defmethod, three)?;
         let _replaced = generics.add_method(generic, method)?;
     }
     Ok(())
@@ -89,6 +97,16 @@ fn applicable(
         Some(first) => first.0,
     };
     Ok((first, order.len()))
+}
+
+/// The first of the accessors of INTEGER that are there, and how many they are.
+fn accessors(alloc: Global, generics: &Generics) -> Result<(u64, usize), AllocError> {
+    let there = generics.accessors_there(alloc, numbers::INTEGER)?;
+    let first = match there.first() {
+        None => 0,
+        Some(first) => first.0,
+    };
+    Ok((first, there.len()))
 }
 
 /// What the operator of the form is into which these methods are combined, and what the meter stands at after that.
@@ -144,6 +162,20 @@ fn methods_come_and_go(rt: HostRuntime) -> Result<(), Fail> {
     let removed = generics.remove_method(generic, MethodId(10));
     assert!(rt; removed.is_ok());
     assert_eq!(rt; applicable(rt.alloc(), &generics, generic, 3)?, (9, 1));
+    Ok(())
+}
+
+#[test]
+fn accessors_come_and_go(rt: HostRuntime) -> Result<(), Fail> {
+    let generic = GenericId(SystemFunction::COUNT);
+    let Ok(mut generics) = begin(rt.alloc()) else {
+        assert!(rt; false);
+        return Ok(());
+    };
+    assert_eq!(rt; accessors(rt.alloc(), &generics)?, (9, 1));
+    let removed = generics.remove_method(generic, MethodId(9));
+    assert!(rt; removed.is_ok());
+    assert_eq!(rt; accessors(rt.alloc(), &generics)?, (0, 0));
     Ok(())
 }
 

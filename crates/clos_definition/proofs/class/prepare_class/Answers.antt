@@ -3,7 +3,7 @@ use Rattle.std.proofs.lemmas.Result.{err_from_is_err_and}
 use Rattle.clos_world.specs.World.{seen}
 use Rattle.clos_definition.specs.Class.{class_refusal}
 use Rattle.clos_definition.specs.Refusal.{StopsFor}
-use Rattle.clos_definition.proofs.Classes.{none_stops, others_stop, reserve_stops}
+use Rattle.clos_definition.proofs.Classes.{effect_made, none_stops, others_stop, reserve_stops}
 use Rattle.clos_definition.proofs.class.prepare_class.Goals as goal
 
 pub returns-in_err-effect-clause-allows : goal.returns-in_err-effect-clause-allows
@@ -25,3 +25,8 @@ pub returns-clause-allows : goal.returns-clause-allows
 returns-clause-allows c =
     none_stops c.args.definition.now c.args.cells (seen c.args.world.now) c.in_ok-class.ensures.allows (seen c.reserve_class.new.world) c.args.cells
     c.in_ok-class.ensures.same refl c.in_ok-effect.ensures.allows
+
+pub returns-clause-effect : goal.returns-clause-effect
+returns-clause-effect c =
+    effect_made c.args.definition.now (seen c.args.world.now) (seen c.reserve_class.new.world) c.in_ok-effect.effect c.in_ok-class.ensures.same c.in_ok-effect.ensures.changes
+    c.in_ok-effect.ensures.methods

@@ -1,6 +1,7 @@
 use Rattle.std.proofs.Common.{◌≡◌, length}
 use Rattle.clos_method.specs.MethodIds.{method_numbers}
-use Rattle.clos_definition.specs.Generic.{initial_among, removing}
+use Rattle.clos_definition.specs.Effect.{removing}
+use Rattle.clos_definition.specs.Generic.{initial_among}
 use Rattle.clos_definition.proofs.generic.remove_initial.Given as goal
 
 abbrev pub invariant-loop-method : goal.invariant-loop-method

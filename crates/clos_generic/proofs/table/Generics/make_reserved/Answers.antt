@@ -42,4 +42,6 @@ invariant_of-self c =
           (spare c.note_function.new.symbols) (spare c.note_function.new.setters) c.self.invariant.2
           (first_there p w.spares.items c.in-Some.spare c.in-Some.ensures.found ∙ ap (λ x. c.in-Some.spare ∷ x) (sym c.in-Some.ensures.rest))
           c.push_reserved.ensures.len c.push_reserved.ensures.capacity c.push_reserved.ensures.items c.new.ensures.methods c.in-Ok.ensures.spare_symbols c.in-Ok.ensures.spare_setters,
+      c.self.invariant.3,
+      c.self.invariant.4,
     )

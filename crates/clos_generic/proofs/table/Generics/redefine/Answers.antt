@@ -17,4 +17,6 @@ invariant_of-self c =
           c.args.id.0 c.self.invariant.1 c.redefine_at.ensures.seen,
       ready_redefined w.functions c.redefine_at.new.functions (spare w.symbols) (spare w.setters) w.methods w.spares.items w.additions.items (λ s. same_function s.key c.args.name.now)
           c.take_spare.new.spares.items c.self.invariant.2 c.take_spare.ensures.rest c.redefine_at.ensures.len c.redefine_at.ensures.capacity c.redefine_at.ensures.rooms,
+      c.self.invariant.3,
+      c.self.invariant.4,
     )

@@ -19,6 +19,8 @@ invariant_of-self c =
           c.args.id.0 c.self.invariant.1 c.take_out_at.ensures.seen,
       ready_changed c.self.inside.functions c.take_out_at.new.functions (spare c.self.inside.symbols) (spare c.self.inside.setters) c.self.inside.methods c.self.inside.spares.items
           c.self.inside.additions.items c.self.inside.methods c.self.invariant.2 c.take_out_at.ensures.len c.take_out_at.ensures.capacity refl (omega arith) c.take_out_at.ensures.rooms,
+      c.self.invariant.3,
+      c.self.invariant.4,
     )
 
 pub returns-else-id-function_count : goal.returns-else-id-function_count

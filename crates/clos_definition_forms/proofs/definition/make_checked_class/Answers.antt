@@ -1,7 +1,7 @@
 use Rattle.std.proofs.Common.{◌≡◌, length, arith}
 use Rattle.clos_machine.specs.clos_world.World.{seen}
 use Rattle.clos_definition_forms.proofs.Defining.{class_is_made}
-use Rattle.clos_definition_forms.proofs.definition.make_new_class.Goals as goal
+use Rattle.clos_definition_forms.proofs.definition.make_checked_class.Goals as goal
 
 pub returns-in-Ok : goal.returns-in-Ok
 returns-in-Ok c =

@@ -1,0 +1,36 @@
+; 8,000 updates of instances: their class is defined again eight times, and each of its 1,000 instances is read after each.
+(defclass point ()
+  ((x :initform 1 :accessor x)))
+
+(defvar *points* '())
+
+(dotimes (i 1000)
+  (setq *points* (cons (make-instance 'point) *points*)))
+
+(defun total ()
+  (let ((sum 0) (left *points*))
+    (dotimes (i 1000)
+      (setq sum (+ sum (x (car left))))
+      (setq left (cdr left)))
+    sum))
+
+(defun show ()
+  (princ (total))
+  (terpri))
+
+(defclass point () ((x :initform 1 :accessor x) (y :initform 2)))
+(show)
+(defclass point () ((x :initform 1 :accessor x)))
+(show)
+(defclass point () ((x :initform 1 :accessor x) (y :initform 3)))
+(show)
+(defclass point () ((x :initform 1 :accessor x)))
+(show)
+(defclass point () ((x :initform 1 :accessor x) (y :initform 4)))
+(show)
+(defclass point () ((x :initform 1 :accessor x)))
+(show)
+(defclass point () ((x :initform 1 :accessor x) (y :initform 5)))
+(show)
+(defclass point () ((x :initform 1 :accessor x)))
+(show)
