@@ -4,14 +4,13 @@ use Rattle.std.specs.Prelude.{cond, is_some, nat_lt, option_copied, replicate, s
 use Rattle.std.proofs.lemmas.List.{length-set}
 use Rattle.std.proofs.lemmas.Option.{slice_get_within}
 use Rattle.lisp_data.specs.Name.{Name}
-use Rattle.lisp_data.specs.declared.ids.CellId.{CellId}
 use Rattle.clos_syntax.specs.declared.class.ClassDefinition.{ClassDefinition}
 use Rattle.clos_hierarchy.specs.Classes.{Classes}
 use Rattle.clos_hierarchy.specs.Table.{Table as NameTable}
 use Rattle.clos_class.specs.declared.direct.ClassSlots.{ClassSlots}
 use Rattle.clos_class.specs.inner.Keeping.{Kept, Tells, TellsAll, kept_at, len_with, lists_of}
 use Rattle.clos_class.specs.SlotsView.{defaults, direct_slots}
-use Rattle.clos_class.specs.Table.{Table, cell_for, classes_with, list_with, new_cells, number, own_cell, said, with_definition, with_row}
+use Rattle.clos_class.specs.Table.{Table, classes_with, list_with, number, said_from, with_definition, with_row}
 use Rattle.clos_class.proofs.Lasting.{all_kept}
 use Rattle.clos_class.proofs.Preparing.{so_many}
 
@@ -75,15 +74,15 @@ stands t now to d rows seen old new n row ks l e h s o w m k =
       subst (λ v. TellsAll new (lists_of v) ks) c (subst (λ v. TellsAll v (lists_of (classes_with t d)) ks) q k),
     )
 
-abbrev pub said_with : List ClassSlots → NameTable → ClassDefinition → List CellId → ClassSlots
-said_with rows t d cells = said (cell_for (own_cell rows (number t d)) (new_cells rows (number t d) (list_with t d) d) cells) d
+abbrev pub said_with : List ClassSlots → NameTable → ClassDefinition → ℕ → ClassSlots
+said_with rows t d first = said_from rows (number t d) (list_with t d) d first
 
-pub made : (t now to : NameTable) (d : ClassDefinition) (rows seen old new : List ClassSlots) (n : ℕ) (row : ClassSlots) (cells : List CellId) → now ≡ t → to ≡ record now { classes = classes_with now d }
-    → seen ≡ rows → old ≡ rows → new ≡ with_row old n row → n ≡ number now d → row ≡ said_with seen t d cells
-    → ◌≡◌ {A = Table} (record { table = to; slots = new }) (with_definition (record { table = t; slots = rows }) d cells)
-made t now to d rows seen old new n row cells e h s o w m k =
+pub made : (t now to : NameTable) (d : ClassDefinition) (rows seen old new : List ClassSlots) (n : ℕ) (row : ClassSlots) (first : ℕ) → now ≡ t → to ≡ record now { classes = classes_with now d }
+    → seen ≡ rows → old ≡ rows → new ≡ with_row old n row → n ≡ number now d → row ≡ said_with seen t d first
+    → ◌≡◌ {A = Table} (record { table = to; slots = new }) (with_definition (record { table = t; slots = rows }) d first)
+made t now to d rows seen old new n row first e h s o w m k =
     let a : n ≡ number t d = m ∙ ap (λ v. number v d) e in
     let p : to ≡ record t { classes = classes_with t d } = h ∙ ap {A = NameTable} {B = NameTable} (λ (v : NameTable). record v { classes = classes_with v d }) e in
-    let q : new ≡ with_row rows (number t d) (said_with rows t d cells) =
-    w ∙ ap (λ v. with_row v n row) o ∙ ap (λ i. with_row rows i row) a ∙ ap (with_row rows (number t d)) (k ∙ ap (λ v. said_with v t d cells) s) in
+    let q : new ≡ with_row rows (number t d) (said_with rows t d first) =
+    w ∙ ap (λ v. with_row v n row) o ∙ ap (λ i. with_row rows i row) a ∙ ap (with_row rows (number t d)) (k ∙ ap (λ v. said_with v t d first) s) in
     λ i. record { table = p i; slots = q i }

@@ -79,7 +79,7 @@ abbrev start : Table
 start = record { table = record { classes = record { names = standard ∷ []; above = [] ∷ [] }; predefined = 1; limit = 9 }; slots = says_nothing ∷ [] }
 
 abbrev counted : Table
-counted = with_definition start (counter (slot (codes "N") Instance ∷ slot (codes "COUNT") Class ∷ slot (codes "SUM") Class ∷ [])) (cell 7 ∷ cell 8 ∷ [])
+counted = with_definition start (counter (slot (codes "N") Instance ∷ slot (codes "COUNT") Class ∷ slot (codes "SUM") Class ∷ [])) 7
 
 first_cells : (layout_of (direct_slots counted.slots) (1 ∷ 0 ∷ [])).shared ≡ (called (codes "COUNT"), cell 7) ∷ (called (codes "SUM"), cell 8) ∷ []
 first_cells = refl
@@ -91,9 +91,9 @@ again = counter (slot (codes "MAX") Class ∷ slot (codes "SUM") Class ∷ [])
 one_more : new_cells counted.slots 1 (1 ∷ 0 ∷ []) again ≡ called (codes "MAX") ∷ []
 one_more = refl
 
-kept_cell : (layout_of (direct_slots (with_definition counted again (cell 9 ∷ [])).slots) (1 ∷ 0 ∷ [])).shared ≡ (called (codes "MAX"), cell 9) ∷ (called (codes "SUM"), cell 8) ∷ []
+kept_cell : (layout_of (direct_slots (with_definition counted again 9).slots) (1 ∷ 0 ∷ [])).shared ≡ (called (codes "MAX"), cell 9) ∷ (called (codes "SUM"), cell 8) ∷ []
 kept_cell = refl
 
 -- a shared slot that comes back
-back : new_cells (with_definition counted again (cell 9 ∷ [])).slots 1 (1 ∷ 0 ∷ []) (counter (slot (codes "COUNT") Class ∷ [])) ≡ called (codes "COUNT") ∷ []
+back : new_cells (with_definition counted again 9).slots 1 (1 ∷ 0 ∷ []) (counter (slot (codes "COUNT") Class ∷ [])) ≡ called (codes "COUNT") ∷ []
 back = refl

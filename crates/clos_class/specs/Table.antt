@@ -1,5 +1,5 @@
 -- A session's classes with what they say of slots, and how one more is defined (HyperSpec 7.5.3, 7.7 defclass).
-use Rattle.std.specs.Prelude.{ℕ, nat_lt, Bool, true, false, not, ◌&&◌, List, [], ◌∷◌, ◌++◌, Option, Some, None, is_some, map, unwrap_or, length, position, replicate, slice_get, slice_set, if◌then◌else◌}
+use Rattle.std.specs.Prelude.{ℕ, zero, suc, ◌+◌, nat_lt, Bool, true, false, not, ◌&&◌, List, [], ◌∷◌, ◌++◌, Option, Some, None, is_some, map, unwrap_or, length, position, replicate, slice_get, slice_set, if◌then◌else◌}
 use Rattle.std.specs.List.{filter, list_any}
 use Rattle.std.specs.Option.{option_or}
 use Rattle.lisp_data.specs.Name.{Name, same_name}
@@ -88,11 +88,21 @@ needs_cell own ss name = list_any (λ s. same_name name s.name && (is_shared s.a
 abbrev pub new_cells : List ClassSlots → ℕ → List ℕ → ClassDefinition → List Name
 new_cells rows n l d = filter (needs_cell (own_cell rows n) d.slots) (accessible (direct_slots (rows_with rows n d [] [])) l)
 
--- A shared slot keeps its cell. The new cells are handed out in layout order.
-abbrev pub with_definition : Table → ClassDefinition → List CellId → Table
-with_definition t d cells = record {
+-- so many cells, numbered from this one on
+abbrev pub cells_from : ℕ → ℕ → List CellId
+cells_from first zero = []
+cells_from first (suc n) = cells_from first n ++ (record { 0 = first + n }) ∷ []
+
+-- what a class with this class precedence list says: a shared slot keeps its cell, and the new cells are numbered from this one on, in
+-- layout order
+abbrev pub said_from : List ClassSlots → ℕ → List ℕ → ClassDefinition → ℕ → ClassSlots
+said_from rows n l d first = said (cell_for (own_cell rows n) (new_cells rows n l d) (cells_from first (length (new_cells rows n l d)))) d
+
+-- the classes after this definition, whose new cells are numbered from this one on
+abbrev pub with_definition : Table → ClassDefinition → ℕ → Table
+with_definition t d first = record {
   table = record t.table { classes = classes_with t.table d };
-  slots = rows_with t.slots (number t.table d) d (new_cells t.slots (number t.table d) (list_with t.table d) d) cells;
+  slots = with_row t.slots (number t.table d) (said_from t.slots (number t.table d) (list_with t.table d) d first);
 }
 
 -- ---- what is told before it is defined

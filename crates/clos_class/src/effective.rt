@@ -20,7 +20,7 @@ use std::rc::Rc;
 
 /// The layout of a class, its slots, whose places are found by their names, and its default initargs.
 pub struct Effective {
-    layout: Rc<Layout>,
+    layout: Layout,
     names: NameSet,
     slots: Sequence<EffectiveSlot>,
     defaults: Sequence<DefaultInitarg>,
@@ -47,15 +47,15 @@ impl Model for Effective {
 
     ghost coded = { Prim.hlevel (codes, form.the_row.coded) };
 
-    ghost view = { λ a. record { layout = a.layout.value; slots = a.slots; defaults = a.defaults } };
+    ghost view = { λ a. record { layout = a.layout; slots = a.slots; defaults = a.defaults } };
 
     ghost invariant = { λ a. a.names ≡ map (λ s. s.name) a.slots };
 }
 
 impl Effective {
     /// The layout of its instances.
-    pub fn layout(&self) -> &Rc<Layout>
-        ensures { result.now.value ≡ self.now.layout }
+    pub fn layout(&self) -> &Layout
+        ensures { result.now ≡ self.now.layout }
     {
         &self.layout
     }
@@ -99,7 +99,6 @@ pub fn find_effective(
     let specified = Specified::find(alloc, classes, list)?;
     let names = accessible(alloc, classes, list)?;
     let layout = layout_of(alloc, &specified.allocations, names.as_slice())?;
-    let layout = Rc::new(alloc, layout)?;
     let slots = specified.slots(alloc, names.as_slice())?;
     let defaults = default_initargs(alloc, classes, list)?;
     let effective = Effective {

@@ -14,20 +14,35 @@ use lisp_data::{CellId, Name};
 use std::alloc::{AllocError, Global};
 use std::collections::HashMap;
 use std::marker::Model;
+use std::rc::Rc;
 
-/// The local slots of instances, and the shared ones with their cells. Contracts see both as lists.
-pub struct Layout {
+/// The names of local slots, and those of shared ones with their cells. Contracts see both as lists.
+struct SlotPlaces {
     locals: NameSet,
     shared: IndexMap<Name, CellId>,
 }
 
-impl Drop for Layout {
+impl Drop for SlotPlaces {
     fn drop(self) {
-        let Layout {
+        let SlotPlaces {
             locals: _,
             shared: _,
         } = self;
     }
+}
+
+impl Model for SlotPlaces {
+    ghost use Rattle.clos_class.specs.Slots.{Layout as Slots};
+
+    ghost Value = { Slots };
+
+    ghost view = { λ a. record { locals = a.locals; shared = a.shared.entries } };
+}
+
+/// The local slots of instances, and the shared ones with their cells. A class shares it with its instances.
+#[derive(Drop)]
+pub struct Layout {
+    slots: Rc<SlotPlaces>,
 }
 
 impl Model for Layout {
@@ -35,7 +50,7 @@ impl Model for Layout {
 
     ghost Value = { Slots };
 
-    ghost view = { λ a. record { locals = a.locals; shared = a.shared.entries } };
+    ghost view = { λ a. a.slots.value };
 }
 
 /// Whether both are the same names in the same order.
@@ -70,76 +85,15 @@ fn same_cell(cell: Option<CellId>, other: Option<CellId>) -> bool
     }
 }
 
-impl Layout {
+impl SlotPlaces {
     /// No slots.
-    fn new(alloc: Global) -> Layout
+    fn new(alloc: Global) -> SlotPlaces
         ensures { result ≡ no_slots }
     {
-        Layout {
+        SlotPlaces {
             locals: NameSet::new(alloc),
             shared: IndexMap::new(alloc),
         }
-    }
-
-    /// The names of the local slots, in the order in which instances have them.
-    pub fn locals(&self) -> &NameSet
-        ensures { result.now ≡ self.now.locals }
-    {
-        &self.locals
-    }
-
-    /// How many local slots there are.
-    pub fn len(&self) -> usize
-        ensures { result ≡ length self.now.locals }
-    {
-        self.locals.len()
-    }
-
-    /// The name of the local slot at this place.
-    pub fn name(&self, place: usize) -> Option<&Name>
-        ensures { option_copied result ≡ slice_get self.now.locals place }
-    {
-        self.locals.name(place)
-    }
-
-    /// The place of the local slot of this name.
-    pub fn place_of(&self, name: &Name) -> Option<usize>
-        ensures { result ≡ position (same_name name.now) self.now.locals }
-    {
-        self.locals.place_of(name)
-    }
-
-    /// The shared slot at this place, with its cell.
-    pub fn shared(&self, place: usize) -> Option<(&Name, &CellId)>
-        ensures { option_map (λ s. (s.0.now, s.1.now)) result ≡ slice_get self.now.shared place }
-    {
-        self.shared.get_index(place)
-    }
-
-    /// The cell of the shared slot of this name.
-    pub fn cell(&self, name: &Name) -> Option<CellId>
-        ensures { result ≡ lookup (same_name name.now) self.now.shared }
-    {
-        self.shared.get(name).copied()
-    }
-
-    /// Whether these names have the same cells in both, or none.
-    fn agrees(&self, other: &Layout, names: &[Name]) -> bool
-        ensures { result ≡ list_all (agrees_on self.now.shared other.now.shared) names.now }
-    {
-        names
-            .iter()
-            .all(|name| same_cell(self.cell(name), other.cell(name)))
-    }
-
-    /// Whether both are one layout: the same local slots in the same order, and the same shared slots with the same
-    /// cells, in any order (HyperSpec 4.3.6).
-    pub fn is_same(&self, other: &Layout) -> bool
-        ensures { result ≡ same_layout self.now other.now }
-    {
-        same_names(self.locals.as_slice(), other.locals.as_slice())
-            && self.agrees(other, self.shared.keys().as_slice())
-            && self.agrees(other, other.shared.keys().as_slice())
     }
 
     /// Adds a slot at the end, unless it is there.
@@ -160,6 +114,78 @@ impl Layout {
     }
 }
 
+impl Layout {
+    /// The same, in a few steps however many slots there are.
+    pub fn copy(&self) -> Result<Layout, AllocError>
+        ensures { IfOk result (λ r. r ≡ self.now) }
+    {
+        Ok(Layout {
+            slots: self.slots.clone()?,
+        })
+    }
+
+    /// The names of the local slots, in the order in which instances have them.
+    pub fn locals(&self) -> &NameSet
+        ensures { result.now ≡ self.now.locals }
+    {
+        &self.slots.locals
+    }
+
+    /// How many local slots there are.
+    pub fn len(&self) -> usize
+        ensures { result ≡ length self.now.locals }
+    {
+        self.slots.locals.len()
+    }
+
+    /// The name of the local slot at this place.
+    pub fn name(&self, place: usize) -> Option<&Name>
+        ensures { option_copied result ≡ slice_get self.now.locals place }
+    {
+        self.slots.locals.name(place)
+    }
+
+    /// The place of the local slot of this name.
+    pub fn place_of(&self, name: &Name) -> Option<usize>
+        ensures { result ≡ position (same_name name.now) self.now.locals }
+    {
+        self.slots.locals.place_of(name)
+    }
+
+    /// The shared slot at this place, with its cell.
+    pub fn shared(&self, place: usize) -> Option<(&Name, &CellId)>
+        ensures { option_map (λ s. (s.0.now, s.1.now)) result ≡ slice_get self.now.shared place }
+    {
+        self.slots.shared.get_index(place)
+    }
+
+    /// The cell of the shared slot of this name.
+    pub fn cell(&self, name: &Name) -> Option<CellId>
+        ensures { result ≡ lookup (same_name name.now) self.now.shared }
+    {
+        self.slots.shared.get(name).copied()
+    }
+
+    /// Whether these names have the same cells in both, or none.
+    fn agrees(&self, other: &Layout, names: &[Name]) -> bool
+        ensures { result ≡ list_all (agrees_on self.now.shared other.now.shared) names.now }
+    {
+        names
+            .iter()
+            .all(|name| same_cell(self.cell(name), other.cell(name)))
+    }
+
+    /// Whether both are one layout: the same local slots in the same order, and the same shared slots with the same
+    /// cells, in any order (HyperSpec 4.3.6).
+    pub fn is_same(&self, other: &Layout) -> bool
+        ensures { result ≡ same_layout self.now other.now }
+    {
+        same_names(self.locals().as_slice(), other.locals().as_slice())
+            && self.agrees(other, self.slots.shared.keys().as_slice())
+            && self.agrees(other, other.slots.shared.keys().as_slice())
+    }
+}
+
 /// The layout of slots that have these names in layout order, and these allocations.
 pub fn layout_of(
     alloc: Global,
@@ -168,11 +194,24 @@ pub fn layout_of(
 ) -> Result<Layout, AllocError>
     ensures { IfOk result (λ r. r ≡ with_slots (λ n. get same_name allocations.now n) no_slots names.now) }
 {
-    let mut layout = Layout::new(alloc);
+    let slots = placed(alloc, allocations, names)?;
+    Ok(Layout {
+        slots: Rc::new(alloc, slots)?,
+    })
+}
+
+fn placed(
+    alloc: Global,
+    allocations: &HashMap<Name, SlotAllocation>,
+    names: &[Name],
+) -> Result<SlotPlaces, AllocError>
+    ensures { IfOk result (λ r. r ≡ with_slots (λ n. get same_name allocations.now n) no_slots names.now) }
+{
+    let mut slots = SlotPlaces::new(alloc);
     let mut left = names;
     while let Some((name, others)) = left.split_first() {
-        layout.add(name, allocations.get(name).copied())?;
+        slots.add(name, allocations.get(name).copied())?;
         left = others;
     }
-    Ok(layout)
+    Ok(slots)
 }

@@ -9,7 +9,7 @@ ghost use Rattle.clos_hierarchy.specs.TableView.{Refuses};
 ghost use Rattle.clos_class.specs.inner.Keeping.{TellsAll, lists_of};
 ghost use Rattle.clos_class.specs.Slots.{initform};
 ghost use Rattle.clos_class.specs.SlotsView.{slots_in};
-ghost use Rattle.clos_class.specs.Table.{cell_for, cells_to_make, classes_with, list_with, new_cells, number, own_cell, refusal, said, with_row};
+ghost use Rattle.clos_class.specs.Table.{cells_from, cells_to_make, classes_with, list_with, number, refusal, said_from, with_row};
 
 use crate::cells::Cells;
 use crate::definition::{has_shared_slots, is_unambiguous};
@@ -105,20 +105,35 @@ pub fn cells_to_make(
     Ok(found)
 }
 
-/// What a definition says of slots, where the new cells are these.
+/// So many cells, numbered from this one on. There is no memory for more cells than there are numbers.
+fn cells_from(alloc: Global, first: CellId, count: usize) -> Result<Vec<CellId>, AllocError>
+    ensures { IfOk result (λ r. r.items ≡ cells_from first.0 count) }
+{
+    let mut cells = Vec::new(alloc);
+    for place in 0..count {
+        let Some(number) = first.0.checked_add(place as u64) else {
+            return Err(AllocError);
+        };
+        cells.push(CellId(number))?;
+    }
+    Ok(cells)
+}
+
+/// What a definition says of slots, where the new cells are numbered from this one on.
 fn find_said(
     alloc: Global,
     rows: &[ClassSlots],
     class: ClassId,
     list: &[ClassId],
     definition: &ClassDefinition,
-    cells: &[CellId],
+    first: CellId,
 ) -> Result<ClassSlots, AllocError>
     requires { class.0 ≤ length rows.now }
-    ensures { IfOk result (λ r. r ≡ said (cell_for (own_cell rows.now class.0) (new_cells rows.now class.0 (numbers list.now) definition.now) cells.now) definition.now) }
+    ensures { IfOk result (λ r. r ≡ said_from rows.now class.0 (numbers list.now) definition.now first.0) }
 {
     let found = Cells::find(alloc, rows, class, list, definition)?;
-    let said = found.said(alloc, definition, cells)?;
+    let cells = cells_from(alloc, first, found.new.len())?;
+    let said = found.said(alloc, definition, &cells)?;
     Ok(said)
 }
 
@@ -129,19 +144,20 @@ pub struct Prepared {
     pub kept: Vec<Option<Rc<Effective>>>,
 }
 
-/// What stands in the table once a class is defined, or the fault that its definition meets.
+/// What stands in the table once a class is defined, whose new cells are numbered from this one on, or the fault that its
+/// definition meets.
 pub fn prepare(
     alloc: Global,
     table: &mut Hierarchy,
     rows: &[ClassSlots],
     kept: &[Option<Rc<Effective>>],
     definition: &ClassDefinition,
-    cells: &[CellId],
+    first: CellId,
 ) -> Result<Prepared, ClassFault>
     requires rows { length rows.now ≡ length table.old.classes.names }
     requires kept { TellsAll rows.now (lists_of table.old.classes) kept.now }
     ensures ok { OnOk result (refusal table.old definition.now ≡ None) }
-    ensures said { IfOk result (λ r. r.said ≡ said (cell_for (own_cell rows.now (number table.old definition.now)) (new_cells rows.now (number table.old definition.now) (list_with table.old definition.now) definition.now) cells.now) definition.now) }
+    ensures said { IfOk result (λ r. r.said ≡ said_from rows.now (number table.old definition.now) (list_with table.old definition.now) definition.now first.0) }
     ensures kept { IfOk result (λ r. TellsAll (with_row rows.now (number table.old definition.now) r.said) (lists_of (classes_with table.old definition.now)) r.kept.items) }
     ensures fault { IfErr result (λ e. Refuses e (refusal table.old definition.now)) }
     ensures same { table.new ≡ table.old }
@@ -149,7 +165,7 @@ pub fn prepare(
     let preview = check(alloc, table, definition)?;
     let class = preview.class();
     let list = preview.precedence_or_none(class);
-    let said = find_said(alloc, rows, class, list, definition, cells)?;
+    let said = find_said(alloc, rows, class, list, definition, first)?;
     let kept = keep_then(alloc, table, rows, kept, &preview, &said)?;
     Ok(Prepared { said, kept })
 }

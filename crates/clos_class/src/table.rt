@@ -128,15 +128,15 @@ impl Classes {
         Ok(Reserved { class, cells })
     }
 
-    /// Defines a class, or defines it again. These are the cells of the slots that need new ones, in the order that
-    /// `reserve` tells.
+    /// Defines a class, or defines it again. The cells of the slots that need new ones are numbered from this one on, in
+    /// the order that `reserve` tells.
     pub fn define(
         &mut self,
         alloc: Global,
         definition: &ClassDefinition,
-        cells: &[CellId],
+        first: CellId,
     ) -> Result<Changed, ClassFault>
-        ensures ok { OnOk result ((refusal self.old.table definition.now ≡ None) × (self.new ≡ with_definition self.old definition.now cells.now)) }
+        ensures ok { OnOk result ((refusal self.old.table definition.now ≡ None) × (self.new ≡ with_definition self.old definition.now first.0)) }
         ensures class { IfOk result (λ r. r.class.0 ≡ number self.old.table definition.now) }
         ensures changed { IfOk result (λ r. numbers r.lists.items ≡ changed self.old.table.classes self.new.table.classes) }
         ensures err { OnErr result (self.new ≡ self.old) }
@@ -148,7 +148,7 @@ impl Classes {
             &self.rows,
             &self.kept,
             definition,
-            cells,
+            first,
         )?;
         self.rows.reserve(1)?;
         let changed = define_name(alloc, &mut self.table, definition)?;
@@ -183,8 +183,8 @@ impl Classes {
     }
 
     /// The layout of a class's instances, if it has a class precedence list.
-    pub fn layout(&self, class: ClassId) -> Option<&Rc<Layout>>
-        ensures { option_map (λ l. l.now.value) result ≡ option_map (layout_of (direct_slots self.now.slots)) (list_if (listing self.now.table.classes class.0)) }
+    pub fn layout(&self, class: ClassId) -> Option<&Layout>
+        ensures { option_copied result ≡ option_map (layout_of (direct_slots self.now.slots)) (list_if (listing self.now.table.classes class.0)) }
     {
         match self.effective(class) {
             None => None,

@@ -1,9 +1,7 @@
--- A class that is made, with its cells.
-use Rattle.std.proofs.Common.{◌≡◌, ℕ, List, Option, Some, None, length, refl, ap, sym, ◌∙◌, subst}
+-- Why a class is refused, and what is made of its accessors.
+use Rattle.std.proofs.Common.{◌≡◌, ℕ, Bool, true, false, Option, Some, None, refl, ap, sym, ◌∙◌, subst}
 use Rattle.std.specs.Prelude.{not, option_map}
-use Rattle.lisp_data.specs.Value.{Val}
-use Rattle.lisp_data.specs.declared.ids.CellId.{CellId}
-use Rattle.clos_class.specs.Table.{Table, refusal, with_definition}
+use Rattle.clos_class.specs.Table.{refusal}
 use Rattle.clos_forms.specs.declared.operator.FunctionName.TheVariants.{Symbol}
 use Rattle.clos_generic.specs.Changes.{Changes}
 use Rattle.clos_world.specs.declared.condition.Condition.{Condition}
@@ -11,18 +9,12 @@ use Rattle.clos_world.specs.declared.condition.Stop.{Stop}
 use Rattle.clos_world.specs.declared.condition.Stop.TheVariants.{Refused, Storage}
 use Rattle.clos_definition.specs.Accessor.{accessors_of, accessors_refusal}
 use Rattle.clos_definition.specs.Refusal.{StopsFor, or_else, table_full, table_refusal, when}
-use Rattle.clos_store.specs.Store.{Contents, cells_from, has_room_for, with_cells}
+use Rattle.clos_store.specs.Store.{has_room_for}
 use Rattle.clos_syntax.specs.declared.class.ClassDefinition.{ClassDefinition}
 use Rattle.clos_world.specs.World.{State}
-use Rattle.clos_definition.specs.Class.{class_changes, class_functions, class_methods, class_number, class_refusal, class_removals, condition_for, others_refusal, with_accessors, with_class}
+use Rattle.clos_definition.specs.Class.{class_changes, class_functions, class_methods, class_number, class_refusal, class_removals, condition_for, others_refusal, with_accessors}
 use Rattle.clos_definition.specs.Effect.{changed, with_effect}
 use Rattle.clos_definition.specs.declared.effect.Effect.{Effect}
-
-pub made : (d : ClassDefinition) (vs : List (Option Val)) (w : State) (ids : List CellId) (t : Table) (st : Contents) → t ≡ with_definition w.classes d ids
-    → ids ≡ cells_from (length w.store.cells) (length vs) → st ≡ with_cells vs w.store → record w { classes = t; store = st } ≡ with_class d vs w
-made d vs w ids t st e h g =
-    ap (λ x. record w { classes = x; store = st }) (e ∙ ap (λ x. with_definition w.classes d x) h)
-    ∙ ap (λ x. record w { classes = with_definition w.classes d (cells_from (length w.store.cells) (length vs)); store = x }) g
 
 -- An effect that was found in a state that is the same is that of the accessors.
 pub effect_made : (d : ClassDefinition) (w u : State) (e : Effect) → u ≡ w → e.changes ≡ class_changes d u → e.methods.items ≡ class_methods d u → with_effect e w ≡ with_accessors d w
@@ -107,3 +99,24 @@ reserve_stops d n w cs p stop a e h =
     (of_second (accessors_refusal (class_number d w) (class_functions d w) (accessors_of d.slots) w)
     (or_else (table_refusal (Symbol d.name) (class_changes d w) w) (when (not (has_room_for n w.store)) table_full)) a))
     (subst (λ x. StopsFor (table_refusal (Symbol d.name) x w) stop) e h)
+
+-- ---- what is allowed
+
+no_refusal : {A : Type 0} (f : A → Condition) (o : Option A) → option_map f o ≡ None → o ≡ None
+no_refusal f None h = refl
+no_refusal f (Some e) h = absurd (cc h)
+
+has_room : (b : Bool) → when (not b) table_full ≡ None → b ≡ true
+has_room true h = refl
+has_room false h = absurd (cc h)
+
+-- the table of classes allows it, and there is room for its cells
+pub allowed : (d : ClassDefinition) (n : ℕ) (w : State) → class_refusal d n w ≡ None → (refusal w.classes.table d ≡ None) × (has_room_for n w.store ≡ true)
+allowed d n w h = (
+  no_refusal (condition_for d.name) (refusal w.classes.table d) (of_first (option_map (condition_for d.name) (refusal w.classes.table d)) (others_refusal d n w) h),
+  has_room (has_room_for n w.store)
+      (of_second (table_refusal (Symbol d.name) (class_changes d w) w) (when (not (has_room_for n w.store)) table_full)
+      (of_second (accessors_refusal (class_number d w) (class_functions d w) (accessors_of d.slots) w)
+      (or_else (table_refusal (Symbol d.name) (class_changes d w) w) (when (not (has_room_for n w.store)) table_full))
+      (of_second (option_map (condition_for d.name) (refusal w.classes.table d)) (others_refusal d n w) h))),
+)

@@ -8,7 +8,7 @@ use Rattle.clos_hierarchy.specs.Table.{Refusal, program_error, table_limit, inva
 use Rattle.clos_forms.specs.Form.{Form}
 use Rattle.clos_forms.specs.Quotation.{name_value}
 use Rattle.clos_forms.specs.declared.operator.FunctionName.TheVariants.{Symbol}
-use Rattle.clos_store.specs.Store.{cells_from, has_room_for, with_cells}
+use Rattle.clos_store.specs.Store.{has_room_for, with_cells}
 use Rattle.clos_syntax.specs.declared.class.ClassDefinition.{ClassDefinition}
 use Rattle.clos_generic.specs.Changes.{Changes}
 use Rattle.clos_generic.specs.declared.changes.Definition.{Definition}
@@ -74,7 +74,7 @@ class_refusal d cells w = or_else (option_map (condition_for d.name) (refusal w.
 -- with the class, whose new cells have these values
 abbrev pub with_class : ClassDefinition → List (Option Val) → State → State
 with_class d values w = record w {
-  classes = with_definition w.classes d (cells_from (length w.store.cells) (length values));
+  classes = with_definition w.classes d (length w.store.cells);
   store = with_cells values w.store;
 }
 

@@ -1,10 +1,10 @@
 //! Classes that are defined: what a `defclass` does.
-ghost use Rattle.std.specs.Prelude.{◌≡◌, ◌≤◌, IfOk, IfErr, Option, OnOk, OnErr, Some, length, not, option_map};
+ghost use Rattle.std.specs.Prelude.{◌≡◌, IfOk, IfErr, None, Option, OnOk, OnErr, Some, length, not, option_map};
 ghost use Rattle.clos_class.specs.Table.{refusal};
 ghost use Rattle.clos_hierarchy.specs.Table.{Refusal};
 ghost use Rattle.clos_hierarchy.specs.TableView.{Refuses};
 ghost use Rattle.clos_forms.specs.declared.operator.FunctionName.TheVariants.{Symbol};
-ghost use Rattle.clos_store.specs.Store.{cells_from, has_room_for};
+ghost use Rattle.clos_store.specs.Store.{has_room_for};
 ghost use Rattle.clos_world.specs.World.{seen};
 ghost use Rattle.clos_world.specs.declared.condition.Stop.TheVariants.{Storage};
 ghost use Rattle.clos_definition.specs.Accessor.{accessors_of, accessors_refusal};
@@ -19,7 +19,7 @@ use clos_forms::FunctionName;
 use clos_store::Slot;
 use clos_syntax::ClassDefinition;
 use clos_world::{Condition, ConditionKind, Stop, World, about_name, about_names, plain};
-use lisp_data::{CellId, ClassId, Name};
+use lisp_data::{ClassId, Name};
 use std::alloc::{AllocError, Global};
 
 /// Whether a class may be defined, and with what number and which new cells.
@@ -75,11 +75,12 @@ pub fn make_class(
     values: Vec<Slot>,
     effect: Effect,
 ) -> Result<(), AllocError>
-    requires { IsReserved effect world.old.generics }
+    requires allowed { class_refusal definition.now (length values.items) (seen world.old) ≡ None }
+    requires reserved { IsReserved effect world.old.generics }
     ensures ok { OnOk result (seen world.new ≡ with_class definition.now values.items (with_effect effect (seen world.old))) }
     ensures err { OnErr result (seen world.new ≡ seen world.old) }
 {
-    define_with_cells(alloc, world, definition, values)?;
+    world.objects.define(alloc, definition, values)?;
     make(world, effect);
     Ok(())
 }
@@ -95,7 +96,7 @@ fn reserve_class(
     ensures cells { IfOk result (λ r. r.cells ≡ cells_needed definition.now (seen world.old)) }
     ensures same { seen world.new ≡ seen world.old }
 {
-    match world.classes.reserve(alloc, definition) {
+    match world.objects.reserve_class(alloc, definition) {
         Ok(reserved) => Ok(reserved),
         Err(fault) => Err(stop_for(alloc, &definition.name, fault)),
     }
@@ -167,55 +168,10 @@ fn reserve_effect(
 fn check_room(alloc: Global, world: &World, cells: u64) -> Result<(), Stop>
     ensures { Allows (when (not (has_room_for cells (seen world.now).store)) table_full) result }
 {
-    if !world.store.has_room_for(cells) {
+    if !world.store().has_room_for(cells) {
         return Err(Stop::Refused(plain(alloc, ConditionKind::TableLimit)));
     }
     Ok(())
-}
-
-/// Makes a class, whose new cells have these values.
-fn define_with_cells(
-    alloc: Global,
-    world: &mut World,
-    definition: &ClassDefinition,
-    values: Vec<Slot>,
-) -> Result<(), AllocError>
-    ensures ok { OnOk result (seen world.new ≡ with_class definition.now values.items (seen world.old)) }
-    ensures err { OnErr result (seen world.new ≡ seen world.old) }
-    ensures generics { world.new.generics ≡ world.old.generics }
-{
-    match world.store.reserve(values.len() as u64) {
-        Err(_) => Err(AllocError),
-        Ok(()) => define_in_reserved(alloc, world, definition, values),
-    }
-}
-
-/// The same where the cells are reserved.
-fn define_in_reserved(
-    alloc: Global,
-    world: &mut World,
-    definition: &ClassDefinition,
-    values: Vec<Slot>,
-) -> Result<(), AllocError>
-    requires { length values.items ≤ world.old.store.reserved }
-    ensures ok { OnOk result (seen world.new ≡ with_class definition.now values.items (seen world.old)) }
-    ensures err { OnErr result (seen world.new ≡ seen world.old) }
-    ensures generics { world.new.generics ≡ world.old.generics }
-{
-    let cells = numbers_for(alloc, world, &values)?;
-    let Ok(_) = world.classes.define(alloc, definition, &cells) else {
-        return Err(AllocError);
-    };
-    world.store.new_cells(values);
-    Ok(())
-}
-
-/// The numbers that these cells will have, which are reserved.
-fn numbers_for(alloc: Global, world: &World, values: &[Slot]) -> Result<Vec<CellId>, AllocError>
-    requires { length values.now ≤ world.now.store.reserved }
-    ensures { IfOk result (λ r. r.items ≡ cells_from (length (seen world.now).store.cells) (length values.now)) }
-{
-    world.store.next_cells(alloc, values.len() as u64)
 }
 
 /// What is told of a fault of the table of classes, of a definition of the class of this name.

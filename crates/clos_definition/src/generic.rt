@@ -82,7 +82,7 @@ pub fn prepare_generic(
         combination: _,
         methods,
     } = definition;
-    let effect = with_methods(alloc, &world.classes, changes, id, methods, values)?;
+    let effect = with_methods(alloc, world.classes(), changes, id, methods, values)?;
     reserve(alloc, world, &name, &effect)?;
     Ok(effect)
 }

@@ -93,7 +93,7 @@ fn effect_for(
     let id = number_of(&world.generics, name);
     let method = method_with(
         alloc,
-        &world.classes,
+        world.classes(),
         id,
         Origin::Defmethod,
         definition,
@@ -158,7 +158,7 @@ fn refuse_specializer(
 {
     match specializer {
         ParameterSpecializer::Eql(_) => Ok(()),
-        ParameterSpecializer::Class(name) => match world.classes.hierarchy().named(name) {
+        ParameterSpecializer::Class(name) => match world.classes().hierarchy().named(name) {
             Some(_) => Ok(()),
             None => {
                 let condition = about_name(alloc, ConditionKind::UndefinedClass, name)?;

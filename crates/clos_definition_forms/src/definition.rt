@@ -1,10 +1,10 @@
 //! What definition forms do (HyperSpec 7.7): the checks, the forms that they evaluate, and one step for the whole of the effect. What
 //! is refused takes none.
-ghost use Rattle.std.specs.Prelude.{◌≡◌, [], ◌∷◌, Some, IfOk, map};
+ghost use Rattle.std.specs.Prelude.{◌≡◌, [], ◌∷◌, None, Some, IfOk, length, map};
 ghost use Rattle.lisp_data.specs.ValueView.{value_of};
 ghost use Rattle.clos_machine.specs.clos_world.World.{seen};
 ghost use Rattle.lisp_data.specs.Value.{class};
-ghost use Rattle.clos_definition.specs.Class.{initforms, with_class};
+ghost use Rattle.clos_definition.specs.Class.{class_refusal, initforms, with_class};
 ghost use Rattle.clos_definition.specs.Effect.{IsReserved, with_effect};
 ghost use Rattle.clos_definition.specs.Generic.{eql_forms};
 ghost use Rattle.clos_definition.specs.Method.{eql_form};
@@ -244,7 +244,8 @@ fn make_prepared_class(
     accessors: Effect,
     steps: &mut u64,
 ) -> Result<Value, Stop>
-    requires { IsReserved accessors world.old.generics }
+    requires allowed { class_refusal definition.now (length values.items) (seen world.old) ≡ None }
+    requires reserved { IsReserved accessors world.old.generics }
     ensures { Answers (takes_effect (class id.0) (with_class definition.now values.items (with_effect accessors (seen world.old)))) (seen world.old) steps.old result (seen world.new) steps.new }
 {
     if *steps == 0 {

@@ -13,7 +13,8 @@ use Rattle.lisp_prims.specs.declared.fault.PrimFault.TheVariants as fault
 use Rattle.clos_meaning.specs.clos_world.clos_class.Slots.{Layout}
 use Rattle.clos_meaning.specs.clos_world.clos_store.Store.{Object, slot_names}
 use Rattle.clos_meaning.specs.clos_world.clos_store.Store as store
-use Rattle.clos_meaning.specs.clos_world.clos_store.Update.{added, bound, is_stale, lost, with_update}
+use Rattle.clos_meaning.specs.clos_world.clos_store.Objects.{due_for}
+use Rattle.clos_meaning.specs.clos_world.clos_store.Update.{added, bound, lost, with_update}
 use Rattle.clos_meaning.specs.clos_world.clos_store.UpdateView.{TellsOf, values_of}
 use Rattle.clos_meaning.specs.clos_world.clos_store.declared.update.Discarded.{Discarded}
 use Rattle.clos_meaning.specs.clos_world.World.{State, class_of_instance, unbound}
@@ -25,7 +26,7 @@ use Rattle.clos_meaning.specs.clos_world.clos_method.declared.system.SystemFunct
 use Rattle.clos_meaning.specs.ClassFunctions.{Answer, Tells, in_words_of_conditions}
 use Rattle.clos_meaning.specs.Meaning.{closed, meaning}
 use Rattle.clos_meaning.specs.Outcome.{Eval, Run, Stopped, step_then, stopped}
-use Rattle.clos_meaning.specs.Updating.{arguments_of, due, if_stale, layout_if, listed, names_listed, properties, restructured, told, told_if, told_of, updated, updated_if, updated_with}
+use Rattle.clos_meaning.specs.Updating.{arguments_of, due, listed, names_listed, properties, restructured, told, told_if, told_of, updated, updated_if, updated_with}
 use Rattle.clos_meaning.specs.declared.arguments.Context.{Context}
 use Rattle.clos_machine.specs.Fault.{Signals}
 use Rattle.clos_machine.specs.Machine.{Turns, at, denote, here, inside, resume, visited}
@@ -91,7 +92,7 @@ told_there i names d (Some o) r s t h =
 
 stale_there : (w : State) (i : ℕ) (o : Option Object) (l : Layout) → store.instance w.store i ≡ o → due w i ≡ Some l → IsSome o
 stale_there w i None l e h =
-    absurd (cc (sym (ap (λ x. if_stale w i (layout_if w (option_map (λ o. o.class) x))) e) ∙ h))
+    absurd (cc (sym (ap (due_for w.classes) e) ∙ h))
 stale_there w i (Some o) l e h = refl
 
 pub due_there : (w : State) (i : ℕ) (l : Layout) → due w i ≡ Some l → IsSome (store.instance w.store i)

@@ -33,7 +33,7 @@ impl Finalized {
     pub fn find(world: &World, class: ClassId) -> Result<Option<Finalized>, AllocError>
         ensures { IfOk result (λ r. r ≡ effective (seen world.now).classes class.0) }
     {
-        match world.classes.effective(class) {
+        match world.classes().effective(class) {
             None => Ok(None),
             Some(effective) => Ok(Some(Finalized {
                 shared: effective.clone()?,
@@ -51,8 +51,8 @@ impl Finalized {
     }
 
     /// The layout of the instances.
-    pub fn layout(&self) -> &Rc<Layout>
-        ensures { result.now.value ≡ self.now.layout }
+    pub fn layout(&self) -> &Layout
+        ensures { result.now ≡ self.now.layout }
     {
         self.shared.layout()
     }

@@ -1,5 +1,5 @@
 //! Instances whose class was defined again (HyperSpec 4.3.6): each is updated before its slots are looked at.
-ghost use Rattle.std.specs.Prelude.{◌≡◌, ◌≤◌, ◌∷◌, [], IfOk, Some, map, option_map};
+ghost use Rattle.std.specs.Prelude.{◌≡◌, ◌≤◌, ◌∷◌, [], IfOk, Some, map, option_copied};
 ghost use Rattle.lisp_data.specs.Value.{instance};
 ghost use Rattle.lisp_data.specs.ValueView.{value_of};
 ghost use Rattle.clos_forms.specs.Quotation.{name_value};
@@ -20,31 +20,23 @@ use lisp_data::{InstanceId, Name, Value};
 use lisp_prims::Primitive;
 use lisp_prims::lists::ListFunction;
 use std::alloc::{AllocError, Global};
-use std::rc::Rc;
 
 /// The layout of the class of an instance.
-pub fn layout_of(world: &World, id: InstanceId) -> Option<&Rc<Layout>>
-    ensures { option_map (λ l. l.now.value) result ≡ layout_if (seen world.now) (class_of_instance (seen world.now) id.0) }
+pub fn layout_of(world: &World, id: InstanceId) -> Option<&Layout>
+    ensures { option_copied result ≡ layout_if (seen world.now) (class_of_instance (seen world.now) id.0) }
 {
-    match world.store.class_of(id) {
+    match world.store().class_of(id) {
         None => None,
-        Some(class) => world.classes.layout(class),
+        Some(class) => world.classes().layout(class),
     }
 }
 
 /// The layout that the class of an instance has now, where the instance keeps another.
-pub fn due(world: &World, id: InstanceId) -> Result<Option<Rc<Layout>>, AllocError>
-    ensures { IfOk result (λ r. option_map (λ l. l.value) r ≡ due (seen world.now) id.0) }
+pub fn due(world: &mut World, id: InstanceId) -> Result<Option<Layout>, AllocError>
+    ensures value { IfOk result (λ r. r ≡ due (seen world.old) id.0) }
+    ensures same { seen world.new ≡ seen world.old }
 {
-    match layout_of(world, id) {
-        None => Ok(None),
-        Some(layout) => {
-            if !world.store.is_stale(id, layout) {
-                return Ok(None);
-            }
-            Ok(Some(layout.clone()?))
-        }
-    }
+    world.objects.due(id)
 }
 
 /// The list of these values, unless it is past the limits on lists.
@@ -131,7 +123,7 @@ fn told(alloc: Global, world: &World, id: InstanceId, layout: &Layout) -> Result
     requires { IsThere (seen world.now) id.0 }
     ensures { TellsValues (told (seen world.now) id.0 layout.now) result }
 {
-    let discarded = world.store.discarded(alloc, id, layout)?;
+    let discarded = world.store().discarded(alloc, id, layout)?;
     arguments_for(alloc, id, &discarded)
 }
 
@@ -142,11 +134,11 @@ pub fn update(
     machine: &mut Machine,
     world: &mut World,
     id: InstanceId,
-    layout: &Rc<Layout>,
+    layout: &Layout,
     visit: Visit,
     steps: &mut u64,
 ) -> Result<Doing, Stop>
-    requires { due (seen world.old) id.0 ≡ Some layout.now.value }
+    requires { due (seen world.old) id.0 ≡ Some layout.now }
     ensures turns { Turns (here machine.old (λ ev env. updated ev id.0 (visited ev env id.0 visit))) (seen world.old) steps.old result machine.new (seen world.new) steps.new }
     ensures small { Shrinks act_weight steps.old steps.new machine.old.levels result machine.new }
     ensures fewer { steps.new ≤ steps.old }
@@ -166,13 +158,13 @@ fn restructure(
     machine: &mut Machine,
     world: &mut World,
     id: InstanceId,
-    layout: &Rc<Layout>,
+    layout: &Layout,
     arguments: Values,
     visit: Visit,
     steps: &mut u64,
 ) -> Result<Doing, Stop>
     requires { IsThere (seen world.old) id.0 }
-    ensures turns { Turns (here machine.old (λ ev env. restructured ev id.0 layout.now.value arguments (visited ev env id.0 visit))) (seen world.old) steps.old result machine.new (seen world.new) steps.new }
+    ensures turns { Turns (here machine.old (λ ev env. restructured ev id.0 layout.now arguments (visited ev env id.0 visit))) (seen world.old) steps.old result machine.new (seen world.new) steps.new }
     ensures small { Shrinks act_weight steps.old steps.new machine.old.levels result machine.new }
     ensures fewer { steps.new ≤ steps.old }
 {
@@ -183,7 +175,7 @@ fn restructure(
     let room = machine.room;
     let frame = Frame::Updated(id, visit);
     machine.levels.push(Level { frame, room })?;
-    let Ok(()) = world.store.restructure(alloc, id, layout) else {
+    let Ok(()) = world.objects.restructure(alloc, id, layout) else {
         return Err(Stop::Storage);
     };
     *steps -= 1;

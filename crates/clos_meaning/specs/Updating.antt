@@ -1,5 +1,5 @@
 -- Instances whose class was defined again (HyperSpec 4.3.6): one is updated before its slots are looked at, and at no other time.
-use Rattle.std.specs.Prelude.{ℕ, List, [], ◌∷◌, Option, Some, None, map, Result, Ok, Err, if◌then◌else◌}
+use Rattle.std.specs.Prelude.{ℕ, List, [], ◌∷◌, Option, Some, None, map, Result, Ok, Err}
 use Rattle.lisp_data.specs.Name.{Name}
 use Rattle.lisp_data.specs.Value.{Val, instance}
 use Rattle.lisp_prims.specs.Primitive.{answer}
@@ -8,11 +8,12 @@ use Rattle.lisp_prims.specs.declared.primitive.Primitive.TheVariants.{Listed}
 use Rattle.clos_forms.specs.Quotation.{name_value}
 use Rattle.clos_world.specs.clos_class.Slots.{Layout}
 use Rattle.clos_world.specs.clos_method.declared.system.SystemFunction.TheVariants.{UpdateInstanceForRedefinedClass}
+use Rattle.clos_world.specs.clos_store.Objects as objects
 use Rattle.clos_world.specs.clos_store.Store.{Object, slot_names}
 use Rattle.clos_world.specs.clos_store.Store as store
-use Rattle.clos_world.specs.clos_store.Update.{added, bound, is_stale, lost, with_update}
+use Rattle.clos_world.specs.clos_store.Update.{added, bound, lost, with_update}
 use Rattle.clos_world.specs.Class.{layout}
-use Rattle.clos_world.specs.World.{State, class_of_instance}
+use Rattle.clos_world.specs.World.{State}
 use Rattle.clos_world.specs.declared.condition.Condition.{Condition}
 use Rattle.clos_meaning.specs.ClassFunctions.{Answer, in_words_of_conditions}
 use Rattle.clos_meaning.specs.GenericCalls.{invoked}
@@ -25,14 +26,9 @@ abbrev pub layout_if : State → Option ℕ → Option Layout
 layout_if w None = None
 layout_if w (Some c) = layout w.classes c
 
--- this layout, where the instance keeps another
-abbrev pub if_stale : State → ℕ → Option Layout → Option Layout
-if_stale w i None = None
-if_stale w i (Some l) = if is_stale w.store i l then Some l else None
-
 -- the layout of its class now, where it keeps another
 abbrev pub due : State → ℕ → Option Layout
-due w i = if_stale w i (layout_if w (class_of_instance w i))
+due w i = objects.due w.classes w.store i
 
 -- ---- what update-instance-for-redefined-class is told (4.3.6.2)
 

@@ -1,5 +1,5 @@
 //! Instances that change their class (HyperSpec 7.2, 7.7 `change-class`).
-ghost use Rattle.std.specs.Prelude.{◌≡◌, ◌≤◌, ◌∷◌, IfOk, IfSome, Some, option_map};
+ghost use Rattle.std.specs.Prelude.{◌≡◌, ◌≤◌, ◌∷◌, IfOk, IfSome, Some};
 ghost use Rattle.lisp_data.specs.Value.{instance};
 ghost use Rattle.lisp_data.specs.ValueView.{value_of};
 ghost use Rattle.clos_machine.specs.clos_world.Class.{layout};
@@ -21,7 +21,6 @@ use clos_machine::{ConditionKind, Stop, Values, World, plain};
 use clos_method::SystemFunction;
 use lisp_data::{ClassId, InstanceId, Value};
 use std::alloc::{AllocError, Global};
-use std::rc::Rc;
 
 /// A call of `change-class`.
 pub fn change_class(
@@ -97,19 +96,15 @@ fn update_and_change(
 }
 
 /// The layout of a class, for an instance that there is.
-fn layout_for(
-    world: &World,
-    id: InstanceId,
-    class: ClassId,
-) -> Result<Option<Rc<Layout>>, AllocError>
-    ensures layout { IfOk result (λ r. option_map (λ l. l.value) r ≡ if_there (class_of_instance (seen world.now) id.0) (layout (seen world.now).classes class.0)) }
+fn layout_for(world: &World, id: InstanceId, class: ClassId) -> Result<Option<Layout>, AllocError>
+    ensures layout { IfOk result (λ r. r ≡ if_there (class_of_instance (seen world.now) id.0) (layout (seen world.now).classes class.0)) }
     ensures there { IfOk result (λ r. IfSome r (λ l. IsThere (seen world.now) id.0)) }
 {
-    match world.store.class_of(id) {
+    match world.store().class_of(id) {
         None => Ok(None),
-        Some(_) => match world.classes.layout(class) {
+        Some(_) => match world.classes().layout(class) {
             None => Ok(None),
-            Some(layout) => Ok(Some(layout.clone()?)),
+            Some(layout) => Ok(Some(layout.copy()?)),
         },
     }
 }
@@ -128,7 +123,7 @@ pub fn change_to(
     ensures small { Shrinks act_weight steps.old steps.new machine.old.levels result machine.new }
     ensures fewer { steps.new ≤ steps.old }
 {
-    let Some(copy) = world.store.next_instance() else {
+    let Some(copy) = world.store().next_instance() else {
         return Err(Stop::Refused(plain(alloc, ConditionKind::TableLimit)));
     };
     match layout_for(world, id, class)? {
@@ -148,13 +143,13 @@ fn change(
     copy: InstanceId,
     id: InstanceId,
     class: ClassId,
-    layout: &Rc<Layout>,
+    layout: &Layout,
     initargs: Values,
     steps: &mut u64,
 ) -> Result<Doing, Stop>
     requires there { IsThere (seen world.old) id.0 }
     requires next { Some copy.0 ≡ next_instance (seen world.old).store }
-    ensures turns { Turns (here machine.old (λ ev env. class_changed ev id.0 class.0 layout.now.value initargs)) (seen world.old) steps.old result machine.new (seen world.new) steps.new }
+    ensures turns { Turns (here machine.old (λ ev env. class_changed ev id.0 class.0 layout.now initargs)) (seen world.old) steps.old result machine.new (seen world.new) steps.new }
     ensures small { Shrinks act_weight steps.old steps.new machine.old.levels result machine.new }
     ensures fewer { steps.new ≤ steps.old }
 {
@@ -165,7 +160,7 @@ fn change(
     let room = machine.room;
     let frame = Frame::Keep(Forms::new(), Value::Instance(id));
     machine.levels.push(Level { frame, room })?;
-    let Ok(_) = world.store.change(alloc, id, class, layout) else {
+    let Ok(_) = world.objects.change(alloc, id, class, layout) else {
         return Err(Stop::Storage);
     };
     *steps -= 1;

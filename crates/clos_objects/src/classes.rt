@@ -40,7 +40,7 @@ fn designate_list(alloc: Global, world: &World, items: &Items) -> Result<ClassId
 fn found(alloc: Global, world: &World, name: &Name) -> Result<ClassId, Stop>
     ensures { Designates (class_found (seen world.now).classes name.now (named (seen world.now).classes name.now)) result }
 {
-    match world.classes.hierarchy().named(name) {
+    match world.classes().hierarchy().named(name) {
         None => Err(Stop::Refused(about_name(alloc, ConditionKind::UndefinedClass, name)?)),
         Some(id) => instantiate(alloc, world, id),
     }
@@ -50,10 +50,10 @@ fn found(alloc: Global, world: &World, name: &Name) -> Result<ClassId, Stop>
 fn instantiate(alloc: Global, world: &World, id: ClassId) -> Result<ClassId, Stop>
     ensures { Designates (instantiable (seen world.now).classes id.0) result }
 {
-    if !world.classes.hierarchy().is_standard(id) {
+    if !world.classes().hierarchy().is_standard(id) {
         return Err(Stop::Refused(plain(alloc, ConditionKind::Unsupported)));
     }
-    match world.classes.hierarchy().precedence(id) {
+    match world.classes().hierarchy().precedence(id) {
         None => Err(Stop::Refused(incomplete_class(alloc, world, id)?)),
         Some(_) => Ok(id),
     }

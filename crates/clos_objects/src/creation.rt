@@ -223,13 +223,13 @@ pub fn allocate(
     ensures fewer { steps.new ≤ steps.old }
 {
     let _ = machine;
-    let Some(id) = world.store.next_instance() else {
+    let Some(id) = world.store().next_instance() else {
         return Err(Stop::Refused(plain(alloc, ConditionKind::TableLimit)));
     };
     if *steps == 0 {
         return Err(Stop::Refused(plain(alloc, ConditionKind::StepLimit)));
     }
-    let Ok(_) = world.store.allocate(alloc, class, effective.layout()) else {
+    let Ok(_) = world.objects.allocate(alloc, class, effective.layout()) else {
         return Err(Stop::Storage);
     };
     *steps -= 1;
@@ -281,7 +281,7 @@ fn invalid(
     ensures { IfOk result (λ c. c ≡ invalid_for (value_of name.now) (class_name (seen world.now).classes class.0)) }
 {
     let name = name.copy()?;
-    match world.classes.hierarchy().name(class) {
+    match world.classes().hierarchy().name(class) {
         None => about(alloc, ConditionKind::InvalidInitarg, name),
         Some(class) => {
             let Ok(class) = value_named(class) else {

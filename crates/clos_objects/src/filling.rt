@@ -40,7 +40,7 @@ fn initform_for<'a>(
     if slot.cell.is_some() {
         return None;
     }
-    match world.store.slot(id, &slot.name) {
+    match world.store().slot(id, &slot.name) {
         None => None,
         Some(found) => {
             if found.value().is_some() || !is_named(names, &slot.name) {
@@ -171,7 +171,7 @@ pub fn fill_with(
 fn is_the_class(world: &World, filling: &Filling) -> bool
     ensures { result ≡ is_the_class filling.now.class.0 (class_of_instance (seen world.now) filling.now.instance.0) }
 {
-    match world.store.class_of(filling.instance) {
+    match world.store().class_of(filling.instance) {
         None => false,
         Some(class) => class.0 == filling.class.0,
     }

@@ -22,7 +22,7 @@ use std::alloc::{AllocError, Global};
 pub fn class_in(world: &World, id: InstanceId) -> Result<Option<(ClassId, Finalized)>, AllocError>
     ensures { IfOk result (λ r. option_map (λ p. (p.0.0, p.1)) r ≡ class_in (seen world.now) id.0) }
 {
-    match world.store.class_of(id) {
+    match world.store().class_of(id) {
         None => Ok(None),
         Some(class) => match Finalized::find(world, class)? {
             None => Ok(None),

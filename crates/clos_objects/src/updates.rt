@@ -143,7 +143,7 @@ fn new_slots(
 ) -> Result<Vec<Name>, AllocError>
     ensures { IfOk result (λ r. r.items ≡ new_slots (seen world.now) copy.0 id.0) }
 {
-    let before = world.store.class_of(copy);
+    let before = world.store().class_of(copy);
     match layout_of(world, id) {
         None => Ok(Vec::new(alloc)),
         Some(layout) => lacking(alloc, world, before, layout.locals().as_slice()),
@@ -175,6 +175,6 @@ fn has_slot(world: &World, class: Option<ClassId>, name: &Name) -> bool
 {
     match class {
         None => false,
-        Some(class) => world.classes.slot(class, name).is_some(),
+        Some(class) => world.classes().slot(class, name).is_some(),
     }
 }

@@ -131,7 +131,7 @@ fn precedence_of_class(alloc: Global, world: &World, value: &Value) -> Result<Va
 fn listed_if_complete(alloc: Global, world: &World, id: ClassId) -> Result<Value, Stop>
     ensures { Tells (listed_if_complete (class_name (seen world.now).classes id.0) (precedence (seen world.now).classes id.0)) result }
 {
-    match world.classes.hierarchy().precedence(id) {
+    match world.classes().hierarchy().precedence(id) {
         None => Err(Stop::Refused(incomplete_class(alloc, world, id)?)),
         Some(list) => classes_listed(alloc, list),
     }
@@ -161,7 +161,7 @@ fn class_by_symbol(alloc: Global, world: &World, errorp: bool, value: &Value) ->
 {
     match symbol_in(value)? {
         None => Err(Stop::Refused(wrong_type(alloc, value)?)),
-        Some(name) => match world.classes.hierarchy().named(&name) {
+        Some(name) => match world.classes().hierarchy().named(&name) {
             None => missing(alloc, &name, errorp),
             Some(id) => Ok(Value::Class(id)),
         },
@@ -183,7 +183,7 @@ fn of_class(alloc: Global, world: &World, class: ClassId, designator: &Value) ->
 {
     match class_designated(alloc, world, designator) {
         Err(stop) => Err(stop),
-        Ok(id) => Ok(truth(world.classes.hierarchy().is_sub(class, id))),
+        Ok(id) => Ok(truth(world.classes().hierarchy().is_sub(class, id))),
     }
 }
 
@@ -210,7 +210,7 @@ pub fn named_by(alloc: Global, world: &World, value: &Value) -> Result<ClassId, 
 {
     match symbol_in(value)? {
         None => Err(Stop::Refused(wrong_type(alloc, value)?)),
-        Some(name) => match world.classes.hierarchy().named(&name) {
+        Some(name) => match world.classes().hierarchy().named(&name) {
             None => Err(Stop::Refused(undefined_class(alloc, &name)?)),
             Some(id) => Ok(id),
         },

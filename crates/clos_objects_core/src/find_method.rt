@@ -185,7 +185,7 @@ fn specializer(alloc: Global, world: &World, designator: &Designator) -> Result<
     match designator {
         Designator::Class(id) => Ok(Specializer::Class(*id)),
         Designator::Eql(object) => Ok(Specializer::Eql(object.copy()?)),
-        Designator::Named(name) => match world.classes.hierarchy().named(name) {
+        Designator::Named(name) => match world.classes().hierarchy().named(name) {
             None => Err(Stop::Refused(undefined_class(alloc, name)?)),
             Some(id) => Ok(Specializer::Class(id)),
         },

@@ -272,7 +272,7 @@ fn read(
     ensures small { Grows value_weight machine.now.levels result machine.now }
 {
     let _ = machine;
-    match world.store.slot(id, name) {
+    match world.store().slot(id, name) {
         None => {
             let arguments = missing_arguments(alloc, world, id, name, &"SLOT-VALUE")?;
             Ok(Doing::Invoke(SystemFunction::SlotMissing, arguments))
@@ -299,7 +299,7 @@ fn test(
     ensures leads { Leads (here machine.old (λ ev env w. slot_tested ev env id.0 name.now (slot_found w.store id.0 name.now) w)) (seen world.now) result machine.new }
     ensures small { Grows value_weight machine.old.levels result machine.new }
 {
-    match world.store.slot(id, name) {
+    match world.store().slot(id, name) {
         None => {
             let arguments = missing_arguments(alloc, world, id, name, &"SLOT-BOUNDP")?;
             invoke_under(
@@ -325,9 +325,9 @@ fn exists(machine: &Machine, world: &World, id: InstanceId, name: &Name) -> Doin
 fn has_slot(world: &World, id: InstanceId, name: &Name) -> bool
     ensures { result ≡ has_slot (seen world.now).classes (class_of_instance (seen world.now) id.0) name.now }
 {
-    match world.store.class_of(id) {
+    match world.store().class_of(id) {
         None => false,
-        Some(class) => world.classes.slot(class, name).is_some(),
+        Some(class) => world.classes().slot(class, name).is_some(),
     }
 }
 
@@ -346,13 +346,13 @@ fn change(
     ensures small { Grows value_weight machine.old.levels result machine.new }
     ensures fewer { steps.new ≤ steps.old }
 {
-    if world.store.slot(id, &name).is_none() {
+    if world.store().slot(id, &name).is_none() {
         return change_missing(alloc, machine, world, id, &name, value, given);
     }
     if *steps == 0 {
         return Err(Stop::Refused(plain(alloc, ConditionKind::StepLimit)));
     }
-    world.store.set_slot(id, &name, value);
+    world.objects.set_slot(id, &name, value);
     *steps -= 1;
     Ok(Doing::Give(given))
 }

@@ -1,3 +1,4 @@
+pub mod Objects
 pub mod Store
 pub mod Update
 pub mod UpdateView

@@ -59,7 +59,7 @@ with_value_at (suc place) value (s ∷ ss) = s ∷ with_value_at place value ss
 abbrev pub allocated : ℕ → Layout → Object
 allocated class layout = record { class = class; slots = map (λ name. (name, None)) layout.locals; shared = layout.shared }
 
--- the layout that an instance was made with
+-- the layout that an instance keeps
 abbrev pub kept_layout : Object → Layout
 kept_layout o = record { locals = slot_names o.slots; shared = o.shared }
 
@@ -105,11 +105,6 @@ cell_value w c = if_bound (slice_get w.cells c)
 
 abbrev pub with_cell : Option Val → Contents → Contents
 with_cell value w = record w { cells = w.cells ++ value ∷ [] }
-
--- so many cells, numbered from this one on
-abbrev pub cells_from : ℕ → ℕ → List CellId
-cells_from first zero = []
-cells_from first (suc n) = cells_from first n ++ (record { 0 = first + n }) ∷ []
 
 -- one more cell with each of these values
 abbrev pub with_cells : List (Option Val) → Contents → Contents

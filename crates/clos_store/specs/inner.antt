@@ -1,2 +1,3 @@
 -- What stands behind the contracts: how the logic stores values, what is kept, what private functions answer.
+pub mod Noted
 pub mod StoreCode

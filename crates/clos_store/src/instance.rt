@@ -14,14 +14,13 @@ use clos_class::Layout;
 use lisp_data::{CellId, ClassId, Name, Value};
 use std::alloc::{AllocError, Global};
 use std::marker::Model;
-use std::rc::Rc;
 
 /// An instance: it keeps the layout that it was made with, which it shares with others, and has the values of its local
 /// slots in that order. Contracts see the slots by their names.
 #[derive(Drop)]
 pub struct Instance {
     class: ClassId,
-    layout: Rc<Layout>,
+    layout: Layout,
     slots: Vec<Slot>,
 }
 
@@ -35,9 +34,9 @@ impl Model for Instance {
 
     ghost coded = { object_code };
 
-    ghost view = { λ a. record { class = a.class.0; slots = zip a.layout.value.locals a.slots.items; shared = a.layout.value.shared } };
+    ghost view = { λ a. record { class = a.class.0; slots = zip a.layout.locals a.slots.items; shared = a.layout.shared } };
 
-    ghost invariant = { λ a. length a.slots.items ≡ length a.layout.value.locals };
+    ghost invariant = { λ a. length a.slots.items ≡ length a.layout.locals };
 }
 
 /// So many unbound slots, in one piece of memory.
@@ -60,11 +59,11 @@ fn slot_at(slots: &[Slot], place: usize) -> Option<&Slot>
 impl Instance {
     /// A new instance, all of whose slots are unbound.
     #[tactic(auto, using(crate::proofs::Slots::length_of_unbound, crate::proofs::Slots::all_unbound))]
-    pub fn new(alloc: Global, class: ClassId, layout: &Rc<Layout>) -> Result<Instance, AllocError>
-        ensures { IfOk result (λ r. r ≡ allocated class.0 layout.now.value) }
+    pub fn new(alloc: Global, class: ClassId, layout: &Layout) -> Result<Instance, AllocError>
+        ensures { IfOk result (λ r. r ≡ allocated class.0 layout.now) }
     {
         let slots = unbound_slots(alloc, layout.len())?;
-        let layout = layout.clone()?;
+        let layout = layout.copy()?;
         Ok(Instance {
             class,
             layout,
@@ -80,8 +79,8 @@ impl Instance {
 
     /// The layout that it was made with.
     #[tactic(auto, using(crate::proofs::Slots::names_of_zip))]
-    pub fn layout(&self) -> &Rc<Layout>
-        ensures { result.now.value ≡ kept_layout self.now }
+    pub fn layout(&self) -> &Layout
+        ensures { result.now ≡ kept_layout self.now }
     {
         &self.layout
     }
@@ -138,12 +137,12 @@ impl Instance {
         alloc: Global,
         cells: &[Slot],
         class: ClassId,
-        layout: &Rc<Layout>,
+        layout: &Layout,
     ) -> Result<Instance, AllocError>
-        ensures { IfOk result (λ r. r ≡ updated cells.now class.0 layout.now.value self.now) }
+        ensures { IfOk result (λ r. r ≡ updated cells.now class.0 layout.now self.now) }
     {
         let slots = updated_slots(alloc, self, cells, layout.locals().as_slice())?;
-        let layout = layout.clone()?;
+        let layout = layout.copy()?;
         Ok(Instance {
             class,
             layout,

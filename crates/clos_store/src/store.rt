@@ -3,7 +3,7 @@ ghost use Rattle.std.specs.Prelude.{◌≡◌, ◌≤◌, ◌<◌, ◌+◌, ◌-
 ghost use Rattle.std.specs.Map.{lookup};
 ghost use Rattle.lisp_data.specs.Name.{same_name};
 ghost use Rattle.lisp_data.specs.ValueView.{value_of};
-ghost use Rattle.clos_store.specs.Store.{allocated, cell_value, cells_from, empty, has_room, has_room_for, instance, kept_layout, next_instance, place_named, shared_of, slot_found, slots_of, value_at, value_named, with_cell, with_cell_value, with_cells, with_instance, with_slot, with_slots, with_value, with_value_at};
+ghost use Rattle.clos_store.specs.Store.{allocated, cell_value, empty, has_room, has_room_for, instance, kept_layout, next_instance, place_named, shared_of, slot_found, slots_of, value_at, value_named, with_cell, with_cell_value, with_cells, with_instance, with_slot, with_slots, with_value, with_value_at};
 ghost use Rattle.clos_store.specs.StoreFault.{Refuses};
 ghost use Rattle.clos_store.specs.Update.{is_stale, with_change, with_update};
 ghost use Rattle.clos_store.specs.UpdateView.{TellsOf};
@@ -17,7 +17,6 @@ use lisp_data::{CellId, ClassId, InstanceId, Name, Value};
 use std::alloc::{AllocError, Global};
 use std::marker::Model;
 use std::mem;
-use std::rc::Rc;
 
 /// The instances that were made, and the cells, in which the values of shared slots are (HyperSpec 7.5.1). Both are kept
 /// for good. Instances are numbered from 1, cells from 0.
@@ -90,9 +89,9 @@ impl Store {
         &mut self,
         alloc: Global,
         class: ClassId,
-        layout: &Rc<Layout>,
+        layout: &Layout,
     ) -> Result<InstanceId, StoreFault>
-        ensures ok { OnOk result ((has_room self.old.contents ≡ true) × (self.new ≡ record self.old { contents = with_instance (allocated class.0 layout.now.value) self.old.contents })) }
+        ensures ok { OnOk result ((has_room self.old.contents ≡ true) × (self.new ≡ record self.old { contents = with_instance (allocated class.0 layout.now) self.old.contents })) }
         ensures id { IfOk result (λ r. r.0 ≡ length self.old.contents.instances + 1) }
         ensures there { IfOk result (λ r. IsSome (instance self.new.contents r.0)) }
         ensures fault { IfErr result (λ e. Refuses e (has_room self.old.contents)) }
@@ -125,9 +124,9 @@ impl Store {
         }
     }
 
-    /// The layout that an instance was made with.
-    pub fn layout(&self, id: InstanceId) -> Option<&Rc<Layout>>
-        ensures { option_map (λ l. l.now.value) result ≡ option_map kept_layout (instance self.now.contents id.0) }
+    /// The layout that an instance keeps.
+    pub fn layout(&self, id: InstanceId) -> Option<&Layout>
+        ensures { option_copied result ≡ option_map kept_layout (instance self.now.contents id.0) }
     {
         match self.instance(id) {
             None => None,
@@ -164,10 +163,10 @@ impl Store {
         &mut self,
         alloc: Global,
         id: InstanceId,
-        layout: &Rc<Layout>,
+        layout: &Layout,
     ) -> Result<(), AllocError>
         requires { IsSome (instance self.old.contents id.0) }
-        ensures ok { OnOk result (self.new ≡ record self.old { contents = with_update id.0 layout.now.value self.old.contents }) }
+        ensures ok { OnOk result (self.new ≡ record self.old { contents = with_update id.0 layout.now self.old.contents }) }
         ensures err { OnErr result (self.new ≡ self.old) }
     {
         let place = (id.0 - 1) as usize;
@@ -185,10 +184,10 @@ impl Store {
         alloc: Global,
         id: InstanceId,
         class: ClassId,
-        layout: &Rc<Layout>,
+        layout: &Layout,
     ) -> Result<InstanceId, StoreFault>
         requires { IsSome (instance self.old.contents id.0) }
-        ensures ok { OnOk result ((has_room self.old.contents ≡ true) × (self.new ≡ record self.old { contents = with_change id.0 class.0 layout.now.value self.old.contents })) }
+        ensures ok { OnOk result ((has_room self.old.contents ≡ true) × (self.new ≡ record self.old { contents = with_change id.0 class.0 layout.now self.old.contents })) }
         ensures id { IfOk result (λ r. r.0 ≡ length self.old.contents.instances + 1) }
         ensures fault { IfErr result (λ e. Refuses e (has_room self.old.contents)) }
         ensures err { OnErr result (self.new ≡ self.old) }
@@ -329,21 +328,6 @@ impl Store {
             self.reserved = cells;
         }
         Ok(())
-    }
-
-    /// The numbers of the next so many cells, which are reserved.
-    pub fn next_cells(&self, alloc: Global, count: u64) -> Result<Vec<CellId>, AllocError>
-        requires { count ≤ self.now.reserved }
-        ensures { IfOk result (λ r. r.items ≡ cells_from (length self.now.contents.cells) count) }
-    {
-        let first = self.cell_count();
-        // Below this, no number overflows.
-        let _most = self.most_cells;
-        let mut cells = Vec::new(alloc);
-        for place in 0..count {
-            cells.push(CellId(first + place))?;
-        }
-        Ok(cells)
     }
 
     /// Makes these cells, which are reserved.

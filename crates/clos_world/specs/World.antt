@@ -41,13 +41,13 @@ pub record State : Type 0 where
 -- a session's tables as lists; what memory is reserved for is none of the state
 abbrev pub seen : World → State
 seen w = record {
-  classes = w.classes;
+  classes = w.objects.classes;
   generics = w.generics.table;
   combinations = w.combinations;
   functions = w.functions;
   setters = w.setters;
   globals = w.globals;
-  store = w.store.contents;
+  store = w.objects.contents;
   written = w.written.items;
   limits = w.limits;
   locals = [];

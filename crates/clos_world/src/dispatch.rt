@@ -23,7 +23,7 @@ impl World {
     {
         let values = first_values(values, self.required_by(id));
         let classes = self.classes_of(alloc, values)?;
-        let arguments = Arguments::new(&self.classes, &classes, values);
+        let arguments = Arguments::new(self.classes(), &classes, values);
         self.generics.ordered(alloc, id, &arguments)
     }
 

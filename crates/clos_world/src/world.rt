@@ -13,7 +13,7 @@ use clos_class::Classes;
 use clos_comb::{Combinations, Meter};
 use clos_generic::Generics;
 use clos_hierarchy::numbers;
-use clos_store::Store;
+use clos_store::{Objects, Store};
 use lisp_data::{
     ClassId, FunctionName, GenericId, InstanceId, MethodId, Name, Naming, Specializer, Value,
 };
@@ -22,7 +22,8 @@ use std::alloc::{AllocError, Global};
 /// The tables of a session.
 #[derive(Drop)]
 pub struct World {
-    pub classes: Classes,
+    /// The classes, their instances, and the cells of shared slots.
+    pub objects: Objects,
     /// With all methods ever made.
     pub generics: Generics,
     pub combinations: Combinations,
@@ -33,8 +34,6 @@ pub struct World {
     /// The functions `(setf name)`, by that name.
     pub setters: Functions,
     pub globals: Globals,
-    /// The instances, and the cells of shared slots.
-    pub store: Store,
     /// What forms wrote.
     pub written: Vec<u8>,
     pub limits: Limits,
@@ -46,21 +45,34 @@ impl World {
         ensures seen { IfOk result (λ r. seen r ≡ initial limits) }
         ensures meter { IfOk result (λ r. r.meter ≡ 0) }
     {
-        let classes = Classes::new(alloc, limits.classes)?;
+        let objects = Objects::new(alloc, limits.classes, limits.instances, limits.cells)?;
         let generics = Generics::new(alloc, limits.generics, limits.methods)?;
         let (combinations, meter) = Combinations::new(alloc, limits.combinations)?;
         Ok(World {
-            classes,
+            objects,
             generics,
             combinations,
             meter,
             functions: Functions::new(alloc),
             setters: Functions::new(alloc),
             globals: Globals::new(alloc),
-            store: Store::new(alloc, limits.instances, limits.cells),
             written: Vec::new(alloc),
             limits,
         })
+    }
+
+    /// The classes.
+    pub fn classes(&self) -> &Classes
+        ensures { result.now ≡ (seen self.now).classes }
+    {
+        self.objects.classes()
+    }
+
+    /// The instances, and the cells of shared slots.
+    pub fn store(&self) -> &Store
+        ensures { result.now.contents ≡ (seen self.now).store }
+    {
+        self.objects.store()
     }
 
     /// The class of a value (HyperSpec 4.3.7).
@@ -75,7 +87,7 @@ impl World {
                 None => numbers::NULL,
                 Some(_) => numbers::CONS,
             },
-            Value::Class(id) => self.classes.hierarchy().class_of_class(*id),
+            Value::Class(id) => self.classes().hierarchy().class_of_class(*id),
             Value::Generic(_) => numbers::STANDARD_GENERIC_FUNCTION,
             Value::Method(_) => numbers::STANDARD_METHOD,
             Value::Instance(id) => match self.instance_class(*id) {
@@ -88,7 +100,7 @@ impl World {
     fn instance_class(&self, id: InstanceId) -> Option<ClassId>
         ensures { option_map (λ c. c.0) result ≡ class_of_instance (seen self.now) id.0 }
     {
-        self.store.class_of(id)
+        self.store().class_of(id)
     }
 }
 
@@ -108,7 +120,7 @@ impl Naming for World {
     ghost names = { λ w. names_of (seen w) };
 
     fn class_name(&self, id: ClassId) -> Option<&Name> {
-        self.classes.hierarchy().name(id)
+        self.classes().hierarchy().name(id)
     }
 
     fn generic_name(&self, id: GenericId) -> Option<FunctionName<'_>> {

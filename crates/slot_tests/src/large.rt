@@ -65,9 +65,9 @@ fn definition(alloc: Global, shape: Shape, place: u64) -> Result<ClassDefinition
 fn slots_of_last(alloc: Global, shape: Shape, count: u64) -> Result<Option<usize>, ClassFault> {
     let mut classes = Classes::new(alloc, count)?;
     for place in 0..count {
-        classes.define(alloc, &definition(alloc, shape, place)?, &[CellId(7)])?;
+        classes.define(alloc, &definition(alloc, shape, place)?, CellId(7))?;
     }
-    classes.define(alloc, &definition(alloc, shape, 0)?, &[])?;
+    classes.define(alloc, &definition(alloc, shape, 0)?, CellId(8))?;
     let last = name(alloc, count.saturating_sub(1))?;
     let layout = match classes.hierarchy().named(&last) {
         Some(class) => classes.layout(class),

@@ -5,7 +5,6 @@ use clos_syntax::{Allocation, ClassDefinition, Sequence, SlotSpecifier};
 use lisp_data::{CellId, ClassId, Name, Value};
 use std::alloc::{AllocError, Global};
 use std::process::Abort;
-use std::rc::Rc;
 use std::test::Fail;
 
 fn slot(alloc: Global, name: Name, allocation: Allocation) -> SlotSpecifier {
@@ -32,13 +31,13 @@ fn definition(alloc: Global) -> Result<ClassDefinition, AllocError> {
 }
 
 /// The layout of that class, with this cell.
-fn layout(alloc: Global, cell: CellId) -> Result<Option<Rc<Layout>>, ClassFault> {
+fn layout(alloc: Global, cell: CellId) -> Result<Option<Layout>, ClassFault> {
     let definition = definition(alloc)?;
     let mut classes = Classes::new(alloc, 1)?;
-    let class = classes.define(alloc, &definition, &[cell])?.class;
+    let class = classes.define(alloc, &definition, cell)?.class;
     match classes.layout(class) {
         None => Ok(None),
-        Some(layout) => Ok(Some(layout.clone()?)),
+        Some(layout) => Ok(Some(layout.copy()?)),
     }
 }
 
@@ -49,7 +48,7 @@ fn cell(store: &mut Store) -> Result<CellId, StoreFault> {
 }
 
 /// What is read of the slot Y of a new instance, after it was given a value.
-fn written(store: &mut Store, alloc: Global, layout: &Rc<Layout>) -> Result<i64, StoreFault> {
+fn written(store: &mut Store, alloc: Global, layout: &Layout) -> Result<i64, StoreFault> {
     let name = Name::fixed(&"Y");
     let instance = store.allocate(alloc, ClassId(70), layout)?;
     if let Some(place) = store.place_of(instance, &name) {
@@ -68,8 +67,8 @@ fn written(store: &mut Store, alloc: Global, layout: &Rc<Layout>) -> Result<i64,
 fn moved(
     store: &mut Store,
     alloc: Global,
-    kept: &Rc<Layout>,
-    other: &Rc<Layout>,
+    kept: &Layout,
+    other: &Layout,
 ) -> Result<(usize, usize, usize, u64), StoreFault> {
     let instance = store.allocate(alloc, ClassId(70), kept)?;
     let told = store.discarded(alloc, instance, other)?;
@@ -86,8 +85,8 @@ fn moved(
 fn updated(
     store: &mut Store,
     alloc: Global,
-    kept: &Rc<Layout>,
-    other: &Rc<Layout>,
+    kept: &Layout,
+    other: &Layout,
 ) -> Result<bool, StoreFault> {
     let instance = store.allocate(alloc, ClassId(70), kept)?;
     let was_stale = store.is_stale(instance, other);

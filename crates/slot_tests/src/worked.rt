@@ -1,5 +1,5 @@
 //! Worked examples, each line a `defclass` or a question, and what it comes to.
-use clos_class::{ClassFault, Classes, Effective, Layout, Reserved};
+use clos_class::{ClassFault, Classes, Effective, Layout, NewCell};
 use clos_forms::{Form, Operator};
 use clos_syntax::{ClassDefinition, DefaultInitarg, Top, parse_top};
 use lisp_data::{CellId, ClassId, Name, Value};
@@ -291,20 +291,12 @@ fn write_fault(line: &mut String, fault: &ClassFault) -> Result<(), AllocError> 
     }
 }
 
-/// The slots that need new cells, with their initforms, and a number for each cell.
-fn write_cells(
-    alloc: Global,
-    line: &mut String,
-    reserved: &Reserved,
-    cells: &mut Vec<CellId>,
-    made: &mut u64,
-) -> Result<(), AllocError> {
-    for cell in reserved.cells.as_slice() {
+/// The slots that need new cells, with their initforms.
+fn write_cells(alloc: Global, line: &mut String, cells: &[NewCell]) -> Result<(), AllocError> {
+    for cell in cells {
         line.push(' ')?;
         write_name(line, &cell.slot)?;
         write_form(alloc, line, "=", cell.initform.as_ref())?;
-        cells.push(CellId(*made))?;
-        *made = made.saturating_add(1);
     }
     if cells.len() > 0 {
         line.push(':')?;
@@ -320,12 +312,14 @@ fn define(
     definition: &ClassDefinition,
     made: &mut u64,
 ) -> Result<(), AllocError> {
-    let mut cells = Vec::new(alloc);
+    let first = CellId(*made);
     let reserved = classes.reserve(alloc, definition);
     if let Ok(reserved) = &reserved {
-        write_cells(alloc, line, reserved, &mut cells, made)?;
+        let cells = reserved.cells.as_slice();
+        write_cells(alloc, line, cells)?;
+        *made = made.saturating_add(cells.len() as u64);
     }
-    match (reserved, classes.define(alloc, definition, &cells)) {
+    match (reserved, classes.define(alloc, definition, first)) {
         (Ok(reserved), Ok(changed)) => {
             if reserved.class != changed.class {
                 line.push_str(" another class")?;

@@ -17,7 +17,7 @@ object_code =
     (coded× coded_ℕ (coded× (coded_list (coded× name_code (coded_option value_code))) (coded_list (coded× name_code cell_code))))
     (λ o. (o.class, (o.slots, o.shared))) (λ p. record { class = p.0; slots = p.1.0; shared = p.1.1 }) (λ _. refl)
 
-abbrev contents_code : Coded Contents
+abbrev pub contents_code : Coded Contents
 contents_code =
     code_by (List Object × (List (Option Val) × (ℕ × ℕ)))
     (coded× (coded_list object_code) (coded× (coded_list (coded_option value_code)) (coded× coded_ℕ coded_ℕ)))

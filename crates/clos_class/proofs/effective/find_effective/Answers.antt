@@ -29,7 +29,7 @@ returns c =
     let s = c.in_ok-specified.specified in record {
       kept = is_effective (slots_in c.args.classes.now) (defaults_in c.args.classes.now) c.args.list.now (allocations s) (initargs s) (initforms s) c.in_ok-names.names c.in_ok-new.field-0.value
           c.in_ok-specified.ensures.allocations c.in_ok-specified.ensures.initargs c.in_ok-specified.ensures.initforms c.in_ok-names.ensures
-          (ap (λ e. e.layout) c.in_ok-new.ensures.ok ∙ c.in_ok-layout-2.ensures.ok ∙ c.in_ok-layout.ensures ∙ ap (with_slots (allocations s) no_slots) c.as_slice.ensures)
+          (ap (λ e. e.layout) c.in_ok-new.ensures.ok ∙ c.in_ok-layout.ensures ∙ ap (with_slots (allocations s) no_slots) c.as_slice.ensures)
           (ap (λ e. e.slots) c.in_ok-new.ensures.ok ∙ c.in_ok-slots.ensures ∙ ap (map (slot_by (allocations s) (initargs s) (initforms s))) c.as_slice-2.ensures)
           (ap (λ e. e.defaults) c.in_ok-new.ensures.ok ∙ c.in_ok-defaults.ensures)
           (omega arith);

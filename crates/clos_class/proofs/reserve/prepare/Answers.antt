@@ -2,7 +2,7 @@ use Rattle.std.proofs.Common.{◌<◌, length, ap, sym, subst, ◌∙◌}
 use Rattle.clos_hierarchy.specs.Classes.{list_in, listing}
 use Rattle.clos_precedence.specs.PrecedenceView.{numbers}
 use Rattle.clos_class.specs.inner.Keeping.{Stays}
-use Rattle.clos_class.specs.Table.{cell_for, classes_with, new_cells, number, own_cell, said}
+use Rattle.clos_class.specs.Table.{classes_with, number, said_from}
 use Rattle.clos_class.proofs.Preparing.{kept_then, known, so_many, stay}
 use Rattle.clos_class.proofs.reserve.prepare.Goals as goal
 
@@ -21,9 +21,8 @@ keep_then-requires-clause-stay c = λ n h.
 pub returns-clause-said : goal.returns-clause-said
 returns-clause-said c =
     c.in_ok-said.ensures
-    ∙ ap (λ n. said (cell_for (own_cell c.args.rows.now n) (new_cells c.args.rows.now n (numbers c.precedence_or_none-list.result.now) c.args.definition.now) c.args.cells.now) c.args.definition.now)
-    (c.class-class.ensures ∙ c.in_ok-preview.ensures.class)
-    ∙ ap (λ l. said (cell_for (own_cell c.args.rows.now (number c.args.table.now c.args.definition.now)) (new_cells c.args.rows.now (number c.args.table.now c.args.definition.now) l c.args.definition.now) c.args.cells.now) c.args.definition.now)
+    ∙ ap (λ n. said_from c.args.rows.now n (numbers c.precedence_or_none-list.result.now) c.args.definition.now c.args.first.0) (c.class-class.ensures ∙ c.in_ok-preview.ensures.class)
+    ∙ ap (λ l. said_from c.args.rows.now (number c.args.table.now c.args.definition.now) l c.args.definition.now c.args.first.0)
     (c.precedence_or_none-list.ensures ∙ ap list_in (c.in_ok-preview.ensures.lists c.class-class.result.0)
     ∙ ap (λ n. list_in (listing (classes_with c.args.table.now c.args.definition.now) n)) (c.class-class.ensures ∙ c.in_ok-preview.ensures.class))
 

@@ -1,7 +1,14 @@
-use Rattle.std.proofs.Common.{◌≡◌, length, arith}
+use Rattle.std.proofs.Common.{◌≡◌, None, arith, length, subst, sym}
 use Rattle.clos_machine.specs.clos_world.World.{seen}
+use Rattle.clos_definition.specs.Class.{class_refusal}
 use Rattle.clos_definition_forms.proofs.Defining.{class_is_made}
 use Rattle.clos_definition_forms.proofs.definition.make_checked_class.Goals as goal
+
+pub make_prepared_class-requires-clause-allowed : goal.make_prepared_class-requires-clause-allowed
+make_prepared_class-requires-clause-allowed c =
+    let m : c.len.result ≡ length c.args.values.items = omega arith in
+    subst (λ n. class_refusal c.args.definition.now n (seen c.prepare_class.new.world) ≡ None) m
+    (subst (λ w. class_refusal c.args.definition.now c.len.result w ≡ None) (sym c.in-Ok.ensures.same) c.in-Ok.ensures.allows)
 
 pub returns-in-Ok : goal.returns-in-Ok
 returns-in-Ok c =

@@ -6,13 +6,13 @@ use Rattle.clos_machine.proofs.updating.restructure.Goals as goal
 
 pub returns-then-steps-eq0-clause-turns : goal.returns-then-steps-eq0-clause-turns
 returns-then-steps-eq0-clause-turns c =
-    update_no_step c.args.machine.now c.args.machine.now c.args.id.0 c.args.layout.now.value c.args.visit (seen c.args.world.now) c.args.steps.now c.args.arguments c.plain.result
+    update_no_step c.args.machine.now c.args.machine.now c.args.id.0 c.args.layout.now c.args.visit (seen c.args.world.now) c.args.steps.now c.args.arguments c.plain.result
     c.if-steps-eq0.true c.plain.ensures
 
 pub returns-clause-turns : goal.returns-clause-turns
 returns-clause-turns c =
     let m : Machine = c.args.machine.now in
-    update_goes m (record m { levels = c.push.new.self }) c.args.id c.args.layout.now.value c.args.visit c.args.arguments (seen c.args.world.now)
-    (record (seen c.args.world.now) { store = c.restructure.new.self.contents }) c.args.steps.now (c.args.steps.now - 1)
+    update_goes m (record m { levels = c.push.new.self }) c.args.id c.args.layout.now c.args.visit c.args.arguments (seen c.args.world.now)
+    (record (seen c.args.world.now) { classes = c.restructure.new.self.classes; store = c.restructure.new.self.contents }) c.args.steps.now (c.args.steps.now - 1)
     (ap (λ ls. record m { levels = ls }) c.in_ok-push.ensures.ok) (omega (arith, c.if-steps-eq0.false))
-    (ap (λ h. record (seen c.args.world.now) { store = h.contents }) c.in-Ok.ensures.ok)
+    (ap (λ o. record (seen c.args.world.now) { classes = o.classes; store = o.contents }) c.in-Ok.ensures.ok)

@@ -1,5 +1,4 @@
 use Rattle.std.proofs.Common.{◌≡◌, subst}
-use Rattle.std.specs.Prelude.{option_map}
 use Rattle.clos_machine.specs.clos_world.Class.{layout}
 use Rattle.clos_machine.specs.clos_world.World.{class_of_instance, seen}
 use Rattle.clos_machine.specs.clos_meaning.ChangeClass.{if_there}
@@ -16,5 +15,5 @@ pub returns-in-None-clause-turns : goal.returns-in-None-clause-turns
 returns-in-None-clause-turns c =
     change_no_layout c.args.machine.now c.args.machine.now (meaning c.args.machine.now.room) c.args.id.0 c.args.class.0 c.args.initargs (seen c.args.world.now) c.args.steps.now c.in-Some.copy.0
     c.plain-in-None.result c.in-Some.ensures
-    (subst (λ o. option_map (λ l. l.value) o ≡ if_there (class_of_instance (seen c.args.world.now) c.args.id.0) (layout (seen c.args.world.now).classes c.args.class.0)) c.in-None.is c.in_ok-layout_for.ensures.layout)
+    (subst (λ o. o ≡ if_there (class_of_instance (seen c.args.world.now) c.args.id.0) (layout (seen c.args.world.now).classes c.args.class.0)) c.in-None.is c.in_ok-layout_for.ensures.layout)
     c.plain-in-None.ensures

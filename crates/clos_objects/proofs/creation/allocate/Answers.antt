@@ -15,7 +15,7 @@ returns-then-steps-eq0-clause-turns c =
 
 pub returns-clause-turns : goal.returns-clause-turns
 returns-clause-turns c =
-    allocate_goes c.args.machine.now c.args.class c.args.effective c.args.initargs c.in-Some.id (seen c.args.world.now) (record (seen c.args.world.now) { store = c.allocate.new.self.contents })
+    allocate_goes c.args.machine.now c.args.class c.args.effective c.args.initargs c.in-Some.id (seen c.args.world.now) (record (seen c.args.world.now) { classes = c.allocate.new.self.classes; store = c.allocate.new.self.contents })
     c.args.steps.now (c.args.steps.now - 1) c.in-Some.ensures (omega (arith, c.if-steps-eq0.false))
-    (ap (λ x. record (seen c.args.world.now) { store = x })
-    (ap (λ h. h.contents) c.in-Ok.ensures.ok.1 ∙ ap (λ l. with_instance (allocated c.args.class.0 l) c.args.world.now.store.contents) c.layout.ensures))
+    (ap (λ o. record (seen c.args.world.now) { classes = o.classes; store = o.contents })
+    (c.in-Ok.ensures.ok.1 ∙ ap (λ l. record c.args.world.now.objects { contents = with_instance (allocated c.args.class.0 l) c.args.world.now.objects.contents }) c.layout.ensures))
