@@ -1,5 +1,5 @@
 -- What it says of two layouts that they are one.
-use Rattle.std.proofs.Common.{◌≡◌, ◌↔◌, ◌&&◌, ◌||◌, Bool, true, false, List, [], ◌∷◌, Option, Some, None, refl, sym, subst, ap, ◌∙◌, true≢false}
+use Rattle.std.proofs.Common.{◌≡◌, ◌&&◌, ◌||◌, Bool, true, false, List, [], ◌∷◌, Option, Some, None, refl, sym, ap, ◌∙◌, true≢false}
 use Rattle.std.specs.Prelude.{is_some}
 use Rattle.std.specs.List.{list_all, list_any}
 use Rattle.std.specs.Map.{keys_of, lookup}
@@ -9,7 +9,7 @@ use Rattle.lisp_data.specs.KeyLaws.{same_name-Decides}
 use Rattle.lisp_data.specs.Name.{Name, same_name}
 use Rattle.lisp_data.specs.declared.ids.CellId.{CellId}
 use Rattle.clos_class.specs.Laws.{TellsLayouts}
-use Rattle.clos_class.specs.Slots.{Layout, agrees_on, same_cell, same_cells, same_layout, same_names}
+use Rattle.clos_class.specs.Slots.{agrees_on, same_cell, same_cells, same_layout, same_names}
 
 both : (a b : Bool) → (a && b) ≡ true → (a ≡ true) × (b ≡ true)
 both true b e = (refl, e)

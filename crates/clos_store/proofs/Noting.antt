@@ -1,5 +1,5 @@
 -- What is noted of instances stays right.
-use Rattle.std.proofs.Common.{◌≡◌, ◌⊎◌, inl, inr, ℕ, zero, suc, ◌+◌, ◌≤◌, ◌<◌, ◌++◌, Bool, true, false, true≢false, List, [], ◌∷◌, Option, Some, None, length, length-append, map, arith, refl, ap, sym, subst, ◌∙◌}
+use Rattle.std.proofs.Common.{◌≡◌, ◌⊎◌, inl, inr, ℕ, zero, suc, ◌+◌, ◌≤◌, ◌<◌, ◌++◌, Bool, true, false, true≢false, List, [], ◌∷◌, Option, Some, None, length, length-append, arith, refl, ap, sym, subst, ◌∙◌}
 use Rattle.std.specs.Prelude.{◌-◌, ◌==◌, IsSome, is_some, not, slice_get, slice_set, unwrap_or, if◌then◌else◌}
 use Rattle.std.specs.Map.{lookup}
 use Rattle.std.specs.Option.{option_map_or}
@@ -91,6 +91,7 @@ noted_change t w v now i c ks new l h there e k = by (instance w i) refl there
   where
     changed : Contents
     changed = record w { instances = with_changed (updated w.cells c l) (i - 1) w.instances }
+
     by : (o : Option Object) → instance w i ≡ o → IsSome o → AreNoted t v now new
     by None q h = absurd (true≢false (sym h))
     by (Some x) q there =
@@ -171,6 +172,7 @@ noted_seen t w now i ks new h p d k = subst (AreNoted t w now) (sym k) (record {
     past : (n m : ℕ) → Says ks n m ⊎ ((n ≡ i - 1) × (m ≡ now)) → m ≤ now
     past n m (inl s) = h.past n m s
     past n m (inr e) = let q = e.1 in omega (arith, q)
+
     up_to_date : (n : ℕ) → Says ks n now ⊎ ((n ≡ i - 1) × (now ≡ now)) → due_for t (slice_get w.instances n) ≡ None
     up_to_date n (inl s) = h.up_to_date n s
     up_to_date n (inr e) = subst (λ k. due_for t (slice_get w.instances k) ≡ None) (sym e.0) (placed t w i p d)

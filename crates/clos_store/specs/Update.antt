@@ -1,12 +1,12 @@
 -- Instances that are given another layout: after their class was defined again (HyperSpec 4.3.6), or as they change it (7.2).
-use Rattle.std.specs.Prelude.{◌≡◌, ℕ, ◌-◌, Bool, false, not, ◌||◌, is_some, List, [], ◌∷◌, ◌++◌, Option, Some, None, map, option_map}
+use Rattle.std.specs.Prelude.{ℕ, ◌-◌, Bool, false, not, ◌||◌, is_some, List, [], ◌∷◌, ◌++◌, Option, Some, None, map, option_map}
 use Rattle.std.specs.List.{filter, filter_map, list_any}
 use Rattle.std.specs.Map.{lookup}
 use Rattle.std.specs.Option.{option_map_or}
 use Rattle.lisp_data.specs.Name.{Name, same_name}
 use Rattle.lisp_data.specs.Value.{Val}
 use Rattle.clos_class.specs.Slots.{Layout, same_layout}
-use Rattle.clos_store.specs.Store.{Contents, Object, Slots, cell_among, found_or, if_bound, instance, kept_layout, slot_names, with_changed}
+use Rattle.clos_store.specs.Store.{Contents, Object, Slots, cell_among, found_or, if_bound, instance, kept_layout, with_changed}
 
 -- An instance is stale where the layout that it keeps is not this one, that of its class now (4.3.6).
 abbrev pub is_stale : Contents → ℕ → Layout → Bool

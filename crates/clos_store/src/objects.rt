@@ -46,7 +46,12 @@ impl Model for Objects {
 
 impl Objects {
     /// The predefined classes and no instances, and room for so many classes, instances and cells.
-    pub fn new(alloc: Global, classes: u64, instances: u64, cells: u64) -> Result<Objects, AllocError>
+    pub fn new(
+        alloc: Global,
+        classes: u64,
+        instances: u64,
+        cells: u64,
+    ) -> Result<Objects, AllocError>
         ensures { IfOk result (λ r. r ≡ record { classes = initial classes; contents = empty instances cells }) }
     {
         let classes = Classes::new(alloc, classes)?;

@@ -1,7 +1,7 @@
 use Rattle.std.proofs.Common.{◌≡◌, ap, length, ◌∙◌}
-use Rattle.clos_class.specs.Table.{Table, with_definition}
-use Rattle.clos_store.specs.Objects.{Objects, with_class}
-use Rattle.clos_store.specs.Store.{Contents, Held, with_cells}
+use Rattle.clos_class.specs.Table.{with_definition}
+use Rattle.clos_store.specs.Objects.{with_class}
+use Rattle.clos_store.specs.Store.{Held, with_cells}
 use Rattle.clos_store.proofs.objects.Objects.define.Goals as goal
 
 pub returns-clause-ok : goal.returns-clause-ok
