@@ -1,5 +1,4 @@
-use Rattle.std.proofs.Common.{◌≡◌, ◌++◌, None, ap, map, subst, ◌∙◌}
-use Rattle.std.specs.Prelude.{option_map}
+use Rattle.std.proofs.Common.{◌≡◌, ◌++◌, None, ap, map, subst, sym, ◌∙◌}
 use Rattle.lisp_data.specs.ValueView.{value_of}
 use Rattle.clos_machine.specs.clos_world.World.{seen}
 use Rattle.clos_machine.specs.Machine.{Turns, here}
@@ -12,12 +11,19 @@ use Rattle.clos_objects.proofs.system_methods.update_and_reinitialize.Goals as g
 pub returns-in-None-clause-turns : goal.returns-in-None-clause-turns
 returns-in-None-clause-turns c =
     turns_due c.args.machine.now c.reinitialize_instance.new.machine (λ ev env. reinitialize_instance ev (map value_of c.args.initargs.now) c.args.id.0) c.args.id.0 None
-    (seen c.args.world.now) c.args.steps.now c.reinitialize_instance.result (seen c.args.world.now) c.args.steps.now
-    (subst (λ o. option_map (λ l. l.value) o ≡ due (seen c.args.world.now) c.args.id.0) c.in-None.is c.in_ok-due.ensures)
-    (turns_of_leads (here c.args.machine.now (λ ev env. reinitialize_instance ev (map value_of c.args.initargs.now) c.args.id.0)) (seen c.args.world.now) c.args.steps.now
-    c.reinitialize_instance.result c.reinitialize_instance.new.machine c.reinitialize_instance.ensures.leads)
+    (seen c.args.world.now) c.args.steps.now c.reinitialize_instance.result (seen c.due.new.world) c.args.steps.now
+    (subst (λ o. o ≡ due (seen c.args.world.now) c.args.id.0) c.in-None.is c.in_ok-due.ensures.value)
+    (subst (λ w. Turns (here c.args.machine.now (λ ev env. reinitialize_instance ev (map value_of c.args.initargs.now) c.args.id.0)) w c.args.steps.now
+    c.reinitialize_instance.result c.reinitialize_instance.new.machine (seen c.due.new.world) c.args.steps.now) c.in_ok-due.ensures.same
+    (turns_of_leads (here c.args.machine.now (λ ev env. reinitialize_instance ev (map value_of c.args.initargs.now) c.args.id.0)) (seen c.due.new.world) c.args.steps.now
+    c.reinitialize_instance.result c.reinitialize_instance.new.machine c.reinitialize_instance.ensures.leads))
+
+pub update-requires : goal.update-requires
+update-requires c = ap (λ w. due w c.args.id.0) c.in_ok-due.ensures.same ∙ sym c.in_ok-due.ensures.value ∙ c.in-Some.is
 
 pub returns-in_ok-push_all-in-Some-clause-turns : goal.returns-in_ok-push_all-in-Some-clause-turns
 returns-in_ok-push_all-in-Some-clause-turns c =
-    subst (λ vs. Turns (here c.args.machine.now (λ ev env. updated ev c.args.id.0 (reinitialize_instance ev vs c.args.id.0))) (seen c.args.world.now) c.args.steps.now c.update.result c.update.new.machine
-    (seen c.update.new.world) c.update.new.steps) (c.in_ok-push_all-in-Some.ensures ∙ ap (λ l. l ++ map value_of c.args.initargs.now) c.new-values.ensures) c.update.ensures.turns
+    subst (λ w. Turns (here c.args.machine.now (λ ev env. updated ev c.args.id.0 (reinitialize_instance ev (map value_of c.args.initargs.now) c.args.id.0))) w c.args.steps.now
+    c.update.result c.update.new.machine (seen c.update.new.world) c.update.new.steps) c.in_ok-due.ensures.same
+    (subst (λ vs. Turns (here c.args.machine.now (λ ev env. updated ev c.args.id.0 (reinitialize_instance ev vs c.args.id.0))) (seen c.due.new.world) c.args.steps.now c.update.result c.update.new.machine
+    (seen c.update.new.world) c.update.new.steps) (c.in_ok-push_all-in-Some.ensures ∙ ap (λ l. l ++ map value_of c.args.initargs.now) c.new-values.ensures) c.update.ensures.turns)
