@@ -4,6 +4,8 @@
 #[cfg(test)]
 mod large;
 #[cfg(test)]
+mod objects;
+#[cfg(test)]
 mod store;
 #[cfg(test)]
 mod worked;

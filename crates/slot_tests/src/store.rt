@@ -17,10 +17,10 @@ fn slot(alloc: Global, name: Name, allocation: Allocation) -> SlotSpecifier {
     }
 }
 
-/// Of a class with a shared slot N and a local slot Y.
-fn definition(alloc: Global) -> Result<ClassDefinition, AllocError> {
+/// Of a class A with a slot N of this allocation and a local slot Y.
+pub fn definition(alloc: Global, allocation: Allocation) -> Result<ClassDefinition, AllocError> {
     let mut slots = Sequence::new(alloc);
-    slots.push(slot(alloc, Name::fixed(&"N"), Allocation::Class))?;
+    slots.push(slot(alloc, Name::fixed(&"N"), allocation))?;
     slots.push(slot(alloc, Name::fixed(&"Y"), Allocation::Instance))?;
     Ok(ClassDefinition {
         name: Name::fixed(&"A"),
@@ -32,7 +32,7 @@ fn definition(alloc: Global) -> Result<ClassDefinition, AllocError> {
 
 /// The layout of that class, with this cell.
 fn layout(alloc: Global, cell: CellId) -> Result<Option<Layout>, ClassFault> {
-    let definition = definition(alloc)?;
+    let definition = definition(alloc, Allocation::Class)?;
     let mut classes = Classes::new(alloc, 1)?;
     let class = classes.define(alloc, &definition, cell)?.class;
     match classes.layout(class) {
