@@ -129,7 +129,7 @@ fn fill_first(
         return Err(Stop::Refused(plain(alloc, ConditionKind::StepLimit)));
     }
     world
-        .store
+        .objects
         .set_slot(filling.instance, &slot.name, Some(value));
     *steps -= 1;
     filling.place = next;
