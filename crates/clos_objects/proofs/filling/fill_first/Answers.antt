@@ -15,5 +15,5 @@ pub returns-clause-turns : goal.returns-clause-turns
 returns-clause-turns c =
     let g : Filling = record c.args.filling { place = c.in-Some.next } in
     first_next c.args.machine.now (subject_of c.args.filling) (slots_left c.args.filling) c.in-Some.slot.now (drop c.in-Some.next c.args.filling.effective.slots)
-    (value_of c.args.value) g c.new.result (seen c.args.world.now) (record (seen c.args.world.now) { store = c.set_slot.new.self.contents }) c.args.steps.now (c.args.steps.now - 1)
-    c.in-Some.ensures refl refl (omega (arith, c.if-steps-eq0.false)) (ap (λ x. record (seen c.args.world.now) { store = x.contents }) c.set_slot.ensures)
+    (value_of c.args.value) g c.new.result (seen c.args.world.now) (record (seen c.args.world.now) { classes = c.set_slot.new.self.classes; store = c.set_slot.new.self.contents }) c.args.steps.now (c.args.steps.now - 1)
+    c.in-Some.ensures refl refl (omega (arith, c.if-steps-eq0.false)) (ap (λ o. record (seen c.args.world.now) { classes = o.classes; store = o.contents }) c.set_slot.ensures)
