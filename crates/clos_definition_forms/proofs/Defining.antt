@@ -132,7 +132,6 @@ module _ (d : GenericDefinition) (w u : State) (s : ℕ) where
 
 -- A class that is not defined is a new one.
 
-
 module _ (d : ClassDefinition) (w u : State) (s : ℕ) where
   pub class_refused : (stop : Stop) → w.locals ≡ [] → u ≡ w → StopsFor (class_refusal d (length (cells_needed d w)) w) stop → Answers (define_class d) w s (Err stop) u s
   class_refused stop l e h =

@@ -65,7 +65,6 @@ define_class_quiet d w e =
     unless_quiet (class_refusal d (length (cells_needed d w)) w) (forms_evaluated (initforms (cells_needed d w)) [] (class_made d)) w
     (class_forms_quiet d (initforms (cells_needed d w)) w e)
 
-
 -- ---- remove-method
 
 removed_quiet : (v : Val) (r : Result (ℕ × ℕ) Condition) (w : State) → leaves (removed_if v r w 0) w 0
