@@ -45,6 +45,10 @@ module _ (o : Option Condition) (go : Run) (w u : State) where
 storage_at : (run : Run) (w : State) (s : ℕ) → leaves (run w 0) w 0 → Answers run w s (Err Storage) w s
 storage_at run w s l = (0, omega arith, l)
 
+-- an effect for which there is no memory
+pub effect_not_made : (v : Val) (t w u : State) (s : ℕ) → u ≡ w → Answers (takes_effect v t) w s (Err Storage) u s
+effect_not_made v t w u s e = subst (λ x. Answers (takes_effect v t) w s (Err Storage) x s) (sym e) (storage_at (takes_effect v t) w s (refl, refl))
+
 -- with an effect that is the same
 takes_same : (v v' : Val) (x x' w u y : State) (s j : ℕ) (r : Result Value Stop) → u ≡ w → v ≡ v' → x ≡ x' → Answers (takes_effect v x) u s r y j → Answers (takes_effect v' x') w s r y j
 takes_same v v' x x' w u y s j r e h g a =
