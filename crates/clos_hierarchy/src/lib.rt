@@ -2,6 +2,7 @@
 #![tactic(auto)]
 
 mod admit;
+mod below;
 mod cycle;
 mod definitions;
 mod fault;
