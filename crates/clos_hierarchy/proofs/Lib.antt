@@ -10,6 +10,7 @@ pub mod Found
 pub mod Filling
 pub mod Defining
 pub mod Relisted
+pub mod Ascending
 pub mod Under
 pub mod Broken
 pub mod Placing

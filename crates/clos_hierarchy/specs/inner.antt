@@ -2,4 +2,5 @@
 pub mod KeptView
 pub mod Kept
 pub mod Below
+pub mod Touched
 pub mod Finding

@@ -17,6 +17,7 @@ mod predefined;
 mod preview;
 mod relist;
 mod table;
+mod touched;
 
 pub use admit::Changed;
 pub use fault::ClassFault;
