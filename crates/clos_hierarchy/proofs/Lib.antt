@@ -11,6 +11,7 @@ pub mod Filling
 pub mod Defining
 pub mod Relisted
 pub mod Ascending
+pub mod Exchanged
 pub mod Under
 pub mod Broken
 pub mod Placing

@@ -3,4 +3,5 @@ pub mod KeptView
 pub mod Kept
 pub mod Below
 pub mod Touched
+pub mod Exchange
 pub mod Finding

@@ -5,6 +5,7 @@ mod admit;
 mod below;
 mod cycle;
 mod definitions;
+mod exchange;
 mod fault;
 mod fill;
 mod find;
