@@ -12,6 +12,7 @@ pub mod Defining
 pub mod Relisted
 pub mod Ascending
 pub mod Exchanged
+pub mod Filled
 pub mod Under
 pub mod Broken
 pub mod Placing

@@ -76,6 +76,6 @@ pub fn relist(
     ensures adds { IfOk result (λ r. (cs : Classes) → Knows cs kept.now → (n : ℕ) → More (without class.0 (listing_at kept.now n)) (listing_at r.items n)) }
 {
     let mut rest = start(alloc, kept, class, definitions.len())?;
-    fill(alloc, definitions, &mut rest)?;
+    fill(alloc, definitions, &mut rest, &[])?;
     Ok(rest)
 }

@@ -1,10 +1,11 @@
 -- The classes that a definition touches.
-use Rattle.std.specs.Prelude.{◌≡◌, ℕ, true, ◌==◌, ◌<◌, Bool, ◌&&◌, ◌||◌, List, [], ◌∷◌}
+use Rattle.std.specs.Prelude.{◌≡◌, ℕ, true, false, length, ◌==◌, ◌<◌, Bool, ◌&&◌, ◌||◌, List, [], ◌∷◌}
 use Rattle.clos_precedence.specs.Precedence.{has}
-use Rattle.clos_hierarchy.specs.Classes.{list_in}
+use Rattle.clos_hierarchy.specs.Classes.{Classes, is_lacking, list_in}
 use Rattle.clos_hierarchy.specs.declared.kept.Kept.{Kept}
 use Rattle.clos_hierarchy.specs.inner.Below.{below_at}
-use Rattle.clos_hierarchy.specs.inner.KeptView.{listing_at}
+use Rattle.clos_hierarchy.specs.inner.Kept.{Ends}
+use Rattle.clos_hierarchy.specs.inner.KeptView.{kept_at, listing_at}
 
 -- each number is below those after it
 abbrev pub Ascends : List ℕ → Type 0
@@ -18,3 +19,19 @@ have_it ks c ns n = has ns n && has (list_in (listing_at ks n)) c
 -- the class itself, those that wait for others, which these are, and those that have it in their lists, as is noted
 abbrev pub is_touched : List Kept → List ℕ → List (List ℕ) → ℕ → ℕ → Bool
 is_touched ks waiting rows c n = c == n || (has waiting n || have_it ks c (below_at rows c) n)
+
+-- what is kept of all others stays
+abbrev pub OthersStay : List ℕ → List Kept → List Kept → Type 0
+OthersStay ns old new = (length new ≡ length old) × ((n : ℕ) → has ns n ≡ false → kept_at new n ≡ kept_at old n)
+
+-- these are the numbers of classes of which something is kept
+abbrev pub AreWithin : List ℕ → List Kept → Type 0
+AreWithin ns ks = (n : ℕ) → has ns n ≡ true → n < length ks
+
+-- nothing more is found of any of these
+abbrev pub AllEnd : Classes → List Kept → List ℕ → Type 0
+AllEnd cs ks ns = (n : ℕ) → has ns n ≡ true → Ends cs ks n
+
+-- the classes of which nothing is said are among these
+abbrev pub WaitWithin : List ℕ → List Kept → Type 0
+WaitWithin ns ks = (n : ℕ) → n < length ks → is_lacking (listing_at ks n) ≡ true → has ns n ≡ true
