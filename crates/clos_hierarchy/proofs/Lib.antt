@@ -13,6 +13,7 @@ pub mod Relisted
 pub mod Ascending
 pub mod Exchanged
 pub mod Filled
+pub mod Restarted
 pub mod Under
 pub mod Broken
 pub mod Placing

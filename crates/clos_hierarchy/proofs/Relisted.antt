@@ -104,7 +104,7 @@ stays_if a c h lacking e = cc
 stays_if a c h broken e = cc
 stays_if a c h (listed l) e = cc
 
-goes_if : (a : Listing) (c : ℕ) → has (list_in a) c ≡ true → without c a ≡ lacking
+pub goes_if : (a : Listing) (c : ℕ) → has (list_in a) c ≡ true → without c a ≡ lacking
 goes_if lacking c h = refl
 goes_if broken c h = refl
 goes_if (listed l) c h = cc

@@ -2,12 +2,14 @@
 #![tactic(auto)]
 
 mod admit;
+mod anew;
 mod below;
 mod cycle;
 mod definitions;
 mod exchange;
 mod fault;
 mod fill;
+mod fill_all;
 mod find;
 mod kept;
 pub mod laws;

@@ -6,7 +6,7 @@ ghost use Rattle.clos_hierarchy.specs.inner.Kept.{Changes, More, Restarts, Knows
 ghost use Rattle.clos_hierarchy.specs.inner.KeptView.{listing_of, listing_at, kept_above, kept_at};
 
 use crate::definitions::Definitions;
-use crate::fill::fill;
+use crate::fill_all::fill;
 use crate::find::list_of;
 use crate::kept::Kept;
 use clos_precedence::contains;
@@ -76,6 +76,6 @@ pub fn relist(
     ensures adds { IfOk result (λ r. (cs : Classes) → Knows cs kept.now → (n : ℕ) → More (without class.0 (listing_at kept.now n)) (listing_at r.items n)) }
 {
     let mut rest = start(alloc, kept, class, definitions.len())?;
-    fill(alloc, definitions, &mut rest, &[])?;
+    fill(alloc, definitions, &mut rest)?;
     Ok(rest)
 }

@@ -20,3 +20,7 @@ replaced (p ∷ ps) (k ∷ new) ks = kept_at ks p ∷ replaced ps new (slice_set
 abbrev pub nothing_of : List ℕ → List Kept
 nothing_of [] = []
 nothing_of (p ∷ ps) = Lacking ∷ nothing_of ps
+
+-- what is kept where nothing is said of these any more
+abbrev pub taken_out : List ℕ → List Kept → List Kept
+taken_out ps ks = put_all ps (nothing_of ps) ks

@@ -1,7 +1,7 @@
 -- The classes that a definition touches.
 use Rattle.std.specs.Prelude.{◌≡◌, ℕ, true, false, length, ◌==◌, ◌<◌, Bool, ◌&&◌, ◌||◌, List, [], ◌∷◌}
 use Rattle.clos_precedence.specs.Precedence.{has}
-use Rattle.clos_hierarchy.specs.Classes.{Classes, is_lacking, list_in}
+use Rattle.clos_hierarchy.specs.Classes.{Classes, Listing, broken, is_lacking, lacking, list_in, listed}
 use Rattle.clos_hierarchy.specs.declared.kept.Kept.{Kept}
 use Rattle.clos_hierarchy.specs.inner.Below.{below_at}
 use Rattle.clos_hierarchy.specs.inner.Kept.{Ends}
@@ -35,3 +35,18 @@ AllEnd cs ks ns = (n : ℕ) → has ns n ≡ true → Ends cs ks n
 -- the classes of which nothing is said are among these
 abbrev pub WaitWithin : List ℕ → List Kept → Type 0
 WaitWithin ns ks = (n : ℕ) → n < length ks → is_lacking (listing_at ks n) ≡ true → has ns n ≡ true
+
+-- whether there is no list
+abbrev pub is_unlisted : Listing → Bool
+is_unlisted lacking = true
+is_unlisted broken = true
+is_unlisted (listed l) = false
+
+-- these are the classes that have no list
+pub record AreWaiting (ns : List ℕ) (ks : List Kept) : Type 0 where
+  pub all : (n : ℕ) → n < length ks → is_unlisted (listing_at ks n) ≡ true → has ns n ≡ true
+  pub only : (n : ℕ) → has ns n ≡ true → is_unlisted (listing_at ks n) ≡ true
+
+-- of each class it is noted which classes have it in their lists
+abbrev pub AreNoted : List (List ℕ) → List Kept → Type 0
+AreNoted rows ks = (n m : ℕ) → has (list_in (listing_at ks n)) m ≡ true → has (below_at rows m) n ≡ true

@@ -1,0 +1,203 @@
+-- What is kept where the classes that are touched are taken out, and where they are put back.
+use Rattle.std.proofs.Common.{◌≡◌, ◌⊎◌, inl, inr, ℕ, zero, suc, ◌==◌, ◌<◌, ◌≤◌, Bool, true, false, true≢false, List, [], ◌∷◌, length, map, arith, refl, ap, sym, subst, ◌∙◌}
+use Rattle.std.specs.Prelude.{◌||◌, ◌&&◌, nat_lt, slice_set, if◌then◌else◌}
+use Rattle.std.proofs.lemmas.Bool.{eqb-true, eqb-false, ltb-true, ltb-false}
+use Rattle.clos_precedence.specs.Precedence.{has}
+use Rattle.clos_precedence.proofs.Members.{first_or_later, has_first, has_later}
+use Rattle.clos_precedence.proofs.Truth.{either, or_left, or_right}
+use Rattle.clos_hierarchy.specs.Classes.{Classes, Listing, broken, is_lacking, lacking, list_in, listed}
+use Rattle.clos_hierarchy.specs.declared.kept.Kept.{Kept}
+use Rattle.clos_hierarchy.specs.declared.kept.Kept.TheVariants.{Lacking}
+use Rattle.clos_hierarchy.specs.inner.Below.{below_at}
+use Rattle.clos_hierarchy.specs.inner.Exchange.{nothing_of, put_all, replaced}
+use Rattle.clos_hierarchy.specs.inner.Kept.{Knows, Restarts, without}
+use Rattle.clos_hierarchy.specs.inner.KeptView.{kept_above, kept_at, listing_at, listing_of}
+use Rattle.clos_hierarchy.specs.inner.Touched.{AreNoted, AreWaiting, AreWithin, Ascends, OthersStay, WaitWithin, have_it, is_touched, is_unlisted}
+use Rattle.clos_hierarchy.proofs.Filling.{same_length, set_other, set_same}
+use Rattle.clos_hierarchy.proofs.Relisted.{goes_if}
+
+-- ---- what is put in places
+
+pub put_length : (ps : List ℕ) (new ks : List Kept) → length (put_all ps new ks) ≡ length ks
+put_length [] new ks = refl
+put_length (p ∷ ps) [] ks = refl
+put_length (p ∷ ps) (k ∷ new) ks = put_length ps new (slice_set ks p k) ∙ same_length ks p k
+
+not_first : (p n : ℕ) (ps : List ℕ) → has (p ∷ ps) n ≡ false → ((p == n) ≡ false) × (has ps n ≡ false)
+not_first p n ps h = by (p == n) (has ps n) h
+  where
+    by : (a b : Bool) → (a || b) ≡ false → (a ≡ false) × (b ≡ false)
+    by true b h = absurd (true≢false h)
+    by false b h = (refl, h)
+
+pub put_others : (ps : List ℕ) (new ks : List Kept) (n : ℕ) → has ps n ≡ false → kept_at (put_all ps new ks) n ≡ kept_at ks n
+put_others [] new ks n h = refl
+put_others (p ∷ ps) [] ks n h = refl
+put_others (p ∷ ps) (k ∷ new) ks n h = put_others ps new (slice_set ks p k) n (not_first p n ps h).1 ∙ set_other ks p n k (not_first p n ps h).0
+
+-- where each number is below those after it, the first is none of them
+first_once : (p : ℕ) (ps : List ℕ) (b : Bool) → has ps p ≡ b → Ascends (p ∷ ps) → has ps p ≡ false
+first_once p ps true e a = let l : p < p = a.0 p e in absurd (omega (arith, l))
+first_once p ps false e a = e
+
+-- nothing is said of those that are taken out
+nothing_by : (p : ℕ) (ps : List ℕ) (ks : List Kept) (n : ℕ) → (p ≡ n) ⊎ (has ps n ≡ true) → Ascends (p ∷ ps) → p < length ks
+    → (has ps n ≡ true → kept_at (put_all ps (nothing_of ps) (slice_set ks p Lacking)) n ≡ Lacking) → kept_at (put_all ps (nothing_of ps) (slice_set ks p Lacking)) n ≡ Lacking
+nothing_by p ps ks n (inl e) a h r =
+    subst (λ i. kept_at (put_all ps (nothing_of ps) (slice_set ks p Lacking)) i ≡ Lacking) e
+    (put_others ps (nothing_of ps) (slice_set ks p Lacking) p (first_once p ps (has ps p) refl a) ∙ set_same ks p Lacking h)
+nothing_by p ps ks n (inr e) a h r = r e
+
+pub nothing_there : (ps : List ℕ) (ks : List Kept) (n : ℕ) → Ascends ps → AreWithin ps ks → has ps n ≡ true → kept_at (put_all ps (nothing_of ps) ks) n ≡ Lacking
+nothing_there [] ks n a w h = absurd (true≢false (sym h))
+nothing_there (p ∷ ps) ks n a w h =
+    nothing_by p ps ks n (first_or_later p n ps h) a (w p (has_first p ps))
+    (λ e. nothing_there ps (slice_set ks p Lacking) n a.1 (λ m i. subst (λ l. m < l) (sym (same_length ks p Lacking)) (w m (has_later p m ps i))) e)
+
+second : (a b : Bool) → (a && b) ≡ true → b ≡ true
+second true b h = h
+second false b h = absurd (true≢false (sym h))
+
+both : (a b : Bool) → a ≡ true → b ≡ true → (a && b) ≡ true
+both a b e f = ap (λ x. x && b) e ∙ f
+
+-- ---- by what is known
+
+module _ (cs : Classes) (ks : List Kept) (waiting : List ℕ) (rows : List (List ℕ)) (c : ℕ) (ps : List ℕ) (k : Knows cs ks) (w : AreWaiting waiting ks) (o : AreNoted rows ks)
+    (t : (n : ℕ) → has ps n ≡ is_touched ks waiting rows c n) where
+  unlisted : (a : Listing) → is_unlisted a ≡ true → without c a ≡ lacking
+  unlisted lacking h = refl
+  unlisted broken h = refl
+  unlisted (listed l) h = absurd (true≢false (sym h))
+
+  own : (a : Listing) → listing_at ks c ≡ a → without c a ≡ lacking
+  own lacking e = refl
+  own broken e = refl
+  own (listed l) e = goes_if (listed l) c (k.keeps.whole c l e).family.self
+
+  gone_by : (n : ℕ) → ((c == n) ≡ true) ⊎ ((has waiting n || have_it ks c (below_at rows c) n) ≡ true) → without c (listing_at ks n) ≡ lacking
+  gone_by n (inl e) = subst (λ i. without c (listing_at ks i) ≡ lacking) (eqb-true c n e) (own (listing_at ks c) refl)
+  gone_by n (inr h) = by (either (has waiting n) (have_it ks c (below_at rows c) n) h)
+    where
+      by : (has waiting n ≡ true) ⊎ (have_it ks c (below_at rows c) n ≡ true) → without c (listing_at ks n) ≡ lacking
+      by (inl i) = unlisted (listing_at ks n) (w.only n i)
+      by (inr i) = goes_if (listing_at ks n) c (second (has (below_at rows c) n) (has (list_in (listing_at ks n)) c) i)
+
+  -- the classes that are touched are those of which the lists may go
+  pub gone : (n : ℕ) → has ps n ≡ true → without c (listing_at ks n) ≡ lacking
+  gone n h = gone_by n (either (c == n) (has waiting n || have_it ks c (below_at rows c) n) (sym (t n) ∙ h))
+
+  none_of : (n : ℕ) → has ps n ≡ false → (has waiting n ≡ false) × (have_it ks c (below_at rows c) n ≡ false)
+  none_of n h = by (c == n) (has waiting n) (have_it ks c (below_at rows c) n) (sym (t n) ∙ h)
+    where
+      by : (a b d : Bool) → (a || (b || d)) ≡ false → (b ≡ false) × (d ≡ false)
+      by true b d h = absurd (true≢false h)
+      by false true d h = absurd (true≢false h)
+      by false false d h = (refl, h)
+
+  without_it : (a : Listing) (b : Bool) → has (list_in a) c ≡ b → is_unlisted a ≡ false → b ≡ false → a ≡ without c a
+  without_it lacking b e u h = absurd (true≢false u)
+  without_it broken b e u h = absurd (true≢false u)
+  without_it (listed l) b e u h = sym (kept_if (has l c) (e ∙ h))
+    where
+      kept_if : (b : Bool) → b ≡ false → (if b then lacking else listed l) ≡ listed l
+      kept_if true h = absurd (true≢false h)
+      kept_if false h = refl
+
+  not_noted : (n : ℕ) (b : Bool) → has (list_in (listing_at ks n)) c ≡ b → have_it ks c (below_at rows c) n ≡ false → b ≡ false
+  not_noted n true e h = absurd (true≢false (sym (both (has (below_at rows c) n) (has (list_in (listing_at ks n)) c) (o n c e) e) ∙ h))
+  not_noted n false e h = refl
+
+  listed_by : (n : ℕ) (b : Bool) → is_unlisted (listing_at ks n) ≡ b → n < length ks → has waiting n ≡ false → b ≡ false
+  listed_by n true e l h = absurd (true≢false (sym (w.all n l e) ∙ h))
+  listed_by n false e l h = refl
+
+  -- the lists of all others stay
+  pub listed_out : (n : ℕ) → n < length ks → has ps n ≡ false → is_unlisted (listing_at ks n) ≡ false
+  listed_out n l h = listed_by n (is_unlisted (listing_at ks n)) refl l (none_of n h).0
+
+  pub stays_out : (n : ℕ) → n < length ks → has ps n ≡ false → listing_at ks n ≡ without c (listing_at ks n)
+  stays_out n l h =
+      without_it (listing_at ks n) (has (list_in (listing_at ks n)) c) refl (listed_out n l h) (not_noted n (has (list_in (listing_at ks n)) c) refl (none_of n h).1)
+
+  -- ---- what is kept once they are taken out
+
+  module _ (a : Ascends ps) (v : AreWithin ps ks) where
+    abbrev out : List Kept
+    out = put_all ps (nothing_of ps) ks
+
+    abbrev Restart : ℕ → Type 0
+    Restart n = (listing_at out n ≡ without c (listing_at ks n)) × ((l : List ℕ) → listing_at out n ≡ listed l → kept_above (kept_at out n) ≡ kept_above (kept_at ks n))
+
+    past : (xs : List Kept) (n : ℕ) → length xs ≤ n → kept_at xs n ≡ Lacking
+    past [] n h = refl
+    past (x ∷ xs) zero h = absurd (omega (arith, h))
+    past (x ∷ xs) (suc n) h = past xs n (omega (arith, h))
+
+    restart_out : (n : ℕ) (b : Bool) → nat_lt n (length ks) ≡ b → has ps n ≡ false → Restart n
+    restart_out n true e h =
+        let s : kept_at out n ≡ kept_at ks n = put_others ps (nothing_of ps) ks n h in (ap listing_of s ∙ stays_out n (ltb-true n (length ks) e) h, λ l i. ap kept_above s)
+    restart_out n false e h =
+        let s : kept_at out n ≡ kept_at ks n = put_others ps (nothing_of ps) ks n h in
+        let p : kept_at ks n ≡ Lacking = past ks n (ltb-false n (length ks) e) in (ap listing_of (s ∙ p) ∙ ap (λ k. without c (listing_of k)) (sym p), λ l i. ap kept_above s)
+
+    restart_by : (n : ℕ) (b : Bool) → has ps n ≡ b → Restart n
+    restart_by n true e =
+        let s : kept_at out n ≡ Lacking = nothing_there ps ks n a v e in (ap listing_of s ∙ sym (gone n e), λ l i. absurd (lacks l (sym (ap listing_of s) ∙ i)))
+      where
+        lacks : (l : List ℕ) → lacking ≡ listed l → ⊥
+        lacks l e = true≢false (ap is_lacking e)
+    restart_by n false e = restart_out n (nat_lt n (length ks)) refl e
+
+    pub restarts : Restarts c ks out
+    restarts n = restart_by n (has ps n) refl
+
+    lacks_by : (l : Listing) → is_unlisted l ≡ false → is_lacking l ≡ true → false ≡ true
+    lacks_by lacking h e = sym h
+    lacks_by broken h e = e
+    lacks_by (listed l) h e = e
+
+    waits_by : (n : ℕ) (b : Bool) → has ps n ≡ b → n < length ks → is_lacking (listing_at out n) ≡ true → b ≡ true
+    waits_by n true e l h = refl
+    waits_by n false e l h =
+        lacks_by (listing_at ks n) (listed_out n l e) (sym (ap (λ k. is_lacking (listing_of k)) (put_others ps (nothing_of ps) ks n e)) ∙ h)
+
+    pub waits : WaitWithin ps out
+    waits n l h = waits_by n (has ps n) refl (subst (λ m. n < m) (put_length ps (nothing_of ps) ks) l) h
+
+-- ---- what is put back
+
+same_kept : (xs ys : List Kept) → length xs ≡ length ys → ((n : ℕ) → kept_at xs n ≡ kept_at ys n) → xs ≡ ys
+same_kept [] [] e h = refl
+same_kept [] (y ∷ ys) e h = absurd (omega (arith, e))
+same_kept (x ∷ xs) [] e h = absurd (omega (arith, e))
+same_kept (x ∷ xs) (y ∷ ys) e h = λ i. h 0 i ∷ same_kept xs ys (omega (arith, e)) (λ n. h (suc n)) i
+
+neither : (a b : Bool) → a ≡ false → b ≡ false → (a || b) ≡ false
+neither a b e i = ap (λ x. x || b) e ∙ i
+
+back_by : (ks now : List Kept) (p : ℕ) (ps : List ℕ) (n : ℕ) (b : Bool) → (p == n) ≡ b → length now ≡ length ks → p < length ks → ((m : ℕ) → has (p ∷ ps) m ≡ false → kept_at now m ≡ kept_at ks m) → has ps n ≡ false
+    → kept_at (slice_set now p (kept_at ks p)) n ≡ kept_at ks n
+back_by ks now p ps n true e l h f i =
+    subst (λ m. kept_at (slice_set now p (kept_at ks p)) m ≡ kept_at ks m) (eqb-true p n e) (set_same now p (kept_at ks p) (omega (arith, l, h)))
+back_by ks now p ps n false e l h f i = set_other now p n (kept_at ks p) e ∙ f n (neither (p == n) (has ps n) e i)
+
+pub put_back : (ps : List ℕ) (ks now : List Kept) → length now ≡ length ks → AreWithin ps ks → ((n : ℕ) → has ps n ≡ false → kept_at now n ≡ kept_at ks n) → put_all ps (map (kept_at ks) ps) now ≡ ks
+put_back [] ks now l w h = same_kept now ks l (λ n. h n refl)
+put_back (p ∷ ps) ks now l w h =
+    put_back ps ks (slice_set now p (kept_at ks p)) (same_length now p (kept_at ks p) ∙ l) (λ n i. w n (has_later p n ps i))
+    (λ n i. back_by ks now p ps n (p == n) refl l (w p (has_first p ps)) h i)
+
+map_same : (ps : List ℕ) (f g : ℕ → Kept) → ((n : ℕ) → has ps n ≡ true → f n ≡ g n) → map f ps ≡ map g ps
+map_same [] f g h = refl
+map_same (p ∷ ps) f g h = λ i. h p (has_first p ps) i ∷ map_same ps f g (λ n e. h n (has_later p n ps e)) i
+
+apart : (p n : ℕ) (ps : List ℕ) (b : Bool) → (p == n) ≡ b → Ascends (p ∷ ps) → has ps n ≡ true → (p == n) ≡ false
+apart p n ps true e a h = let l : p < n = a.0 n h in let q : p ≡ n = eqb-true p n e in absurd (omega (arith, l, q))
+apart p n ps false e a h = e
+
+pub taken_is : (ps : List ℕ) (ks : List Kept) → Ascends ps → replaced ps (nothing_of ps) ks ≡ map (kept_at ks) ps
+taken_is [] ks a = refl
+taken_is (p ∷ ps) ks a =
+    ap (λ l. kept_at ks p ∷ l)
+    (taken_is ps (slice_set ks p Lacking) a.1 ∙ map_same ps (kept_at (slice_set ks p Lacking)) (kept_at ks) (λ n h. set_other ks p n Lacking (apart p n ps (p == n) refl a h)))
