@@ -2,7 +2,9 @@
 use Rattle.std.proofs.Common.{◌≡◌, ◌⊎◌, inl, inr, ℕ, zero, suc, ◌==◌, ◌<◌, ◌≤◌, Bool, true, false, true≢false, List, [], ◌∷◌, length, map, arith, refl, ap, sym, subst, ◌∙◌}
 use Rattle.std.specs.Prelude.{◌||◌, ◌&&◌, nat_lt, slice_set, if◌then◌else◌}
 use Rattle.std.proofs.lemmas.Bool.{eqb-true, eqb-false, ltb-true, ltb-false}
+use Rattle.lisp_data.specs.declared.ids.ClassId.{ClassId}
 use Rattle.clos_precedence.specs.Precedence.{has}
+use Rattle.clos_precedence.specs.PrecedenceView.{numbers}
 use Rattle.clos_precedence.proofs.Members.{first_or_later, has_first, has_later}
 use Rattle.clos_precedence.proofs.Truth.{either, or_left, or_right}
 use Rattle.clos_hierarchy.specs.Classes.{Classes, Listing, broken, is_lacking, lacking, list_in, listed}
@@ -201,3 +203,24 @@ taken_is [] ks a = refl
 taken_is (p ∷ ps) ks a =
     ap (λ l. kept_at ks p ∷ l)
     (taken_is ps (slice_set ks p Lacking) a.1 ∙ map_same ps (kept_at (slice_set ks p Lacking)) (kept_at ks) (λ n h. set_other ks p n Lacking (apart p n ps (p == n) refl a h)))
+
+-- ---- as the code does it
+
+pub as_many : (cs : List ClassId) → length (nothing_of (numbers cs)) ≡ length cs
+as_many [] = refl
+as_many (c ∷ cs) = ap suc (as_many cs)
+
+pub within_out : (ps : List ℕ) (ks : List Kept) → AreWithin ps ks → AreWithin ps (put_all ps (nothing_of ps) ks)
+within_out ps ks w n h = subst (λ l. n < l) (sym (put_length ps (nothing_of ps) ks)) (w n h)
+
+-- what was found after they were taken out has the others as they were
+pub out_others : (ps : List ℕ) (ks new : List Kept) → OthersStay ps (put_all ps (nothing_of ps) ks) new → OthersStay ps ks new
+out_others ps ks new o = (o.0 ∙ put_length ps (nothing_of ps) ks, λ n h. o.1 n h ∙ put_others ps (nothing_of ps) ks n h)
+
+pub within_new : (ps : List ℕ) (ks new : List Kept) → AreWithin ps ks → OthersStay ps ks new → AreWithin ps new
+within_new ps ks new w o n h = subst (λ l. n < l) (sym o.0) (w n h)
+
+
+pub as_many_taken : (cs : List ClassId) (f : ℕ → Kept) → length (map f (numbers cs)) ≡ length cs
+as_many_taken [] f = refl
+as_many_taken (c ∷ cs) f = ap suc (as_many_taken cs f)
