@@ -14,6 +14,7 @@ pub mod Ascending
 pub mod Exchanged
 pub mod Filled
 pub mod Restarted
+pub mod Others
 pub mod Under
 pub mod Broken
 pub mod Placing
