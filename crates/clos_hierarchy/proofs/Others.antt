@@ -65,3 +65,85 @@ module _ (P : ℕ → Bool) where
   pub ascends_filtered : (xs : List ℕ) → Ascends xs → Ascends (filter P xs)
   ascends_filtered [] a = tt
   ascends_filtered (x ∷ xs) a = ascends_by x xs (P x) a (ascends_filtered xs a.1)
+
+-- ---- the classes whose lists differ
+
+pub ascends_end : (xs : List ℕ) (n : ℕ) → Ascends xs → ((y : ℕ) → has xs y ≡ true → y < n) → Ascends (xs ++ n ∷ [])
+ascends_end [] n a h = (λ y e. absurd (true≢false (sym e)), tt)
+ascends_end (x ∷ xs) n a h = (λ y e. by y (in_either xs (n ∷ []) y e), ascends_end xs n a.1 (λ y e. h y (has_later x y xs e)))
+  where
+    by : (y : ℕ) → (has xs y ≡ true) ⊎ (has (n ∷ []) y ≡ true) → x < y
+    by y (inl e) = a.0 y e
+    by y (inr e) = last y (first_or_later n y [] e)
+      where
+        last : (y : ℕ) → (n ≡ y) ⊎ (has [] y ≡ true) → x < y
+        last y (inl q) = subst (λ i. x < i) q (h x (has_first x xs))
+        last y (inr q) = absurd (true≢false (sym q))
+
+module _ (of to : ℕ → Listing) where
+  abbrev pub differs_at : ℕ → Bool
+  differs_at n = is_other (of n) (to n)
+
+  member_by : (N n : ℕ) (b : Bool) → differs_at N ≡ b → (has (changed_among N of to) n ≡ true → (n < N) × (differs_at n ≡ true)) → has (changed_among N of to ++ (if b then N ∷ [] else [])) n ≡ true
+      → (n < suc N) × (differs_at n ≡ true)
+  member_by N n b e r h = by (in_either (changed_among N of to) (if b then N ∷ [] else []) n h)
+    where
+      last : (b : Bool) → differs_at N ≡ b → has (if b then N ∷ [] else []) n ≡ true → (n < suc N) × (differs_at n ≡ true)
+      last false e i = absurd (true≢false (sym i))
+      last true e i = here (first_or_later N n [] i)
+        where
+          here : (N ≡ n) ⊎ (has [] n ≡ true) → (n < suc N) × (differs_at n ≡ true)
+          here (inl q) = (omega (arith, q), subst (λ k. differs_at k ≡ true) q e)
+          here (inr q) = absurd (true≢false (sym q))
+      by : (has (changed_among N of to) n ≡ true) ⊎ (has (if b then N ∷ [] else []) n ≡ true) → (n < suc N) × (differs_at n ≡ true)
+      by (inl i) = let p = r i in let q : n < N = p.0 in (omega (arith, q), p.1)
+      by (inr i) = last b e i
+
+  pub is_member : (N n : ℕ) → has (changed_among N of to) n ≡ true → (n < N) × (differs_at n ≡ true)
+  is_member zero n h = absurd (true≢false (sym h))
+  is_member (suc N) n h = member_by N n (differs_at N) refl (is_member N n) h
+
+  there_by : (N n : ℕ) (b : Bool) → (N == n) ≡ b → n < suc N → differs_at n ≡ true → (n < N → has (changed_among N of to) n ≡ true) → has (changed_among N of to ++ (if differs_at N then N ∷ [] else [])) n ≡ true
+  there_by N n true e l d r =
+      let q : N ≡ n = eqb-true N n e in
+      in_second (changed_among N of to) (if differs_at N then N ∷ [] else []) n
+      (subst (λ b. has (if b then N ∷ [] else []) n ≡ true) (sym (subst (λ k. differs_at k ≡ true) (sym q) d)) (subst (λ k. has (N ∷ []) k ≡ true) q (has_first N [])))
+  there_by N n false e l d r = in_first (changed_among N of to) (if differs_at N then N ∷ [] else []) n (r (omega (arith, l, eqb-false N n e)))
+
+  pub there : (N n : ℕ) → n < N → differs_at n ≡ true → has (changed_among N of to) n ≡ true
+  there zero n l d = absurd (omega (arith, l))
+  there (suc N) n l d = there_by N n (N == n) refl l d (λ m. there N n m d)
+
+  ascends_with : (N : ℕ) (b : Bool) → Ascends (changed_among N of to) → Ascends (changed_among N of to ++ (if b then N ∷ [] else []))
+  ascends_with N true a = ascends_end (changed_among N of to) N a (λ y h. (is_member N y h).0)
+  ascends_with N false a = subst Ascends (sym (no_end (changed_among N of to))) a
+    where
+      no_end : (xs : List ℕ) → xs ++ [] ≡ xs
+      no_end [] = refl
+      no_end (x ∷ xs) = ap (λ l. x ∷ l) (no_end xs)
+
+  pub ascends_changed : (N : ℕ) → Ascends (changed_among N of to)
+  ascends_changed zero = tt
+  ascends_changed (suc N) = ascends_with N (differs_at N) (ascends_changed N)
+
+  same_by : (a b : Bool) → (a ≡ true → b ≡ true) → (b ≡ true → a ≡ true) → a ≡ b
+  same_by true true f g = refl
+  same_by true false f g = absurd (true≢false (sym (f refl)))
+  same_by false true f g = absurd (true≢false (sym (g refl)))
+  same_by false false f g = refl
+
+  right_one : (a b : Bool) → (a && b) ≡ true → (a ≡ true) × (b ≡ true)
+  right_one true true h = (refl, refl)
+  right_one true false h = absurd (true≢false (sym h))
+  right_one false b h = absurd (true≢false (sym h))
+
+  -- they are found among those that are touched
+  pub changed_touched : (ps : List ℕ) (N : ℕ) → Ascends ps → ((n : ℕ) → has ps n ≡ true → n < N) → ((n : ℕ) → n < N → differs_at n ≡ true → has ps n ≡ true) → filter differs_at ps ≡ changed_among N of to
+  changed_touched ps N a w t =
+      one_list (filter differs_at ps) (changed_among N of to) (ascends_filtered differs_at ps a) (ascends_changed N)
+      (λ n. same_by (has (filter differs_at ps) n) (has (changed_among N of to) n)
+      (λ h. let p = right_one (has ps n) (differs_at n) (sym (has_filtered differs_at ps n) ∙ h) in there N n (w n p.0) p.1)
+      (λ h. let p = is_member N n h in has_filtered differs_at ps n ∙ both_one (has ps n) (differs_at n) (t n p.0 p.1) p.1))
+    where
+      both_one : (a b : Bool) → a ≡ true → b ≡ true → (a && b) ≡ true
+      both_one a b e f = ap (λ x. x && b) e ∙ f
