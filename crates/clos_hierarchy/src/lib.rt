@@ -2,6 +2,7 @@
 #![tactic(auto)]
 
 mod admit;
+mod among;
 mod anew;
 mod below;
 mod cycle;

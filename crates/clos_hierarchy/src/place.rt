@@ -20,7 +20,7 @@ use lisp_data::{ClassId, Name};
 use std::alloc::{AllocError, Global};
 
 /// The name of the class at this place, if it has no list, though all above it is defined.
-fn broken_at<'a>(definitions: &'a Definitions, kept: &[Kept], place: usize) -> Option<&'a Name>
+pub fn broken_at<'a>(definitions: &'a Definitions, kept: &[Kept], place: usize) -> Option<&'a Name>
     ensures { option_copied result ≡ (if is_broken (listing_at kept.now place) then slice_get definitions.now.names place else None) }
 {
     let class = ClassId(place as u64);
@@ -66,7 +66,7 @@ fn check(
     find_broken(definitions, kept)
 }
 
-fn same_ids(a: &[ClassId], b: &[ClassId]) -> bool
+pub fn same_ids(a: &[ClassId], b: &[ClassId]) -> bool
     ensures { result ≡ same_numbers (numbers a.now) (numbers b.now) }
 {
     let mut place = 0;

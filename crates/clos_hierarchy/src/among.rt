@@ -1,0 +1,61 @@
+//! What there is to say of the classes that a definition touches.
+ghost use Rattle.std.specs.Prelude.{◌≡◌, ℕ, None, false, IfErr, IfOk, OnOk, map, option_copied, slice_get, if◌then◌else◌};
+ghost use Rattle.std.specs.List.{filter};
+ghost use Rattle.clos_precedence.specs.Precedence.{has};
+ghost use Rattle.clos_precedence.specs.PrecedenceView.{numbers};
+ghost use Rattle.clos_hierarchy.specs.Classes.{is_broken};
+ghost use Rattle.clos_hierarchy.specs.Table.{broken_from, is_other};
+ghost use Rattle.clos_hierarchy.specs.TableView.{Refuses};
+ghost use Rattle.clos_hierarchy.specs.declared.kept.Kept.{Kept};
+ghost use Rattle.clos_hierarchy.specs.inner.Kept.{Knows};
+ghost use Rattle.clos_hierarchy.specs.inner.KeptView.{listing_at, listing_of};
+ghost use Rattle.clos_hierarchy.specs.inner.Touched.{Ascends, is_unlisted};
+
+use crate::definitions::Definitions;
+use crate::fault::ClassFault;
+use crate::kept::Kept;
+use crate::place::{broken_at, same_ids};
+use lisp_data::ClassId;
+use std::alloc::{AllocError, Global};
+
+fn is_other(old: &Kept, now: &Kept) -> bool
+    ensures { result ≡ is_other (listing_of old.now) (listing_of now.now) }
+{
+    match (old, now) {
+        (Kept::Listed(old), Kept::Listed(now)) => {
+            !same_ids(old.list.as_slice(), now.list.as_slice())
+        }
+        (Kept::Listed(_), _) => true,
+        (_, Kept::Listed(_)) => true,
+        _ => false,
+    }
+}
+
+fn is_unlisted(kept: &Kept) -> bool
+    ensures { result ≡ is_unlisted (listing_of kept.now) }
+{
+    match kept {
+        Kept::Listed(_) => false,
+        _ => true,
+    }
+}
+
+/// Answers the name of the first class that has no list, though all above it is defined, if there is one.
+pub fn find_broken(
+    definitions: &Definitions,
+    kept: &[Kept],
+    places: &[ClassId],
+) -> Result<(), ClassFault>
+    requires { Ascends (numbers places.now) }
+    ensures ok { OnOk result (Knows definitions.now kept.now → ((n : ℕ) → has (numbers places.now) n ≡ false → is_broken (listing_at kept.now n) ≡ false) → broken_from 0 definitions.now.names definitions.now ≡ None) }
+    ensures fault { IfErr result (λ e. Knows definitions.now kept.now → ((n : ℕ) → has (numbers places.now) n ≡ false → is_broken (listing_at kept.now n) ≡ false) → Refuses e (broken_from 0 definitions.now.names definitions.now)) }
+{
+    let mut left = places;
+    while let Some((place, others)) = left.split_first() {
+        if let Some(name) = broken_at(definitions, kept, place.0 as usize) {
+            return Err(ClassFault::InconsistentPrecedence(name.copy()?));
+        }
+        left = others;
+    }
+    Ok(())
+}
