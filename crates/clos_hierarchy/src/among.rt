@@ -41,6 +41,7 @@ fn is_unlisted(kept: &Kept) -> bool
 }
 
 /// Answers the name of the first class that has no list, though all above it is defined, if there is one.
+#[tactic(auto, using(crate::proofs::Broken::none_but_first, crate::proofs::Broken::none_but_next))]
 pub fn find_broken(
     definitions: &Definitions,
     kept: &[Kept],
