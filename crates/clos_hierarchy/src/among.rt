@@ -1,5 +1,5 @@
 //! What there is to say of the classes that a definition touches.
-ghost use Rattle.std.specs.Prelude.{◌≡◌, ℕ, None, false, IfErr, IfOk, OnOk, map, option_copied, slice_get, if◌then◌else◌};
+ghost use Rattle.std.specs.Prelude.{◌≡◌, ℕ, length, None, false, IfErr, IfOk, OnOk, map, option_copied, slice_get, if◌then◌else◌};
 ghost use Rattle.std.specs.List.{filter};
 ghost use Rattle.clos_precedence.specs.Precedence.{has};
 ghost use Rattle.clos_precedence.specs.PrecedenceView.{numbers};
@@ -9,7 +9,7 @@ ghost use Rattle.clos_hierarchy.specs.TableView.{Refuses};
 ghost use Rattle.clos_hierarchy.specs.declared.kept.Kept.{Kept};
 ghost use Rattle.clos_hierarchy.specs.inner.Kept.{Knows};
 ghost use Rattle.clos_hierarchy.specs.inner.KeptView.{listing_at, listing_of};
-ghost use Rattle.clos_hierarchy.specs.inner.Touched.{Ascends, is_unlisted};
+ghost use Rattle.clos_hierarchy.specs.inner.Touched.{Ascends, others_among};
 
 use crate::definitions::Definitions;
 use crate::fault::ClassFault;
@@ -18,26 +18,40 @@ use crate::place::{broken_at, same_ids};
 use lisp_data::ClassId;
 use std::alloc::{AllocError, Global};
 
-fn is_other(old: &Kept, now: &Kept) -> bool
-    ensures { result ≡ is_other (listing_of old.now) (listing_of now.now) }
+/// Whether a class has another list now than was kept of it, or has one now, or has none any more.
+fn is_other(old: &Kept, now: &[Kept], class: ClassId) -> bool
+    ensures { result ≡ is_other (listing_of old.now) (listing_at now.now class.0) }
 {
-    match (old, now) {
-        (Kept::Listed(old), Kept::Listed(now)) => {
+    match (old, now.get(class.0 as usize)) {
+        (Kept::Listed(old), Some(Kept::Listed(now))) => {
             !same_ids(old.list.as_slice(), now.list.as_slice())
         }
         (Kept::Listed(_), _) => true,
-        (_, Kept::Listed(_)) => true,
+        (_, Some(Kept::Listed(_))) => true,
         _ => false,
     }
 }
 
-fn is_unlisted(kept: &Kept) -> bool
-    ensures { result ≡ is_unlisted (listing_of kept.now) }
+/// Those of the classes at these places whose lists changed, where these were kept of them before.
+pub fn changed_among(
+    alloc: Global,
+    places: &[ClassId],
+    olds: &[Kept],
+    now: &[Kept],
+) -> Result<Vec<ClassId>, AllocError>
+    requires { length olds.now ≡ length places.now }
+    ensures { IfOk result (λ r. numbers r.items ≡ others_among places.now olds.now now.now) }
 {
-    match kept {
-        Kept::Listed(_) => false,
-        _ => true,
+    let mut changed = Vec::new(alloc);
+    let mut at = 0;
+    while at < places.len() {
+        let class = places[at];
+        if is_other(&olds[at], now, class) {
+            changed.push(class)?;
+        }
+        at += 1;
     }
+    Ok(changed)
 }
 
 /// Answers the name of the first class that has no list, though all above it is defined, if there is one.

@@ -1,11 +1,13 @@
 -- The classes that a definition touches.
-use Rattle.std.specs.Prelude.{◌≡◌, ℕ, true, false, length, ◌==◌, ◌<◌, Bool, ◌&&◌, ◌||◌, List, [], ◌∷◌}
+use Rattle.std.specs.Prelude.{◌≡◌, ℕ, true, false, length, ◌==◌, ◌<◌, Bool, ◌&&◌, ◌||◌, List, [], ◌∷◌, if◌then◌else◌}
 use Rattle.clos_precedence.specs.Precedence.{has}
 use Rattle.clos_hierarchy.specs.Classes.{Classes, Listing, broken, is_lacking, lacking, list_in, listed}
+use Rattle.clos_hierarchy.specs.Table.{is_other}
+use Rattle.lisp_data.specs.declared.ids.ClassId.{ClassId}
 use Rattle.clos_hierarchy.specs.declared.kept.Kept.{Kept}
 use Rattle.clos_hierarchy.specs.inner.Below.{below_at}
 use Rattle.clos_hierarchy.specs.inner.Kept.{Ends}
-use Rattle.clos_hierarchy.specs.inner.KeptView.{kept_at, listing_at}
+use Rattle.clos_hierarchy.specs.inner.KeptView.{kept_at, listing_at, listing_of}
 
 -- each number is below those after it
 abbrev pub Ascends : List ℕ → Type 0
@@ -50,3 +52,9 @@ pub record AreWaiting (ns : List ℕ) (ks : List Kept) : Type 0 where
 -- of each class it is noted which classes have it in their lists
 abbrev pub AreNoted : List (List ℕ) → List Kept → Type 0
 AreNoted rows ks = (n m : ℕ) → has (list_in (listing_at ks n)) m ≡ true → has (below_at rows m) n ≡ true
+
+-- those of these classes that have another list now, a list now, or none any more, where these were kept of them before
+abbrev pub others_among : List ClassId → List Kept → List Kept → List ℕ
+others_among [] olds ks = []
+others_among (c ∷ cs) [] ks = []
+others_among (c ∷ cs) (o ∷ os) ks = if is_other (listing_of o) (listing_at ks c.0) then c.0 ∷ others_among cs os ks else others_among cs os ks
