@@ -9,7 +9,7 @@ ghost use Rattle.clos_hierarchy.specs.TableView.{Refuses};
 ghost use Rattle.clos_hierarchy.specs.declared.kept.Kept.{Kept};
 ghost use Rattle.clos_hierarchy.specs.inner.Kept.{Knows};
 ghost use Rattle.clos_hierarchy.specs.inner.KeptView.{listing_at, listing_of};
-ghost use Rattle.clos_hierarchy.specs.inner.Touched.{Ascends, others_among};
+ghost use Rattle.clos_hierarchy.specs.inner.Touched.{Ascends, is_unlisted, others_among};
 
 use crate::definitions::Definitions;
 use crate::fault::ClassFault;
@@ -52,6 +52,36 @@ pub fn changed_among(
         at += 1;
     }
     Ok(changed)
+}
+
+/// Whether a class has no list.
+fn is_unlisted(now: &[Kept], class: ClassId) -> bool
+    ensures { result ≡ is_unlisted (listing_at now.now class.0) }
+{
+    match now.get(class.0 as usize) {
+        Some(Kept::Listed(_)) => false,
+        _ => true,
+    }
+}
+
+/// Those of the classes at these places that have no list.
+pub fn waiting_among(
+    alloc: Global,
+    places: &[ClassId],
+    now: &[Kept],
+) -> Result<Vec<ClassId>, AllocError>
+    ensures { IfOk result (λ r. numbers r.items ≡ filter (λ n. is_unlisted (listing_at now.now n)) (numbers places.now)) }
+{
+    let mut waiting = Vec::new(alloc);
+    let mut at = 0;
+    while at < places.len() {
+        let class = places[at];
+        if is_unlisted(now, class) {
+            waiting.push(class)?;
+        }
+        at += 1;
+    }
+    Ok(waiting)
 }
 
 /// Answers the name of the first class that has no list, though all above it is defined, if there is one.
