@@ -1,13 +1,17 @@
 -- The classes whose lists differ, among those that are touched.
 use Rattle.std.proofs.Common.{◌≡◌, ◌⊎◌, inl, inr, ℕ, zero, suc, ◌==◌, ◌<◌, ◌++◌, Bool, true, false, true≢false, List, [], ◌∷◌, arith, refl, ap, sym, subst, ◌∙◌}
-use Rattle.std.specs.Prelude.{◌||◌, ◌&&◌, nat_lt, if◌then◌else◌}
+use Rattle.std.specs.Prelude.{◌||◌, ◌&&◌, map, nat_lt, if◌then◌else◌}
 use Rattle.std.specs.List.{filter}
 use Rattle.std.proofs.lemmas.Bool.{eqb-true, eqb-false, ltb-true}
 use Rattle.clos_precedence.specs.Precedence.{has}
 use Rattle.clos_precedence.proofs.Members.{first_or_later, has_first, has_later, in_either, in_first, in_second}
 use Rattle.clos_hierarchy.specs.Classes.{Listing}
 use Rattle.clos_hierarchy.specs.Table.{changed_among, is_other}
-use Rattle.clos_hierarchy.specs.inner.Touched.{Ascends}
+use Rattle.lisp_data.specs.declared.ids.ClassId.{ClassId}
+use Rattle.clos_precedence.specs.PrecedenceView.{numbers}
+use Rattle.clos_hierarchy.specs.declared.kept.Kept.{Kept}
+use Rattle.clos_hierarchy.specs.inner.KeptView.{kept_at, listing_at}
+use Rattle.clos_hierarchy.specs.inner.Touched.{Ascends, others_among}
 
 -- ---- two lists of numbers, each below those after it, with the same members are one
 
@@ -147,3 +151,18 @@ module _ (of to : ℕ → Listing) where
     where
       both_one : (a b : Bool) → a ≡ true → b ≡ true → (a && b) ≡ true
       both_one a b e f = ap (λ x. x && b) e ∙ f
+
+-- ---- those that are picked where what was kept of the classes was taken out
+
+filtered_by : (c : ℕ) (ns ms : List ℕ) (b : Bool) → ns ≡ ms → (if b then c ∷ ns else ns) ≡ (if b then c ∷ ms else ms)
+filtered_by c ns ms b e = ap (λ l. if b then c ∷ l else l) e
+
+picked : (old now : List Kept) (cs : List ClassId) → others_among cs (map (kept_at old) (numbers cs)) now ≡ filter (λ n. is_other (listing_at old n) (listing_at now n)) (numbers cs)
+picked old now [] = refl
+picked old now (c ∷ cs) =
+    filtered_by c.0 (others_among cs (map (kept_at old) (numbers cs)) now) (filter (λ n. is_other (listing_at old n) (listing_at now n)) (numbers cs)) (is_other (listing_at old c.0) (listing_at now c.0)) (picked old now cs)
+
+-- they are all whose lists changed, where those of all others stay
+pub picked_all : (old now : List Kept) (cs : List ClassId) (N : ℕ) → Ascends (numbers cs) → ((n : ℕ) → has (numbers cs) n ≡ true → n < N)
+    → ((n : ℕ) → n < N → is_other (listing_at old n) (listing_at now n) ≡ true → has (numbers cs) n ≡ true) → others_among cs (map (kept_at old) (numbers cs)) now ≡ changed_among N (listing_at old) (listing_at now)
+picked_all old now cs N a w t = picked old now cs ∙ changed_touched (listing_at old) (listing_at now) (numbers cs) N a w t
