@@ -3,7 +3,6 @@ use Rattle.std.proofs.Common.{◌≡◌, ◌⊎◌, inl, inr, ℕ, ◌==◌, ◌
 use Rattle.std.specs.Prelude.{nat_lt, cond}
 use Rattle.std.specs.BTreeSet.{insert_key}
 use Rattle.std.specs.Ordering.{match_ordering, nat_cmp}
-use Rattle.std.specs.declared.cmp.Ordering.{Ordering}
 use Rattle.std.specs.declared.cmp.Ordering.TheVariants.{Less, Equal, Greater}
 use Rattle.std.proofs.lemmas.Bool.{eqb-true, eqb-false, ltb-true, ltb-false}
 use Rattle.clos_precedence.specs.Precedence.{has}
@@ -43,9 +42,11 @@ ascends_put (x ∷ xs) k a = by (nat_lt k x) (k == x) refl refl (ascends_put xs 
     least : k < x → (y : ℕ) → (x ≡ y) ⊎ (has xs y ≡ true) → k < y
     least l y (inl e) = omega (arith, l, e)
     least l y (inr h) = let m : x < y = a.0 y h in omega (arith, l, m)
+
     after : x < k → (y : ℕ) → ((k == y) ≡ true) ⊎ (has xs y ≡ true) → x < y
     after l y (inl e) = let p : k ≡ y = eqb-true k y e in omega (arith, l, p)
     after l y (inr h) = a.0 y h
+
     by : (b c : Bool) → nat_lt k x ≡ b → (k == x) ≡ c → Ascends (put xs k) → Ascends (match_ordering (cond b Less (cond c Equal Greater)) (k ∷ x ∷ xs) (x ∷ xs) (x ∷ put xs k))
     by true c e f r = (λ y h. least (ltb-true k x e) y (first_or_later x y xs h), a)
     by false true e f r = a

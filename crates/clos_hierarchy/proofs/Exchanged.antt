@@ -1,5 +1,5 @@
 -- What is kept of some classes, put in the place of what was kept.
-use Rattle.std.proofs.Common.{◌≡◌, ℕ, zero, suc, ◌+◌, ◌<◌, ◌≤◌, ◌++◌, Bool, true, false, true≢false, List, [], ◌∷◌, drop, take, length, map, arith, refl, ap, sym, subst, ◌∙◌}
+use Rattle.std.proofs.Common.{◌≡◌, ℕ, zero, suc, ◌+◌, ◌<◌, ◌≤◌, ◌++◌, true, List, [], ◌∷◌, drop, take, length, arith, refl, ap, sym, subst, ◌∙◌}
 use Rattle.std.specs.Prelude.{slice_index_or, slice_set}
 use Rattle.lisp_data.specs.declared.ids.ClassId.{ClassId}
 use Rattle.clos_precedence.specs.Precedence.{has}
@@ -58,10 +58,10 @@ exchanges_next ps new old others kept index p k x h e f =
     let d : take (suc index) (slice_set others index (kept_at kept p)) ≡ take index others ++ kept_at kept p ∷ [] = take_set others index (kept_at kept p) (omega (arith, h, l)) in record {
       put = ap (λ ns. put_all (drop (suc index) ps) ns (slice_set kept p k)) c ∙ sym (ap (λ qs. put_all qs (k ∷ drop (suc index) others) kept) a) ∙ sym (ap (λ ns. put_all (drop index ps) ns kept) b) ∙ x.put;
       back =
-        ap (λ ns. take (suc index) (slice_set others index (kept_at kept p)) ++ replaced (drop (suc index) ps) ns (slice_set kept p k)) c
-        ∙ ap (λ ts. ts ++ replaced (drop (suc index) ps) (drop (suc index) others) (slice_set kept p k)) d
-        ∙ append_assoc (take index others) (kept_at kept p ∷ []) (replaced (drop (suc index) ps) (drop (suc index) others) (slice_set kept p k))
-        ∙ sym (ap (λ qs. take index others ++ replaced qs (k ∷ drop (suc index) others) kept) a) ∙ sym (ap (λ ns. take index others ++ replaced (drop index ps) ns kept) b) ∙ x.back;
+          ap (λ ns. take (suc index) (slice_set others index (kept_at kept p)) ++ replaced (drop (suc index) ps) ns (slice_set kept p k)) c
+          ∙ ap (λ ts. ts ++ replaced (drop (suc index) ps) (drop (suc index) others) (slice_set kept p k)) d
+          ∙ append_assoc (take index others) (kept_at kept p ∷ []) (replaced (drop (suc index) ps) (drop (suc index) others) (slice_set kept p k))
+          ∙ sym (ap (λ qs. take index others ++ replaced qs (k ∷ drop (suc index) others) kept) a) ∙ sym (ap (λ ns. take index others ++ replaced (drop index ps) ns kept) b) ∙ x.back;
       each = length_set others index (kept_at kept p) ∙ l;
       same = length_set kept p k ∙ x.same;
     }

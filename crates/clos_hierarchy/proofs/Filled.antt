@@ -1,5 +1,5 @@
 -- One round over some classes.
-use Rattle.std.proofs.Common.{◌≡◌, ◌⊎◌, inl, inr, ℕ, ◌==◌, ◌<◌, Bool, true, false, true≢false, List, [], ◌∷◌, ◌++◌, length, arith, refl, ap, sym, subst, ◌∙◌}
+use Rattle.std.proofs.Common.{◌≡◌, inl, inr, ℕ, ◌==◌, ◌<◌, Bool, true, false, true≢false, List, [], ◌∷◌, ◌++◌, length, arith, refl, ap, sym, subst, ◌∙◌}
 use Rattle.std.specs.Prelude.{◌||◌}
 use Rattle.std.proofs.lemmas.Bool.{eqb-true}
 use Rattle.lisp_data.specs.declared.ids.ClassId.{ClassId}
@@ -112,6 +112,7 @@ knows_end false false cs first old mid new all h i p a o f g q w =
     lacks : (a b : Listing) → More a b → is_lacking b ≡ true → is_lacking a ≡ true
     lacks a b (inl e) h = ap is_lacking e
     lacks a b (inr e) h = ap is_lacking e ∙ h
+
     wait_then : (all : List ℕ) (first old : List Kept) → length old ≡ length first → Adds first old → WaitWithin all first → WaitWithin all old
     wait_then all first old l a w n h k = w n (omega (arith, h, l)) (lacks (listing_at first n) (listing_at old n) (a n) k)
 

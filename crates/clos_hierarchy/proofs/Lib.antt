@@ -30,3 +30,4 @@ pub mod Climbing
 pub mod Lacking
 pub mod Consistent
 pub mod Superclasses
+pub mod Waiting

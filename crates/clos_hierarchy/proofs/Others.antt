@@ -1,8 +1,8 @@
 -- The classes whose lists differ, among those that are touched.
 use Rattle.std.proofs.Common.{◌≡◌, ◌⊎◌, inl, inr, ℕ, zero, suc, ◌==◌, ◌<◌, ◌++◌, Bool, true, false, true≢false, List, [], ◌∷◌, arith, refl, ap, sym, subst, ◌∙◌}
-use Rattle.std.specs.Prelude.{◌||◌, ◌&&◌, map, nat_lt, if◌then◌else◌}
+use Rattle.std.specs.Prelude.{◌||◌, ◌&&◌, map, if◌then◌else◌}
 use Rattle.std.specs.List.{filter}
-use Rattle.std.proofs.lemmas.Bool.{eqb-true, eqb-false, ltb-true}
+use Rattle.std.proofs.lemmas.Bool.{eqb-true, eqb-false}
 use Rattle.clos_precedence.specs.Precedence.{has}
 use Rattle.clos_precedence.proofs.Members.{first_or_later, has_first, has_later, in_either, in_first, in_second}
 use Rattle.clos_hierarchy.specs.Classes.{Listing}
@@ -99,6 +99,7 @@ module _ (of to : ℕ → Listing) where
           here : (N ≡ n) ⊎ (has [] n ≡ true) → (n < suc N) × (differs_at n ≡ true)
           here (inl q) = (omega (arith, q), subst (λ k. differs_at k ≡ true) q e)
           here (inr q) = absurd (true≢false (sym q))
+
       by : (has (changed_among N of to) n ≡ true) ⊎ (has (if b then N ∷ [] else []) n ≡ true) → (n < suc N) × (differs_at n ≡ true)
       by (inl i) = let p = r i in let q : n < N = p.0 in (omega (arith, q), p.1)
       by (inr i) = last b e i

@@ -1,12 +1,12 @@
 -- What is kept where the classes that are touched are taken out, and where they are put back.
 use Rattle.std.proofs.Common.{◌≡◌, ◌⊎◌, inl, inr, ℕ, zero, suc, ◌==◌, ◌<◌, ◌≤◌, Bool, true, false, true≢false, List, [], ◌∷◌, length, map, arith, refl, ap, sym, subst, ◌∙◌}
 use Rattle.std.specs.Prelude.{◌||◌, ◌&&◌, nat_lt, slice_set, if◌then◌else◌}
-use Rattle.std.proofs.lemmas.Bool.{eqb-true, eqb-false, ltb-true, ltb-false}
+use Rattle.std.proofs.lemmas.Bool.{eqb-true, ltb-true, ltb-false}
 use Rattle.lisp_data.specs.declared.ids.ClassId.{ClassId}
 use Rattle.clos_precedence.specs.Precedence.{has}
 use Rattle.clos_precedence.specs.PrecedenceView.{numbers}
 use Rattle.clos_precedence.proofs.Members.{first_or_later, has_first, has_later}
-use Rattle.clos_precedence.proofs.Truth.{either, or_left, or_right}
+use Rattle.clos_precedence.proofs.Truth.{either}
 use Rattle.clos_hierarchy.specs.Classes.{Classes, Listing, broken, is_lacking, lacking, list_in, listed}
 use Rattle.clos_hierarchy.specs.declared.kept.Kept.{Kept}
 use Rattle.clos_hierarchy.specs.declared.kept.Kept.TheVariants.{Lacking}
@@ -219,7 +219,6 @@ out_others ps ks new o = (o.0 ∙ put_length ps (nothing_of ps) ks, λ n h. o.1 
 
 pub within_new : (ps : List ℕ) (ks new : List Kept) → AreWithin ps ks → OthersStay ps ks new → AreWithin ps new
 within_new ps ks new w o n h = subst (λ l. n < l) (sym o.0) (w n h)
-
 
 pub as_many_taken : (cs : List ClassId) (f : ℕ → Kept) → length (map f (numbers cs)) ≡ length cs
 as_many_taken [] f = refl

@@ -1,5 +1,5 @@
 -- What is noted of the classes below each class.
-use Rattle.std.proofs.Common.{◌≡◌, ◌⊎◌, inl, inr, ℕ, zero, suc, ◌+◌, ◌<◌, ◌++◌, Bool, true, false, true≢false, List, [], ◌∷◌, length, map, arith, refl, ap, sym, subst, ◌∙◌}
+use Rattle.std.proofs.Common.{◌≡◌, ◌⊎◌, inl, inr, ℕ, zero, suc, ◌<◌, ◌++◌, Bool, true, false, true≢false, List, [], ◌∷◌, length, map, arith, refl, sym, subst}
 use Rattle.std.specs.Prelude.{nat_eq, slice_index_or, slice_set, if◌then◌else◌}
 use Rattle.std.specs.List.{list_any}
 use Rattle.std.proofs.lemmas.Bool.{eqb-true}
@@ -74,6 +74,7 @@ adding_next old now new n x all left a g h = record { grows = grows_through old 
     at : (m : ℕ) → (x ≡ m) ⊎ (has left m ≡ true) → (has left m ≡ true) ⊎ (has (below_at new m) n ≡ true)
     at m (inl e) = inr (subst (λ i. has (below_at new i) n ≡ true) e h)
     at m (inr k) = inl k
+
     by : (m : ℕ) → (has (x ∷ left) m ≡ true) ⊎ (has (below_at now m) n ≡ true) → (has left m ≡ true) ⊎ (has (below_at new m) n ≡ true)
     by m (inl k) = at m (first_or_later x m left k)
     by m (inr k) = inr (g m n k)

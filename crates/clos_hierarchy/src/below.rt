@@ -68,12 +68,7 @@ impl Below {
     }
 
     /// Notes that a class has these in its list.
-    pub fn add(
-        &mut self,
-        alloc: Global,
-        class: ClassId,
-        list: &[ClassId],
-    ) -> Result<(), AllocError>
+    pub fn add(&mut self, alloc: Global, class: ClassId, list: &[ClassId]) -> Result<(), AllocError>
         ensures grows { Grows self.old self.new }
         ensures added { OnOk result ((m : ℕ) → has (numbers list.now) m ≡ true → has (below_at self.new m) class.0 ≡ true) }
     {

@@ -1,4 +1,4 @@
-use Rattle.std.proofs.Common.{◌≡◌, Some, sym, ap, subst, ◌∙◌}
+use Rattle.std.proofs.Common.{Some, sym, ap, subst, ◌∙◌}
 use Rattle.std.specs.Prelude.{option_copied}
 use Rattle.clos_precedence.specs.PrecedenceView.{numbers}
 use Rattle.clos_hierarchy.proofs.Broken.{NoneBut, first_left, none_left}

@@ -1,4 +1,4 @@
-use Rattle.std.proofs.Common.{◌≡◌, ◌<◌, ap, arith, length, sym, ◌∙◌}
+use Rattle.std.proofs.Common.{◌<◌, ap, arith, length, sym, ◌∙◌}
 use Rattle.std.specs.Prelude.{slice_index_or}
 use Rattle.clos_hierarchy.proofs.Exchanged.{exchanges_on, place_within}
 use Rattle.clos_hierarchy.proofs.exchange.exchange.Goals as goal

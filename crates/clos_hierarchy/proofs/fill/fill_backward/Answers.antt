@@ -1,4 +1,4 @@
-use Rattle.std.proofs.Common.{[], ◌∷◌, ap, sym, ◌∙◌}
+use Rattle.std.proofs.Common.{[], ◌∷◌, ap, ◌∙◌}
 use Rattle.clos_precedence.specs.Precedence.{has}
 use Rattle.clos_precedence.specs.PrecedenceView.{numbers}
 use Rattle.clos_precedence.proofs.Members.{has_first, in_second}

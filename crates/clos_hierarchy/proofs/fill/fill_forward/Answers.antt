@@ -1,8 +1,8 @@
-use Rattle.std.proofs.Common.{ap, sym, ◌∙◌}
+use Rattle.std.proofs.Common.{ap, ◌∙◌}
 use Rattle.clos_precedence.specs.Precedence.{has}
 use Rattle.clos_precedence.specs.PrecedenceView.{numbers}
-use Rattle.clos_precedence.proofs.Members.{has_first, in_second}
-use Rattle.clos_hierarchy.proofs.Filled.{goes_on, has_last, it_was, it_was_not, place_there}
+use Rattle.clos_precedence.proofs.Members.{has_first}
+use Rattle.clos_hierarchy.proofs.Filled.{goes_on, it_was, it_was_not, place_there}
 use Rattle.clos_hierarchy.proofs.fill.fill_forward.Goals as goal
 
 pub fill_at-requires : goal.fill_at-requires
