@@ -91,6 +91,7 @@ again = counter (slot (codes "MAX") Class ∷ slot (codes "SUM") Class ∷ [])
 one_more : new_cells counted.slots 1 (1 ∷ 0 ∷ []) again ≡ called (codes "MAX") ∷ []
 one_more = refl
 
+-- the cell that is kept, and the new one
 kept_cell : (layout_of (direct_slots (with_definition counted again 9).slots) (1 ∷ 0 ∷ [])).shared ≡ (called (codes "MAX"), cell 9) ∷ (called (codes "SUM"), cell 8) ∷ []
 kept_cell = refl
 

@@ -82,6 +82,7 @@ removal_in n (Some m) = removal m.generic.0 n ∷ []
 abbrev pub removals_of : List Method → List ℕ → List Removal
 removals_of methods ns = flat_map (λ n. removal_in n (slice_get methods n)) ns
 
+-- the accessor methods that came with an earlier definition of this class, and are still there
 abbrev pub earlier_accessors : ℕ → Table → List Removal
 earlier_accessors c t = removals_of t.methods (accessors_there t c)
 

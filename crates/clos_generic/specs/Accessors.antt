@@ -19,6 +19,7 @@ is_accessor_in c (Some m) = is_accessor_of c m.origin
 abbrev pub accessors_below : List Method → ℕ → ℕ → List ℕ
 accessors_below methods c n = filter (λ k. is_accessor_in c (slice_get methods k)) (numbers_below n)
 
+-- whether this method, if it is one, has this number among the methods of its function
 abbrev pub is_there_in : Table → ℕ → Option Method → Bool
 is_there_in t n None = false
 is_there_in t n (Some m) = list_any (λ k. k == n) (methods_of t m.generic.0)

@@ -88,12 +88,15 @@ reader c = record (on (on_class c) 1) { origin = Accessor (record { 0 = c }) }
 abbrev reading : Table
 reading = with_method 9 (reader 1) (with_method 9 (reader 2) (with_method 9 (reader 1) (with_definition speak (taking (of_required 1)) (initial 4 4))))
 
+-- two readers came with the class 1
 readers_made : accessors_below reading.methods 1 12 ≡ 9 ∷ 11 ∷ []
 readers_made = refl
 
+-- the second replaced the first
 readers_there : accessors_there reading 1 ≡ 11 ∷ []
 readers_there = refl
 
+-- a method of the program in its place is no accessor
 replaced_by_the_program : accessors_there (with_method 9 (on (on_class 1) 1) reading) 1 ≡ []
 replaced_by_the_program = refl
 

@@ -9,6 +9,7 @@ use Rattle.clos_class.specs.SlotsView.{direct_slots}
 use Rattle.clos_class.specs.Table.{Table, with_definition}
 use Rattle.clos_store.specs.Store.{Contents, Object, instance, kept_layout, with_cells}
 
+-- the classes, with the instances and the cells of their shared slots
 pub record Objects : Type 0 where
   pub classes : Table
   pub contents : Contents
