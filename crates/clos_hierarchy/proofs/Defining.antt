@@ -8,7 +8,7 @@ use Rattle.clos_precedence.specs.Precedence.{has}
 use Rattle.clos_hierarchy.specs.Classes.{Classes, Listing, lacking, broken, listed, number_of, with_class, found, is_lacking}
 use Rattle.clos_hierarchy.specs.declared.kept.Kept.{Kept}
 use Rattle.clos_hierarchy.specs.inner.KeptView.{listing_of, listing_at}
-use Rattle.clos_hierarchy.specs.inner.Kept.{Adds, Changes, More, Sound, AreWhole, AreNested, ListWithin, Knows, Progress, lacking_in, without, Restarts}
+use Rattle.clos_hierarchy.specs.inner.Kept.{Changes, More, Sound, AreWhole, AreNested, ListWithin, Knows, Progress, lacking_in, without, Restarts}
 use Rattle.clos_hierarchy.specs.Ways.{IsWhole}
 use Rattle.clos_precedence.proofs.Members.{apart}
 use Rattle.clos_hierarchy.proofs.Rounds.{Holds, sound_holds}
@@ -29,7 +29,7 @@ place_stays : (p : Name → Bool) (xs : List Name) (y : Name) → position_or_le
 place_stays p [] y h = absurd (omega (arith, h))
 place_stays p (x ∷ xs) y h = place_stays_by p x xs y (p x) refl h (λ k. place_stays p xs y k)
 
-longer : (xs : List Name) (y : Name) → length (xs ++ y ∷ []) ≡ length xs + 1
+pub longer : (xs : List Name) (y : Name) → length (xs ++ y ∷ []) ≡ length xs + 1
 longer [] y = refl
 longer (x ∷ xs) y = let p : length (xs ++ y ∷ []) ≡ length xs + 1 = longer xs y in omega (arith, p)
 
@@ -50,7 +50,7 @@ absent_place_by p x xs false e h r =
     let k : list_any p xs ≡ false = cc in
     let q : position_or_len p xs ≡ length xs = r k in omega (arith, i, q)
 
-absent_place : (p : Name → Bool) (xs : List Name) → list_any p xs ≡ false → position_or_len p xs ≡ length xs
+pub absent_place : (p : Name → Bool) (xs : List Name) → list_any p xs ≡ false → position_or_len p xs ≡ length xs
 absent_place p [] h = refl
 absent_place p (x ∷ xs) h = absent_place_by p x xs (p x) refl h (λ k. absent_place p xs k)
 
@@ -179,11 +179,3 @@ restarted cs to c ks new k m r l =
       room = omega (arith, p, l);
       length = l;
     }
-
-pub relisted : (to : Classes) (c len : ℕ) (ks new last : List Kept) → ((cs : Classes) → Knows cs ks → Restarts c ks new) → length new ≡ len → len ≡ length to.names
-    → (Progress to new → Knows to last) → (cs : Classes) → Knows cs ks → Changes cs to c → Knows to last
-relisted to c len ks new last r l e f cs k m = f (restarted cs to c ks new k m (r cs k) (l ∙ e))
-
-pub relisted_adds : (c : ℕ) (ks new last : List Kept) → ((cs : Classes) → Knows cs ks → Restarts c ks new) → Adds new last → (cs : Classes) → Knows cs ks
-    → (n : ℕ) → More (without c (listing_at ks n)) (listing_at last n)
-relisted_adds c ks new last r a cs k n = subst (λ v. More v (listing_at last n)) (r cs k n).0 (a n)

@@ -9,7 +9,12 @@ pub mod Twice
 pub mod Found
 pub mod Filling
 pub mod Defining
-pub mod Relisted
+pub mod Ascending
+pub mod Exchanged
+pub mod Filled
+pub mod Restarted
+pub mod Others
+pub mod Under
 pub mod Broken
 pub mod Placing
 pub mod Admitted
@@ -24,3 +29,5 @@ pub mod Climbing
 pub mod Lacking
 pub mod Consistent
 pub mod Superclasses
+pub mod Waiting
+pub mod Placed

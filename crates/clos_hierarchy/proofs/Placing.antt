@@ -1,19 +1,20 @@
 -- A class that was just defined is placed.
-use Rattle.std.proofs.Common.{◌≡◌, ℕ, zero, suc, ◌==◌, ◌+◌, Bool, true, false, List, [], ◌∷◌, ◌++◌, Some, inl, inr, length, arith, refl, sym, subst, ap, ◌∙◌}
-use Rattle.std.specs.Prelude.{not, nat_le, if◌then◌else◌}
+use Rattle.std.proofs.Common.{◌≡◌, ℕ, zero, suc, ◌==◌, Bool, true, false, List, [], ◌∷◌, Some, length, refl, sym, subst, ap, ◌∙◌}
+use Rattle.std.specs.Prelude.{not}
 use Rattle.lisp_data.specs.Numbers.{same_numbers}
-use Rattle.std.proofs.lemmas.Bool.{eq-eqb, leb-true}
+use Rattle.std.proofs.lemmas.Bool.{eq-eqb}
 use Rattle.lisp_data.specs.Name.{Name}
+use Rattle.lisp_data.specs.declared.ids.ClassId.{ClassId}
 use Rattle.clos_precedence.specs.Precedence.{has}
-use Rattle.clos_hierarchy.specs.Classes.{Classes, Listing, lacking, broken, listed, list_in, is_circular, listing}
+use Rattle.clos_precedence.specs.PrecedenceView.{numbers}
+use Rattle.clos_hierarchy.specs.Classes.{Classes, Listing, lacking, broken, listed, is_circular, listing}
 use Rattle.clos_hierarchy.specs.declared.kept.Kept.{Kept}
-use Rattle.clos_hierarchy.specs.inner.KeptView.{listing_at}
-use Rattle.clos_hierarchy.specs.inner.Kept.{Knows, More, without}
+use Rattle.clos_hierarchy.specs.inner.Exchange.{Replaces}
+use Rattle.clos_hierarchy.specs.inner.KeptView.{kept_at, listing_at, listing_of}
+use Rattle.clos_hierarchy.specs.inner.Kept.{Knows}
+use Rattle.clos_hierarchy.specs.inner.Touched.{others_among}
 use Rattle.clos_hierarchy.specs.Table.{superclass_cycle, misplaced, out_of_order, changed, changed_among, is_other}
-use Rattle.clos_hierarchy.specs.inner.Finding.{is_other_if, changed_if}
-use Rattle.clos_hierarchy.proofs.Families.{listed_same}
-use Rattle.clos_hierarchy.proofs.Change.{is_kept}
-use Rattle.clos_hierarchy.proofs.Relisted.{new_is_above_none}
+use Rattle.clos_hierarchy.proofs.Others.{picked_all}
 
 pub circular : (to : Classes) (n : ℕ) (name : Name) (whole : Bool) → is_circular to n ≡ true → misplaced to n name whole ≡ Some superclass_cycle
 circular to n name whole h = cc
@@ -32,43 +33,26 @@ same_list : (l : List ℕ) → same_numbers l l ≡ true
 same_list [] = refl
 same_list (x ∷ xs) = let p : (x == x) ≡ true = eq-eqb x x refl in let q : same_numbers xs xs ≡ true = same_list xs in cc
 
-stays_listed : (l m : List ℕ) (c : ℕ) → has l c ≡ false → More (without c (listed l)) (listed m) → l ≡ m
-stays_listed l m c h (inl e) = let p : without c (listed l) ≡ listed l = is_kept c l h in cc
-stays_listed l m c h (inr e) = let p : without c (listed l) ≡ listed l = is_kept c l h in listed_same l m (sym p ∙ e)
+other_self : (a : Listing) → is_other a a ≡ false
+other_self lacking = refl
+other_self broken = refl
+other_self (listed l) = ap not (same_list l)
 
-other_by : (a b : Listing) (c : ℕ) → has (list_in a) c ≡ false → More (without c a) b → is_other_if true a b ≡ is_other a b
-other_by lacking b c h m = refl
-other_by broken b c h m = refl
-other_by (listed l) lacking c h m = refl
-other_by (listed l) broken c h m = refl
-other_by (listed l) (listed k) c h m =
-    let p : l ≡ k = stays_listed l k c h m in
-    let q : same_numbers l l ≡ true = same_list l in
-    let r : same_numbers l k ≡ true = subst (λ v. same_numbers l v ≡ true) p q in
-    let s : not true ≡ false = refl in cc
-
-other_false : (a b : Listing) → is_other_if false a b ≡ is_other a b
-other_false a b = refl
-
-changed_by : (stay : Bool) (n : ℕ) (of to : ℕ → Listing) → ((k : ℕ) → is_other_if stay (of k) (to k) ≡ is_other (of k) (to k)) → changed_if stay n of to ≡ changed_among n of to
-changed_by stay zero of to h = refl
-changed_by stay (suc n) of to h =
-    let p : changed_if stay n of to ≡ changed_among n of to = changed_by stay n of to h in
-    let q : is_other_if stay (of n) (to n) ≡ is_other (of n) (to n) = h n in cc
-
-new_other : (cs : Classes) (ks new : List Kept) (c : ℕ) (b : Bool) → Knows cs ks → b ≡ nat_le (length ks) c → ((n : ℕ) → More (without c (listing_at ks n)) (listing_at new n)) → (k : ℕ)
-    → is_other_if b (listing_at ks k) (listing_at new k) ≡ is_other (listing_at ks k) (listing_at new k)
-new_other cs ks new c true k e m n =
-    other_by (listing_at ks n) (listing_at new n) c (sym (new_is_above_none ks n c (leb-true (length ks) c (sym e)) cs k)) (m n)
-new_other cs ks new c false k e m n = refl
-
-pub changed_is : (cs to : Classes) (ks new : List Kept) (c : ℕ) (b : Bool) → Knows cs ks → Knows to new → b ≡ nat_le (length ks) c → ((n : ℕ) → More (without c (listing_at ks n)) (listing_at new n))
-    → changed_if b (length new) (listing_at ks) (listing_at new) ≡ changed cs to
-changed_is cs to ks new c b k m e a =
+-- they are those whose lists differ in what is kept
+pub changed_is : (cs to : Classes) (ks new : List Kept) → Knows cs ks → Knows to new → changed_among (length new) (listing_at ks) (listing_at new) ≡ changed cs to
+changed_is cs to ks new k m =
     let p : changed_among (length new) (listing_at ks) (listing_at new) ≡ changed_among (length new) (λ n. listing cs n) (λ n. listing to n) =
     same_changes (length new) (listing_at ks) (listing_at new) (λ n. listing cs n) (λ n. listing to n) k.same m.same in
-    changed_by b (length new) (listing_at ks) (listing_at new) (new_other cs ks new c b k e a)
-    ∙ subst (λ v. changed_among (length new) (listing_at ks) (listing_at new) ≡ changed_among v (λ n. listing cs n) (λ n. listing to n)) m.length p
+    subst (λ v. changed_among (length new) (listing_at ks) (listing_at new) ≡ changed_among v (λ n. listing cs n) (λ n. listing to n)) m.length p
 
-pub next_changed : (stay : Bool) (n : ℕ) (of to : ℕ → Listing) → changed_if stay (n + 1) of to ≡ changed_if stay n of to ++ (if is_other_if stay (of n) (to n) then n ∷ [] else [])
-next_changed stay n of to = let e : n + 1 ≡ suc n = omega (arith) in ap (λ v. changed_if stay v of to) e
+is_touched_by : (ks now : List Kept) (ps : List ℕ) (n : ℕ) (b : Bool) → has ps n ≡ b → ((m : ℕ) → has ps m ≡ false → kept_at now m ≡ kept_at ks m) → is_other (listing_at ks n) (listing_at now n) ≡ true → b ≡ true
+is_touched_by ks now ps n true e o h = refl
+is_touched_by ks now ps n false e o h = sym (other_self (listing_at ks n)) ∙ ap (λ k. is_other (listing_at ks n) (listing_of k)) (sym (o n e)) ∙ h
+
+-- ... and they are picked among those that are touched
+pub changed_of : (ns : List ℕ) (places : List ClassId) (c : ℕ) (olds ks now : List Kept) (xs : List ℕ) → Replaces ns (numbers places) c olds ks now → xs ≡ others_among places olds now → (cs to : Classes) → Knows cs ks → Knows to now
+    → xs ≡ changed cs to
+changed_of ns places c olds ks now xs r e cs to k m =
+    e ∙ ap (λ os. others_among places os now) r.taken
+    ∙ picked_all ks now places (length now) r.ordered r.within (λ n l h. is_touched_by ks now (numbers places) n (has (numbers places) n) refl r.others h)
+    ∙ changed_is cs to ks now k m

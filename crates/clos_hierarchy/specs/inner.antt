@@ -1,4 +1,7 @@
 -- What stands behind the contracts: how the logic stores values, what is kept, what private functions answer.
 pub mod KeptView
 pub mod Kept
+pub mod Below
+pub mod Touched
+pub mod Exchange
 pub mod Finding

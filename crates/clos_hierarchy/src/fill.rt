@@ -1,5 +1,7 @@
 //! What is kept of the classes, found for one after another until no more is found.
-ghost use Rattle.std.specs.Prelude.{◌≡◌, ◌<◌, ℕ, IfOk, OnOk, length};
+ghost use Rattle.std.specs.Prelude.{◌≡◌, ◌<◌, ◌∷◌, [], ℕ, IfOk, OnOk, length};
+ghost use Rattle.clos_precedence.specs.PrecedenceView.{numbers};
+ghost use Rattle.clos_hierarchy.specs.inner.Touched.{AllEnd, AreWithin, OthersStay, WaitWithin};
 ghost use Rattle.clos_hierarchy.specs.inner.Kept.{Adds, Ends, Filled, Progress, Knows};
 ghost use Rattle.clos_hierarchy.specs.inner.KeptView.{listing_of};
 ghost use Rattle.clos_hierarchy.specs.Classes.{is_lacking};
@@ -29,7 +31,8 @@ fn fill_at(
     place: usize,
 ) -> Result<bool, AllocError>
     requires { place < length kept.old.items }
-    ensures { IfOk result (λ b. Filled b definitions.now kept.old.items kept.new.items (Ends definitions.now kept.old.items place)) }
+    ensures filled { IfOk result (λ b. Filled b definitions.now kept.old.items kept.new.items (Ends definitions.now kept.old.items place)) }
+    ensures others { OthersStay (place ∷ []) kept.old.items kept.new.items }
 {
     let class = ClassId(place as u64);
     if !is_lacking(kept.as_slice(), class) {
@@ -43,53 +46,66 @@ fn fill_at(
     Ok(true)
 }
 
-/// Does so for the class at this place and for the one as far from the last: where classes wait for one another in the
-/// order of their numbers, the one way or the other, each is found before those that wait for it.
-#[tactic(auto, using(crate::proofs::Filling::filled_also))]
-fn fill_both(
+/// Does so for each of these classes.
+fn fill_forward(
     alloc: Global,
     definitions: &Definitions,
     kept: &mut Vec<Kept>,
-    place: usize,
+    places: &[ClassId],
 ) -> Result<bool, AllocError>
-    requires { place < length kept.old.items }
-    ensures { IfOk result (λ b. Filled b definitions.now kept.old.items kept.new.items (Ends definitions.now kept.old.items place)) }
-{
-    let first = fill_at(alloc, definitions, kept, place)?;
-    let opposite = kept.len() - 1 - place;
-    let second = fill_at(alloc, definitions, kept, opposite)?;
-    Ok(first || second)
-}
-
-/// Finds once more what there is to say of each class of which nothing is said. Tells whether there is something.
-#[tactic(auto, using(crate::proofs::Filling::fill_none, crate::proofs::Filling::fill_next, crate::proofs::Filling::fill_end))]
-fn fill_once(
-    alloc: Global,
-    definitions: &Definitions,
-    kept: &mut Vec<Kept>,
-) -> Result<bool, AllocError>
-    ensures { IfOk result (λ b. Filled b definitions.now kept.old.items kept.new.items ((n : ℕ) → n < length kept.old.items → Ends definitions.now kept.old.items n)) }
+    requires { AreWithin (numbers places.now) kept.old.items }
+    ensures filled { IfOk result (λ b. Filled b definitions.now kept.old.items kept.new.items (AllEnd definitions.now kept.old.items (numbers places.now))) }
+    ensures others { OthersStay (numbers places.now) kept.old.items kept.new.items }
 {
     let mut filled = false;
-    let mut place = 0;
-    while place < kept.len() {
-        let more = fill_both(alloc, definitions, kept, place)?;
+    let mut left = places;
+    while let Some((place, others)) = left.split_first() {
+        let more = fill_at(alloc, definitions, kept, place.0 as usize)?;
         filled = filled || more;
-        place += 1;
+        left = others;
     }
     Ok(filled)
 }
 
-/// Finds all that there is to say.
-#[tactic(auto, using(crate::proofs::Filling::knows_all, crate::proofs::Filling::adds_none, crate::proofs::Filling::adds_through, crate::proofs::Filling::adds_all))]
+/// The same from the last one to the first.
+fn fill_backward(
+    alloc: Global,
+    definitions: &Definitions,
+    kept: &mut Vec<Kept>,
+    places: &[ClassId],
+) -> Result<bool, AllocError>
+    requires { AreWithin (numbers places.now) kept.old.items }
+    ensures filled { IfOk result (λ b. Filled b definitions.now kept.old.items kept.new.items (AllEnd definitions.now kept.old.items (numbers places.now))) }
+    ensures others { OthersStay (numbers places.now) kept.old.items kept.new.items }
+{
+    let mut filled = false;
+    let mut left = places;
+    while let Some((place, others)) = left.split_last() {
+        let more = fill_at(alloc, definitions, kept, place.0 as usize)?;
+        filled = filled || more;
+        left = others;
+    }
+    Ok(filled)
+}
+
+/// Finds all that there is to say of these classes: where they wait for one another in the order of their numbers, the one
+/// way or the other, each is found before those that wait for it.
 pub fn fill(
     alloc: Global,
     definitions: &Definitions,
     kept: &mut Vec<Kept>,
+    places: &[ClassId],
 ) -> Result<(), AllocError>
-    ensures knows { OnOk result (Progress definitions.now kept.old.items → Knows definitions.now kept.new.items) }
+    requires { AreWithin (numbers places.now) kept.old.items }
+    ensures knows { OnOk result (Progress definitions.now kept.old.items → WaitWithin (numbers places.now) kept.old.items → Knows definitions.now kept.new.items) }
     ensures adds { OnOk result (Adds kept.old.items kept.new.items) }
+    ensures others { OthersStay (numbers places.now) kept.old.items kept.new.items }
 {
-    while fill_once(alloc, definitions, kept)? {}
-    Ok(())
+    loop {
+        let forward = fill_forward(alloc, definitions, kept, places)?;
+        let backward = fill_backward(alloc, definitions, kept, places)?;
+        if !forward && !backward {
+            return Ok(());
+        }
+    }
 }

@@ -2,20 +2,26 @@
 #![tactic(auto)]
 
 mod admit;
+mod among;
+mod anew;
+mod below;
 mod cycle;
 mod definitions;
+mod exchange;
 mod fault;
 mod fill;
 mod find;
 mod kept;
 pub mod laws;
+mod lists;
 mod names;
 pub mod numbers;
 mod place;
 mod predefined;
 mod preview;
-mod relist;
+mod settle;
 mod table;
+mod touched;
 
 pub use admit::Changed;
 pub use fault::ClassFault;

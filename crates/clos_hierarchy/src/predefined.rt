@@ -5,8 +5,7 @@ ghost use Rattle.clos_hierarchy.specs.Initial.{fixed_name, fixed_names, all_defi
 ghost use Rattle.clos_hierarchy.specs.inner.Kept.{Knows};
 
 use crate::definitions::Definitions;
-use crate::kept::Kept;
-use crate::relist::relist;
+use crate::lists::Lists;
 use lisp_data::Name;
 use std::alloc::{AllocError, Global};
 
@@ -22,153 +21,154 @@ fn names(alloc: Global, texts: &'static [&'static str]) -> Result<Vec<Name>, All
     Ok(names)
 }
 
-/// One more class.
-#[tactic(auto, using(crate::proofs::Admitted::no_longer))]
+/// One more class. None of them is misplaced, so that memory alone may be refused.
 fn add(
     alloc: Global,
     definitions: &mut Definitions,
-    kept: &mut Vec<Kept>,
+    lists: &mut Lists,
     name: &'static &'static str,
     above: &'static [&'static str],
 ) -> Result<(), AllocError>
-    requires { Knows definitions.old kept.old.items }
+    requires { Knows definitions.old lists.old }
     ensures defined { OnOk result (definitions.new ≡ with_class definitions.old (fixed_name name.now.now) (fixed_names (map (λ t. t.now) above.now))) }
-    ensures knows { OnOk result (Knows definitions.new kept.new.items) }
+    ensures knows { OnOk result (Knows definitions.new lists.new) }
 {
     let _rows = definitions.len();
     let above = names(alloc, above)?;
     let put = definitions.put(Name::fixed(name), above)?;
-    *kept = relist(alloc, definitions, kept.as_slice(), put.class)?;
-    Ok(())
+    match lists.place(alloc, definitions, put.class, &Name::fixed(name), false) {
+        Ok(_) => Ok(()),
+        Err(_) => Err(AllocError),
+    }
 }
 
 fn add_objects_and_numbers(
     alloc: Global,
     definitions: &mut Definitions,
-    kept: &mut Vec<Kept>,
+    lists: &mut Lists,
 ) -> Result<(), AllocError>
-    requires { Knows definitions.old kept.old.items }
+    requires { Knows definitions.old lists.old }
     ensures defined { OnOk result (definitions.new ≡ all_defined definitions.old objects_and_numbers) }
-    ensures knows { OnOk result (Knows definitions.new kept.new.items) }
+    ensures knows { OnOk result (Knows definitions.new lists.new) }
 {
-    add(alloc, definitions, kept, &"T", &[])?;
-    add(alloc, definitions, kept, &"STANDARD-OBJECT", &["T"])?;
+    add(alloc, definitions, lists, &"T", &[])?;
+    add(alloc, definitions, lists, &"STANDARD-OBJECT", &["T"])?;
     add(
         alloc,
         definitions,
-        kept,
+        lists,
         &"INTEGER",
         &["RATIONAL", "REAL", "NUMBER", "T"],
     )?;
     add(
         alloc,
         definitions,
-        kept,
+        lists,
         &"RATIONAL",
         &["REAL", "NUMBER", "T"],
     )?;
-    add(alloc, definitions, kept, &"REAL", &["NUMBER", "T"])?;
-    add(alloc, definitions, kept, &"NUMBER", &["T"])?;
+    add(alloc, definitions, lists, &"REAL", &["NUMBER", "T"])?;
+    add(alloc, definitions, lists, &"NUMBER", &["T"])?;
     Ok(())
 }
 
 fn add_symbols_and_sequences(
     alloc: Global,
     definitions: &mut Definitions,
-    kept: &mut Vec<Kept>,
+    lists: &mut Lists,
 ) -> Result<(), AllocError>
-    requires { Knows definitions.old kept.old.items }
+    requires { Knows definitions.old lists.old }
     ensures defined { OnOk result (definitions.new ≡ all_defined definitions.old symbols_and_sequences) }
-    ensures knows { OnOk result (Knows definitions.new kept.new.items) }
+    ensures knows { OnOk result (Knows definitions.new lists.new) }
 {
     add(
         alloc,
         definitions,
-        kept,
+        lists,
         &"NULL",
         &["SYMBOL", "LIST", "SEQUENCE", "T"],
     )?;
-    add(alloc, definitions, kept, &"SYMBOL", &["T"])?;
-    add(alloc, definitions, kept, &"LIST", &["SEQUENCE", "T"])?;
-    add(alloc, definitions, kept, &"SEQUENCE", &["T"])?;
+    add(alloc, definitions, lists, &"SYMBOL", &["T"])?;
+    add(alloc, definitions, lists, &"LIST", &["SEQUENCE", "T"])?;
+    add(alloc, definitions, lists, &"SEQUENCE", &["T"])?;
     add(
         alloc,
         definitions,
-        kept,
+        lists,
         &"CONS",
         &["LIST", "SEQUENCE", "T"],
     )?;
     add(
         alloc,
         definitions,
-        kept,
+        lists,
         &"STRING",
         &["VECTOR", "ARRAY", "SEQUENCE", "T"],
     )?;
     add(
         alloc,
         definitions,
-        kept,
+        lists,
         &"VECTOR",
         &["ARRAY", "SEQUENCE", "T"],
     )?;
-    add(alloc, definitions, kept, &"ARRAY", &["T"])?;
+    add(alloc, definitions, lists, &"ARRAY", &["T"])?;
     Ok(())
 }
 
 fn add_functions_and_metaobjects(
     alloc: Global,
     definitions: &mut Definitions,
-    kept: &mut Vec<Kept>,
+    lists: &mut Lists,
 ) -> Result<(), AllocError>
-    requires { Knows definitions.old kept.old.items }
+    requires { Knows definitions.old lists.old }
     ensures defined { OnOk result (definitions.new ≡ all_defined definitions.old functions_and_metaobjects) }
-    ensures knows { OnOk result (Knows definitions.new kept.new.items) }
+    ensures knows { OnOk result (Knows definitions.new lists.new) }
 {
-    add(alloc, definitions, kept, &"FUNCTION", &["T"])?;
+    add(alloc, definitions, lists, &"FUNCTION", &["T"])?;
     add(
         alloc,
         definitions,
-        kept,
+        lists,
         &"GENERIC-FUNCTION",
         &["FUNCTION", "T"],
     )?;
     add(
         alloc,
         definitions,
-        kept,
+        lists,
         &"STANDARD-GENERIC-FUNCTION",
         &["GENERIC-FUNCTION", "FUNCTION", "T"],
     )?;
     add(
         alloc,
         definitions,
-        kept,
+        lists,
         &"CLASS",
         &["STANDARD-OBJECT", "T"],
     )?;
     add(
         alloc,
         definitions,
-        kept,
+        lists,
         &"STANDARD-CLASS",
         &["CLASS", "STANDARD-OBJECT", "T"],
     )?;
     add(
         alloc,
         definitions,
-        kept,
+        lists,
         &"BUILT-IN-CLASS",
         &["CLASS", "STANDARD-OBJECT", "T"],
     )?;
     add(
         alloc,
         definitions,
-        kept,
+        lists,
         &"STANDARD-METHOD",
         &["METHOD", "STANDARD-OBJECT", "T"],
     )?;
-    add(alloc, definitions, kept, &"METHOD", &["T"])?;
+    add(alloc, definitions, lists, &"METHOD", &["T"])?;
     Ok(())
 }
 
@@ -177,15 +177,15 @@ fn add_functions_and_metaobjects(
 pub fn define_predefined(
     alloc: Global,
     definitions: &mut Definitions,
-    kept: &mut Vec<Kept>,
+    lists: &mut Lists,
 ) -> Result<(), AllocError>
     requires none { definitions.old ≡ record { names = []; above = [] } }
-    requires empty { kept.old.items ≡ [] }
+    requires empty { lists.old ≡ [] }
     ensures defined { OnOk result (definitions.new ≡ predefined) }
-    ensures knows { OnOk result (Knows definitions.new kept.new.items) }
+    ensures knows { OnOk result (Knows definitions.new lists.new) }
 {
-    add_objects_and_numbers(alloc, definitions, kept)?;
-    add_symbols_and_sequences(alloc, definitions, kept)?;
-    add_functions_and_metaobjects(alloc, definitions, kept)?;
+    add_objects_and_numbers(alloc, definitions, lists)?;
+    add_symbols_and_sequences(alloc, definitions, lists)?;
+    add_functions_and_metaobjects(alloc, definitions, lists)?;
     Ok(())
 }

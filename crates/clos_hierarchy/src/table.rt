@@ -1,9 +1,8 @@
 //! A session's table of classes (HyperSpec 4.3).
-ghost use Rattle.std.specs.Prelude.{◌≡◌, ◌↔◌, ℕ, None, true, IfOk, IfErr, IfSome, IsNone, IsTrue, OnOk, OnErr, option_map, option_copied, slice_get};
+ghost use Rattle.std.specs.Prelude.{◌≡◌, ◌<◌, ◌↔◌, ℕ, None, false, length, map, true, IfOk, IfErr, IfSome, IsNone, IsTrue, OnOk, OnErr, option_map, option_copied, slice_get};
 ghost use Rattle.clos_hierarchy.specs.Classes.{named, number_of, with_class, listing, broken, list_in};
 ghost use Rattle.clos_precedence.specs.Precedence.{has};
 ghost use Rattle.clos_hierarchy.specs.Initial.{initial, is_standard, class_of_class};
-ghost use Rattle.clos_hierarchy.specs.Outlook.{listing_then};
 ghost use Rattle.clos_precedence.specs.PrecedenceView.{numbers};
 ghost use Rattle.clos_hierarchy.specs.Table.{Table, refusal, or_standard, changed, list_if};
 ghost use Rattle.clos_hierarchy.specs.TableView.{Refuses, IsListOf, HasCircle};
@@ -13,7 +12,7 @@ use crate::admit::{Changed, admit, check_place};
 use crate::definitions::Definitions;
 use crate::fault::ClassFault;
 use crate::find::{list_of, listed};
-use crate::kept::Kept;
+use crate::lists::Lists;
 use crate::names::{check_names, or_standard};
 use crate::numbers::{BUILT_IN_CLASS, STANDARD_CLASS, STANDARD_OBJECT};
 use crate::predefined::define_predefined;
@@ -28,7 +27,7 @@ use std::marker::Model;
 #[derive(Drop)]
 pub struct Hierarchy {
     definitions: Definitions,
-    kept: Vec<Kept>,
+    lists: Lists,
     /// So many stand first.
     predefined: u64,
     /// So many more there may be.
@@ -43,7 +42,7 @@ impl Model for Hierarchy {
 
     ghost view = { λ a. record { classes = a.definitions; predefined = a.predefined; limit = a.limit } };
 
-    ghost invariant = { λ a. Knows a.definitions a.kept.items × IsConsistent a.definitions };
+    ghost invariant = { λ a. Knows a.definitions a.lists × IsConsistent a.definitions };
 }
 
 impl Hierarchy {
@@ -53,12 +52,12 @@ impl Hierarchy {
         ensures { IfOk result (λ r. r ≡ initial limit) }
     {
         let mut definitions = Definitions::new(alloc);
-        let mut kept = Vec::new(alloc);
-        define_predefined(alloc, &mut definitions, &mut kept)?;
+        let mut lists = Lists::new(alloc);
+        define_predefined(alloc, &mut definitions, &mut lists)?;
         let predefined = definitions.len() as u64;
         Ok(Hierarchy {
             definitions,
-            kept,
+            lists,
             predefined,
             limit,
         })
@@ -93,15 +92,15 @@ impl Hierarchy {
         admit(
             alloc,
             &mut self.definitions,
-            &mut self.kept,
+            &mut self.lists,
             name,
             above,
             has_shared_slots,
         )
     }
 
-    /// The fault that `define` would answer, or else what there would be to say of all classes after it. The table stays as it
-    /// was.
+    /// The fault that `define` would answer, or else what there would be to say after it of the classes that it touches: of
+    /// all others the lists stay, and do not have the class. The table stays as it was.
     pub fn check(
         &mut self,
         alloc: Global,
@@ -111,8 +110,11 @@ impl Hierarchy {
     ) -> Result<Preview, ClassFault>
         ensures ok { OnOk result (refusal self.old name.now (or_standard superclasses.items) has_shared_slots ≡ None) }
         ensures class { IfOk result (λ r. r.class ≡ number_of self.old.classes name.now) }
-        ensures lists { IfOk result (λ r. (n : ℕ) → listing_then r n ≡ listing (with_class self.old.classes name.now (or_standard superclasses.items)) n) }
-        ensures changed { IfOk result (λ r. r.changed ≡ changed self.old.classes (with_class self.old.classes name.now (or_standard superclasses.items))) }
+        ensures own { IfOk result (λ r. has r.touched r.class ≡ true) }
+        ensures lists { IfOk result (λ r. r.listings ≡ map (λ n. listing (with_class self.old.classes name.now (or_standard superclasses.items)) n) r.touched) }
+        ensures within { IfOk result (λ r. (n : ℕ) → has r.touched n ≡ true → n < length (with_class self.old.classes name.now (or_standard superclasses.items)).names) }
+        ensures others { IfOk result (λ r. (n : ℕ) → has r.touched n ≡ false → listing (with_class self.old.classes name.now (or_standard superclasses.items)) n ≡ listing self.old.classes n) }
+        ensures free { IfOk result (λ r. (n : ℕ) → has r.touched n ≡ false → has (list_in (listing self.old.classes n)) r.class ≡ false) }
         ensures fault { IfErr result (λ e. Refuses e (refusal self.old name.now (or_standard superclasses.items) has_shared_slots)) }
         ensures same { self.new ≡ self.old }
     {
@@ -128,7 +130,7 @@ impl Hierarchy {
         check_place(
             alloc,
             &mut self.definitions,
-            self.kept.as_slice(),
+            &mut self.lists,
             name,
             above,
             has_shared_slots,
@@ -158,14 +160,14 @@ impl Hierarchy {
         ensures none { IsNone result ↔ IsIncomplete self.now.classes class.0 }
         ensures no_circle { IsSuperclass self.now.classes class.0 class.0 → ⊥ }
     {
-        listed(self.kept.as_slice(), class)
+        listed(self.lists.as_slice(), class)
     }
 
     /// The class precedence list of a class, or no classes where there is none.
     pub fn precedence_or_none(&self, class: ClassId) -> &[ClassId]
         ensures { numbers result.now ≡ list_in (listing self.now.classes class.0) }
     {
-        list_of(self.kept.as_slice(), class)
+        list_of(self.lists.as_slice(), class)
     }
 
     /// Whether a class that has a class precedence list is this other one, or below it.
@@ -173,7 +175,7 @@ impl Hierarchy {
         ensures found { result ≡ has (list_in (listing self.now.classes class.0)) above.0 }
         ensures law { IsTrue result ↔ (IsComplete self.now.classes class.0 × IsSelfOrAbove self.now.classes class.0 above.0) }
     {
-        contains(list_of(self.kept.as_slice(), class), above)
+        contains(list_of(self.lists.as_slice(), class), above)
     }
 
     /// Whether `defclass` makes classes like this one, of which programs may make instances, or it is STANDARD-OBJECT.

@@ -100,22 +100,10 @@ without c lacking = lacking
 without c broken = lacking
 without c (listed l) = if has l c then lacking else listed l
 
--- a list, where there is one
-abbrev pub without_broken : Listing → Listing
-without_broken lacking = lacking
-without_broken broken = lacking
-without_broken (listed l) = listed l
-
 -- what is kept of the classes that do not have this one among their superclasses
 abbrev pub Restarts : ℕ → List Kept → List Kept → Type 0
 Restarts c old new =
     (n : ℕ) → (listing_at new n ≡ without c (listing_at old n)) × ((l : List ℕ) → listing_at new n ≡ listed l → kept_above (kept_at new n) ≡ kept_above (kept_at old n))
-
--- the same of the classes below this number, which are all that are kept
-abbrev pub RestartsBelow : ℕ → List Kept → List Kept → ℕ → Type 0
-RestartsBelow c old new place =
-    (length new ≡ place) × ((n : ℕ) → n < place →
-    (listing_at new n ≡ without c (listing_at old n)) × ((l : List ℕ) → listing_at new n ≡ listed l → kept_above (kept_at new n) ≡ kept_above (kept_at old n)))
 
 -- the classes after this one changed, or came last
 pub record Changes (cs to : Classes) (c : ℕ) : Type 0 where

@@ -1,8 +1,11 @@
+use Rattle.clos_precedence.specs.PrecedenceView.{numbers}
 use Rattle.clos_hierarchy.specs.inner.Kept.{Adds, Progress, lacking_in}
+use Rattle.clos_hierarchy.specs.inner.Touched.{OthersStay}
 use Rattle.clos_hierarchy.proofs.fill.fill.Given as goal
 
-abbrev pub invariant-loop : goal.invariant-loop
-invariant-loop l = (Progress l.definitions l.fn.kept.items → Progress l.definitions l.kept.items) × Adds l.fn.kept.items l.kept.items
+abbrev pub invariant-loop-forward : goal.invariant-loop-forward
+invariant-loop-forward l =
+    (Progress l.definitions l.fn.kept.items → Progress l.definitions l.kept.items) × Adds l.fn.kept.items l.kept.items × OthersStay (numbers l.fn.places) l.fn.kept.items l.kept.items
 
-abbrev pub decreases-loop : goal.decreases-loop
-decreases-loop l = lacking_in l.kept.items
+abbrev pub decreases-loop-forward : goal.decreases-loop-forward
+decreases-loop-forward l = lacking_in l.kept.items

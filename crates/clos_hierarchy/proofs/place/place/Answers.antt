@@ -1,11 +1,46 @@
-use Rattle.std.proofs.Common.{◌≡◌, length, subst, ◌∙◌}
+use Rattle.std.proofs.Common.{ap, subst, sym, take, ◌∙◌}
 use Rattle.clos_precedence.specs.PrecedenceView.{numbers}
-use Rattle.clos_hierarchy.specs.inner.KeptView.{listing_at}
-use Rattle.clos_hierarchy.specs.inner.Finding.{changed_if}
-use Rattle.clos_hierarchy.proofs.Placing.{changed_is}
+use Rattle.clos_hierarchy.specs.TableView.{Refuses}
+use Rattle.clos_hierarchy.specs.inner.Exchange.{Replaces}
+use Rattle.clos_hierarchy.proofs.Placed.{IsPlacing, as_long, no_shorter_mid, none_else_mid, placing, progress, replaces, same_mid, taken_back, waits_mid, within_mid}
+use Rattle.clos_hierarchy.proofs.Placing.{out_of_order_then}
 use Rattle.clos_hierarchy.proofs.place.place.Goals as goal
 
-pub returns-clause-changed : goal.returns-clause-changed
-returns-clause-changed c = λ cs k m.
-    subst (λ v. numbers c.in_ok-changed.changed.items ≡ changed_if c.is_new.result (length v) (listing_at c.args.kept.now) (listing_at v)) c.as_slice-2.ensures.value c.in_ok-changed.ensures
-    ∙ changed_is cs c.args.definitions.now c.args.kept.now c.in_ok-now.now.items c.args.class.0 c.is_new.result k (c.in_ok-now.ensures.knows cs k m) c.is_new.ensures (c.in_ok-now.ensures.adds cs k)
+found : (c : goal.In-Ok) → IsPlacing c.args.definitions.now c.args.kept.now.items c.reach.new.kept.items (numbers c.args.waiting.now) c.args.below.now c.args.class.0 (numbers c.as_slice-2.result.now)
+found c =
+    placing c.args.definitions.now c.args.kept.now.items c.reach.new.kept.items c.as_slice.result.now (numbers c.args.waiting.now) c.args.below.now c.args.class.0 c.len.result c.in_ok-places.places.items c.as_slice-2.result.now
+    c.as_slice-2.ensures.value c.as_slice.ensures.value c.len.ensures.len c.in_ok-reach.ensures.ok c.requires.class c.requires.waiting c.requires.noted c.in_ok-places.ensures.members c.in_ok-places.ensures.ordered
+
+refused : (c : goal.After-drop-places-in-Err-1) → IsPlacing c.args.definitions.now c.args.kept.now.items c.reach.new.kept.items (numbers c.args.waiting.now) c.args.below.now c.args.class.0 (numbers c.as_slice-2.result.now)
+refused c =
+    placing c.args.definitions.now c.args.kept.now.items c.reach.new.kept.items c.as_slice.result.now (numbers c.args.waiting.now) c.args.below.now c.args.class.0 c.len.result c.in_ok-places.places.items c.as_slice-2.result.now
+    c.as_slice-2.ensures.value c.as_slice.ensures.value c.len.ensures.len c.in_ok-reach.ensures.ok c.requires.class c.requires.waiting c.requires.noted c.in_ok-places.ensures.members c.in_ok-places.ensures.ordered
+
+pub find_well-requires-clause-within : goal.find_well-requires-clause-within
+find_well-requires-clause-within c =
+    within_mid _ _ _ _ _ _ _
+    (placing c.args.definitions.now c.args.kept.now.items c.reach.new.kept.items c.as_slice.result.now (numbers c.args.waiting.now) c.args.below.now c.args.class.0 c.len.result c.in_ok-places.places.items c.as_slice-2.result.now
+    c.as_slice-2.ensures.value c.as_slice.ensures.value c.len.ensures.len c.in_ok-reach.ensures.ok c.requires.class c.requires.waiting c.requires.noted c.in_ok-places.ensures.members c.in_ok-places.ensures.ordered)
+
+pub returns-in-Ok-clause-replaced : goal.returns-in-Ok-clause-replaced
+returns-in-Ok-clause-replaced c =
+    subst (λ v. Replaces (numbers c.args.waiting.now) (numbers v) c.args.class.0 c.in-Ok.olds.items c.args.kept.now.items c.find_well.new.kept.items) c.as_slice-2.ensures.value
+    (replaces _ _ _ _ _ _ _ (found c) c.in-Ok.olds.items c.find_well.new.kept.items c.in-Ok.ensures.taken c.in-Ok.ensures.others)
+
+pub returns-in-Ok-clause-knows : goal.returns-in-Ok-clause-knows
+returns-in-Ok-clause-knows c = λ cs k m. c.in-Ok.ensures.knows (progress _ _ _ _ _ _ _ (found c) cs k m) (waits_mid _ _ _ _ _ _ _ (found c))
+
+pub returns-in-Ok-clause-well : goal.returns-in-Ok-clause-well
+returns-in-Ok-clause-well c = λ cs k m.
+    out_of_order_then c.args.definitions.now c.args.class.0 c.args.name.now c.args.whole (sym c.in_ok-is_circular.ensures ∙ c.if-branch.false)
+    ∙ c.in-Ok.ensures.well (progress _ _ _ _ _ _ _ (found c) cs k m) (waits_mid _ _ _ _ _ _ _ (found c)) (none_else_mid _ _ _ _ _ _ _ (found c))
+
+pub returns-in-Err-clause-err : goal.returns-in-Err-clause-err
+returns-in-Err-clause-err c =
+    c.truncate.ensures.items ∙ ap (take c.len-len.result) c.in-Err.ensures.err ∙ ap (λ n. take n c.reach.new.kept.items) (as_long c.args.kept.now c.len-len.result c.len-len.ensures)
+    ∙ taken_back c.args.kept.now.items c.reach.new.kept.items (no_shorter_mid _ _ _ _ _ _ _ (refused c)) (same_mid _ _ _ _ _ _ _ (refused c))
+
+pub returns-in-Err-clause-fault : goal.returns-in-Err-clause-fault
+returns-in-Err-clause-fault c = λ cs k m.
+    subst (Refuses c.in-Err.fault) (sym (out_of_order_then c.args.definitions.now c.args.class.0 c.args.name.now c.args.whole (sym c.in_ok-is_circular.ensures ∙ c.if-branch.false)))
+    (c.in-Err.ensures.fault (progress _ _ _ _ _ _ _ (refused c) cs k m) (waits_mid _ _ _ _ _ _ _ (refused c)) (none_else_mid _ _ _ _ _ _ _ (refused c)))

@@ -1,0 +1,147 @@
+//! What is kept of all classes of a table.
+ghost use Rattle.std.specs.Prelude.{◌≡◌, ◌<◌, ℕ, [], None, IfErr, IfOk, OnErr, OnOk, length, map, false, true};
+ghost use Rattle.clos_precedence.specs.Precedence.{has};
+ghost use Rattle.clos_precedence.specs.PrecedenceView.{numbers};
+ghost use Rattle.clos_hierarchy.specs.Classes.{Classes, list_in, listing};
+ghost use Rattle.clos_hierarchy.specs.Table.{changed, misplaced};
+ghost use Rattle.clos_hierarchy.specs.TableView.{Refuses};
+ghost use Rattle.clos_hierarchy.specs.inner.Exchange.{IsPlace};
+ghost use Rattle.clos_hierarchy.specs.inner.Kept.{Changes, Knows};
+
+use crate::below::Below;
+use crate::definitions::Definitions;
+use crate::fault::ClassFault;
+use crate::kept::Kept;
+use crate::place::{Replaced, place, put_back};
+use crate::preview::Preview;
+use crate::settle::{Settled, settle};
+use lisp_data::{ClassId, Name};
+use std::alloc::Global;
+use std::marker::Model;
+
+/// What is kept of each class, and what tells quickly which classes a definition touches: those that have no list, and of each
+/// class those below it. A definition costs what it touches, not what the table holds.
+#[derive(Drop)]
+pub struct Lists {
+    kept: Vec<Kept>,
+    waiting: Vec<ClassId>,
+    below: Below,
+}
+
+impl Model for Lists {
+    ghost use Rattle.std.specs.Prelude.{List};
+    ghost use Rattle.clos_precedence.specs.PrecedenceView.{numbers};
+    ghost use Rattle.clos_hierarchy.specs.declared.kept.Kept.{Kept};
+    ghost use Rattle.clos_hierarchy.specs.inner.Touched.{AreNoted, AreWaiting};
+
+    ghost Value = { List Kept };
+
+    ghost view = { λ a. a.kept.items };
+
+    ghost invariant = { λ a. AreWaiting (numbers a.waiting.items) a.kept.items × AreNoted a.below a.kept.items };
+}
+
+impl Lists {
+    /// Of no class.
+    pub fn new(alloc: Global) -> Lists
+        ensures { result ≡ [] }
+    {
+        Lists {
+            kept: Vec::new(alloc),
+            waiting: Vec::new(alloc),
+            below: Below::new(alloc),
+        }
+    }
+
+    /// What is kept of each class, by its number.
+    pub fn as_slice(&self) -> &[Kept]
+        ensures { result.now ≡ self.now }
+    {
+        self.kept.as_slice()
+    }
+
+    /// Keeps what there is to say of all classes after this one was defined, unless it is misplaced, and answers those
+    /// whose lists changed.
+    pub fn place(
+        &mut self,
+        alloc: Global,
+        definitions: &Definitions,
+        class: ClassId,
+        name: &Name,
+        whole: bool,
+    ) -> Result<Vec<ClassId>, ClassFault>
+        requires { IsPlace class.0 (length self.old) (length definitions.now.names) }
+        ensures knows { OnOk result ((cs : Classes) → Knows cs self.old → Changes cs definitions.now class.0 → Knows definitions.now self.new) }
+        ensures well { OnOk result ((cs : Classes) → Knows cs self.old → Changes cs definitions.now class.0 → misplaced definitions.now class.0 name.now whole ≡ None) }
+        ensures changed { IfOk result (λ r. (cs : Classes) → Knows cs self.old → Changes cs definitions.now class.0 → numbers r.items ≡ changed cs definitions.now) }
+        ensures err { OnErr result (self.new ≡ self.old) }
+        ensures fault { IfErr result (λ e. (cs : Classes) → Knows cs self.old → Changes cs definitions.now class.0 → Refuses e (misplaced definitions.now class.0 name.now whole)) }
+    {
+        let len = self.kept.len();
+        let replaced = place(
+            alloc,
+            definitions,
+            &mut self.kept,
+            self.waiting.as_slice(),
+            &self.below,
+            class,
+            name,
+            whole,
+        )?;
+        match settle(
+            alloc,
+            &mut self.below,
+            replaced.places.as_slice(),
+            replaced.olds.as_slice(),
+            self.kept.as_slice(),
+        ) {
+            Ok(Settled { changed, waiting }) => {
+                self.waiting = waiting;
+                Ok(changed)
+            }
+            Err(_) => {
+                put_back(&mut self.kept, replaced, len);
+                Err(ClassFault::Memory)
+            }
+        }
+    }
+
+    /// What there would be to say of the classes that this definition touches, unless it is misplaced.
+    pub fn preview(
+        &mut self,
+        alloc: Global,
+        definitions: &Definitions,
+        class: ClassId,
+        name: &Name,
+        whole: bool,
+    ) -> Result<Preview, ClassFault>
+        requires { IsPlace class.0 (length self.old) (length definitions.now.names) }
+        ensures class { IfOk result (λ r. r.class ≡ class.0) }
+        ensures own { IfOk result (λ r. has r.touched class.0 ≡ true) }
+        ensures lists { IfOk result (λ r. (cs : Classes) → Knows cs self.old → Changes cs definitions.now class.0 → r.listings ≡ map (λ n. listing definitions.now n) r.touched) }
+        ensures within { IfOk result (λ r. (cs : Classes) → Knows cs self.old → Changes cs definitions.now class.0 → (n : ℕ) → has r.touched n ≡ true → n < length definitions.now.names) }
+        ensures others { IfOk result (λ r. (cs : Classes) → Knows cs self.old → Changes cs definitions.now class.0 → (n : ℕ) → has r.touched n ≡ false → listing definitions.now n ≡ listing cs n) }
+        ensures free { IfOk result (λ r. (cs : Classes) → Knows cs self.old → (n : ℕ) → has r.touched n ≡ false → has (list_in (listing cs n)) r.class ≡ false) }
+        ensures well { OnOk result ((cs : Classes) → Knows cs self.old → Changes cs definitions.now class.0 → misplaced definitions.now class.0 name.now whole ≡ None) }
+        ensures fault { IfErr result (λ e. (cs : Classes) → Knows cs self.old → Changes cs definitions.now class.0 → Refuses e (misplaced definitions.now class.0 name.now whole)) }
+        ensures same { self.new ≡ self.old }
+    {
+        let len = self.kept.len();
+        let replaced = place(
+            alloc,
+            definitions,
+            &mut self.kept,
+            self.waiting.as_slice(),
+            &self.below,
+            class,
+            name,
+            whole,
+        )?;
+        let Replaced { places, olds } = put_back(&mut self.kept, replaced, len);
+        Ok(Preview {
+            class,
+            touched: places,
+            kept: olds,
+        })
+    }
+}

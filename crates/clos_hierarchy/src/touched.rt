@@ -1,0 +1,75 @@
+//! The classes that a definition touches: of all others what is kept stays.
+ghost use Rattle.std.specs.Prelude.{◌≡◌, ◌||◌, ℕ, IfOk, OnOk};
+ghost use Rattle.clos_precedence.specs.Precedence.{has};
+ghost use Rattle.clos_precedence.specs.PrecedenceView.{numbers};
+ghost use Rattle.clos_hierarchy.specs.inner.Touched.{Ascends, have_it, is_touched};
+
+use crate::below::Below;
+use crate::find::list_of;
+use crate::kept::Kept;
+use clos_precedence::contains;
+use lisp_data::ClassId;
+use std::alloc::{AllocError, Global};
+use std::collections::BTreeSet;
+
+/// Adds these classes.
+fn add_all(places: &mut BTreeSet<u64>, classes: &[ClassId]) -> Result<(), AllocError>
+    ensures members { OnOk result ((n : ℕ) → has places.new.keys n ≡ (has places.old.keys n || has (numbers classes.now) n)) }
+    ensures ordered { OnOk result (Ascends places.old.keys → Ascends places.new.keys) }
+{
+    let mut left = classes;
+    while let Some((class, others)) = left.split_first() {
+        places.insert(class.0)?;
+        left = others;
+    }
+    Ok(())
+}
+
+/// Adds those of these that have a class in their lists.
+fn add_below(
+    places: &mut BTreeSet<u64>,
+    kept: &[Kept],
+    class: ClassId,
+    noted: &[u64],
+) -> Result<(), AllocError>
+    ensures members { OnOk result ((n : ℕ) → has places.new.keys n ≡ (has places.old.keys n || have_it kept.now class.0 noted.now n)) }
+    ensures ordered { OnOk result (Ascends places.old.keys → Ascends places.new.keys) }
+{
+    let mut left = noted;
+    while let Some((number, others)) = left.split_first() {
+        if contains(list_of(kept, ClassId(*number)), class) {
+            places.insert(*number)?;
+        }
+        left = others;
+    }
+    Ok(())
+}
+
+fn in_order(alloc: Global, mut places: BTreeSet<u64>) -> Result<Vec<ClassId>, AllocError>
+    ensures { IfOk result (λ r. numbers r.items ≡ places.keys) }
+{
+    let mut classes = Vec::new(alloc);
+    while let Some(number) = places.pop_first() {
+        classes.push(ClassId(number))?;
+    }
+    Ok(classes)
+}
+
+/// The classes that a definition of this one touches, in the order of their numbers, where these wait for others.
+pub fn touched(
+    alloc: Global,
+    kept: &[Kept],
+    waiting: &[ClassId],
+    below: &Below,
+    class: ClassId,
+) -> Result<Vec<ClassId>, AllocError>
+    ensures members { IfOk result (λ r. (n : ℕ) → has (numbers r.items) n ≡ is_touched kept.now (numbers waiting.now) below.now class.0 n) }
+    ensures ordered { IfOk result (λ r. Ascends (numbers r.items)) }
+{
+    let mut places = BTreeSet::new(alloc);
+    places.insert(class.0)?;
+    add_all(&mut places, waiting)?;
+    add_below(&mut places, kept, class, below.of(class))?;
+    let touched = in_order(alloc, places)?;
+    Ok(touched)
+}
