@@ -10,12 +10,12 @@ use Rattle.clos_class.specs.SlotsView.{defaults, defaults_in, direct_slots, or_s
 use Rattle.clos_class.specs.Table.{with_row}
 
 module _ {X : Type 0} where
-  set_here : (xs : List X) (n : ℕ) (x : X) → n < length xs → slice_get (slice_set xs n x) n ≡ Some x
+  pub set_here : (xs : List X) (n : ℕ) (x : X) → n < length xs → slice_get (slice_set xs n x) n ≡ Some x
   set_here [] n x h = absurd (omega (arith, h))
   set_here (y ∷ ys) zero x h = refl
   set_here (y ∷ ys) (suc n) x h = set_here ys n x (omega (arith, h))
 
-  set_other : (xs : List X) (n m : ℕ) (x : X) → (m == n) ≡ false → slice_get (slice_set xs n x) m ≡ slice_get xs m
+  pub set_other : (xs : List X) (n m : ℕ) (x : X) → (m == n) ≡ false → slice_get (slice_set xs n x) m ≡ slice_get xs m
   set_other [] n m x h = refl
   set_other (y ∷ ys) zero zero x h = absurd (eqb-false 0 0 h refl)
   set_other (y ∷ ys) zero (suc m) x h = refl

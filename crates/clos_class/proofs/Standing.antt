@@ -48,10 +48,10 @@ length_of zero r = refl
 length_of (suc n) r = ap suc (length_of n r)
 
 pub first_kept : (cs : Classes) (rows now : List ClassSlots) (r : ClassSlots) (ks : List Kept) → rows ≡ replicate (length cs.names) r → now ≡ rows → length ks ≡ length now
-    → ((n : ℕ) → n < length now → Tells (direct_slots now) (defaults now) (lists_of cs n) (kept_at ks n)) → (length rows ≡ length cs.names) × TellsAll rows (lists_of cs) ks
+    → ((n : ℕ) → n < length now → Tells (direct_slots now) (defaults now) (lists_of cs n) (kept_at ks n)) → (length rows ≡ length cs.names) × (length ks ≡ length cs.names) × TellsAll rows (lists_of cs) ks
 first_kept cs rows now r ks e h l f =
     let m : length rows ≡ length cs.names = ap length e ∙ length_of (length cs.names) r in
-    (m, subst (λ v. TellsAll v (lists_of cs) ks) h (all_kept now cs ks (l ∙ ap length h ∙ m) (λ n k. f n (subst (λ v. n < v) l k))))
+    (m, l ∙ ap length h ∙ m, subst (λ v. TellsAll v (lists_of cs) ks) h (all_kept now cs ks (l ∙ ap length h ∙ m) (λ n k. f n (subst (λ v. n < v) l k))))
 
 -- ---- once a class is defined
 
@@ -62,16 +62,18 @@ length_by rows n row false = let l : length (rows ++ row ∷ []) ≡ length rows
 length_with : (rows : List ClassSlots) (n : ℕ) (row : ClassSlots) → length (with_row rows n row) ≡ len_with (length rows) n
 length_with rows n row = length_by rows n row (nat_lt n (length rows))
 
-pub stands : (t now to : NameTable) (d : ClassDefinition) (rows seen old new : List ClassSlots) (n : ℕ) (row : ClassSlots) (ks : List Kept) → length rows ≡ length t.classes.names → now ≡ t
+pub stands : (t now to : NameTable) (d : ClassDefinition) (rows seen old new : List ClassSlots) (n : ℕ) (row : ClassSlots) (was ks : List Kept) → length rows ≡ length t.classes.names → now ≡ t
     → to ≡ record now { classes = classes_with now d } → seen ≡ rows → old ≡ rows → new ≡ with_row old n row → n ≡ number now d
-    → TellsAll (with_row seen (number t d) row) (lists_of (classes_with t d)) ks → (length new ≡ length to.classes.names) × TellsAll new (lists_of to.classes) ks
-stands t now to d rows seen old new n row ks l e h s o w m k =
+    → length was ≡ length t.classes.names → (length ks ≡ len_with (length was) (number t d)) × TellsAll (with_row seen (number t d) row) (lists_of (classes_with t d)) ks
+    → (length new ≡ length to.classes.names) × (length ks ≡ length to.classes.names) × TellsAll new (lists_of to.classes) ks
+stands t now to d rows seen old new n row was ks l e h s o w m lw k =
     let c : classes_with t d ≡ to.classes = ap (λ v. classes_with v d) (sym e) ∙ sym (ap (λ v. v.classes) h) in
     let a : n ≡ number t d = m ∙ ap (λ v. number v d) e in
     let r : with_row rows (number t d) row ≡ new = ap (λ i. with_row rows i row) (sym a) ∙ ap (λ v. with_row v n row) (sym o) ∙ sym w in
     let q : with_row seen (number t d) row ≡ new = ap (λ v. with_row v (number t d) row) s ∙ r in (
       ap length (sym r) ∙ length_with rows (number t d) row ∙ so_many t d (number t d) (length rows) l refl ∙ ap (λ v. length v.names) c,
-      subst (λ v. TellsAll new (lists_of v) ks) c (subst (λ v. TellsAll v (lists_of (classes_with t d)) ks) q k),
+      k.0 ∙ so_many t d (number t d) (length was) lw refl ∙ ap (λ v. length v.names) c,
+      subst (λ v. TellsAll new (lists_of v) ks) c (subst (λ v. TellsAll v (lists_of (classes_with t d)) ks) q k.1),
     )
 
 abbrev pub said_with : List ClassSlots → NameTable → ClassDefinition → ℕ → ClassSlots

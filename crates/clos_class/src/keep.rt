@@ -1,7 +1,8 @@
 //! What is kept of all classes: what each has by its class precedence list.
-ghost use Rattle.std.specs.Prelude.{◌≡◌, ◌<◌, ◌≤◌, ◌||◌, ℕ, IfOk, length, option_copied};
+ghost use Rattle.std.specs.Prelude.{◌≡◌, ◌<◌, ◌≤◌, ℕ, true, IfOk, length, option_copied, vec_capacity, vec_len};
 ghost use Rattle.clos_precedence.specs.Precedence.{has};
-ghost use Rattle.clos_class.specs.inner.Keeping.{Stays, Tells, len_with, TellsAll, kept_at, lists_of, lists_then};
+ghost use Rattle.clos_precedence.specs.PrecedenceView.{numbers};
+ghost use Rattle.clos_class.specs.inner.Keeping.{Tells, kept_at, len_with, list_then, lists_of, put_each, with_place};
 ghost use Rattle.clos_class.specs.SlotsView.{defaults, direct_slots};
 ghost use Rattle.clos_class.specs.Table.{with_row};
 
@@ -9,27 +10,9 @@ use crate::direct::ClassSlots;
 use crate::effective::{Effective, find_effective};
 use crate::rows::Rows;
 use clos_hierarchy::{Hierarchy, Preview};
-use clos_precedence::contains;
 use lisp_data::ClassId;
 use std::alloc::{AllocError, Global};
 use std::rc::Rc;
-
-/// Whether a class has another one in its class precedence list. A new one is in none.
-fn is_below(table: &Hierarchy, class: ClassId, above: ClassId) -> bool
-    ensures { result ≡ has (lists_of table.now.classes class.0) above.0 }
-{
-    match table.precedence(class) {
-        None => false,
-        Some(list) => table.name(above).is_some() && contains(list, above),
-    }
-}
-
-/// Whether a class has another class precedence list then, or the one that is defined in its list.
-fn is_touched(table: &Hierarchy, preview: &Preview, class: ClassId) -> bool
-    ensures { result ≡ (has preview.now.changed class.0 || has (lists_of table.now.classes class.0) preview.now.class) }
-{
-    contains(preview.changed(), class) || is_below(table, class, preview.class())
-}
 
 /// What is kept of the class at this place.
 pub fn kept_at(kept: &[Option<Rc<Effective>>], place: usize) -> Option<&Rc<Effective>>
@@ -41,66 +24,75 @@ pub fn kept_at(kept: &[Option<Rc<Effective>>], place: usize) -> Option<&Rc<Effec
     }
 }
 
-/// What is to be kept of the class at this place after one was defined.
-fn keep_at(
-    alloc: Global,
-    table: &Hierarchy,
-    rows: &[ClassSlots],
-    kept: &[Option<Rc<Effective>>],
-    preview: &Preview,
-    said: &ClassSlots,
-    place: usize,
-) -> Result<Option<Rc<Effective>>, AllocError>
-    requires kept { TellsAll rows.now (lists_of table.now.classes) kept.now }
-    requires stays { Stays table.now.classes preview.now place }
-    requires known { preview.now.class ≤ length rows.now }
-    ensures { IfOk result (λ r. Tells (direct_slots (with_row rows.now preview.now.class said.now)) (defaults (with_row rows.now preview.now.class said.now)) (lists_then preview.now place) r) }
-{
-    let class = ClassId(place as u64);
-    if is_touched(table, preview, class) {
-        let classes = Rows::with(rows, preview.class(), said);
-        let found = find_effective(alloc, &classes, preview.precedence_or_none(class))?;
-        return Ok(found);
-    }
-    match kept_at(kept, place) {
-        None => Ok(None),
-        Some(effective) => Ok(Some(effective.clone()?)),
-    }
-}
-
-/// How many classes there are with this one.
-fn len_with(rows: &[ClassSlots], class: ClassId) -> usize
-    ensures { result ≡ len_with (length rows.now) class.0 }
-{
-    if class.0 < rows.len() as u64 {
-        return rows.len();
-    }
-    rows.len() + 1
-}
-
-/// What is to be kept of all classes after one was defined, which says this of slots.
+/// What is to be kept of the classes that a definition touches, which says this of slots.
 pub fn keep_then(
     alloc: Global,
-    table: &Hierarchy,
     rows: &[ClassSlots],
-    kept: &[Option<Rc<Effective>>],
     preview: &Preview,
     said: &ClassSlots,
 ) -> Result<Vec<Option<Rc<Effective>>>, AllocError>
-    requires kept { TellsAll rows.now (lists_of table.now.classes) kept.now }
-    requires stay { (n : ℕ) → n < len_with (length rows.now) preview.now.class → Stays table.now.classes preview.now n }
-    requires known { preview.now.class ≤ length rows.now }
-    ensures each { IfOk result (λ r. (n : ℕ) → n < len_with (length rows.now) preview.now.class → Tells (direct_slots (with_row rows.now preview.now.class said.now)) (defaults (with_row rows.now preview.now.class said.now)) (lists_then preview.now n) (kept_at r.items n)) }
-    ensures len { IfOk result (λ r. length r.items ≡ len_with (length rows.now) preview.now.class) }
+    requires { preview.now.class ≤ length rows.now }
+    ensures each { IfOk result (λ r. (n : ℕ) → n < length preview.now.touched → Tells (direct_slots (with_row rows.now preview.now.class said.now)) (defaults (with_row rows.now preview.now.class said.now)) (list_then preview.now n) (kept_at r.items n)) }
+    ensures len { IfOk result (λ r. length r.items ≡ length preview.now.touched) }
 {
-    let len = len_with(rows, preview.class());
+    let classes = Rows::with(rows, preview.class(), said);
     let mut then = Vec::new(alloc);
     let mut place = 0;
-    while place < len {
-        then.push(keep_at(alloc, table, rows, kept, preview, said, place)?)?;
+    while place < preview.touched().len() {
+        then.push(find_effective(alloc, &classes, preview.list_at(place))?)?;
         place += 1;
     }
     Ok(then)
+}
+
+/// Has a place for this class, which is the last where it is new.
+fn reach(kept: &mut Vec<Option<Rc<Effective>>>, class: ClassId)
+    requires { vec_len kept.old < vec_capacity kept.old }
+    ensures { kept.new.items ≡ with_place kept.old.items class.0 }
+{
+    if class.0 < kept.len() as u64 {
+        return;
+    }
+    let Ok(()) = kept.push(None) else {
+        unreachable!()
+    };
+}
+
+/// Keeps these in the places of classes.
+fn put_each(
+    kept: &mut Vec<Option<Rc<Effective>>>,
+    places: &[ClassId],
+    found: Vec<Option<Rc<Effective>>>,
+)
+    requires within { (n : ℕ) → has (numbers places.now) n ≡ true → n < length kept.old.items }
+    requires each { length found.items ≡ length places.now }
+    ensures { kept.new.items ≡ put_each (numbers places.now) found.items kept.old.items }
+{
+    let mut found = found;
+    let mut left = places;
+    while let Some((class, others)) = left.split_last() {
+        let Some(last) = found.pop() else {
+            unreachable!()
+        };
+        kept[class.0 as usize] = last;
+        left = others;
+    }
+}
+
+/// Keeps what the classes have that a definition of this one touches.
+pub fn keep(
+    kept: &mut Vec<Option<Rc<Effective>>>,
+    class: ClassId,
+    touched: &[ClassId],
+    found: Vec<Option<Rc<Effective>>>,
+)
+    requires room { vec_len kept.old < vec_capacity kept.old }
+    requires within { (n : ℕ) → has (numbers touched.now) n ≡ true → n < len_with (length kept.old.items) class.0 }
+    requires each { length found.items ≡ length touched.now }
+    ensures { kept.new.items ≡ put_each (numbers touched.now) found.items (with_place kept.old.items class.0) }
+{
+    reach(kept, class);
+    put_each(kept, touched, found);
 }
 
 /// What is kept of all classes from the start.

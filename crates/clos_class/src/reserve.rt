@@ -1,14 +1,13 @@
 //! What a definition of a class needs, and what it makes of the classes, before it takes effect.
-ghost use Rattle.std.specs.Prelude.{◌≡◌, ◌≤◌, ℕ, None, IfOk, IfErr, OnOk, length, map};
+ghost use Rattle.std.specs.Prelude.{◌≡◌, ◌≤◌, ℕ, None, true, IfOk, IfErr, OnOk, length, map};
 ghost use Rattle.lisp_data.specs.declared.ids.CellId.{CellId};
 ghost use Rattle.clos_hierarchy.specs.Classes.{listing};
-ghost use Rattle.clos_hierarchy.specs.Outlook.{listing_then};
+ghost use Rattle.clos_precedence.specs.Precedence.{has};
 ghost use Rattle.clos_precedence.specs.PrecedenceView.{numbers};
-ghost use Rattle.clos_hierarchy.specs.Table.{changed};
 ghost use Rattle.clos_hierarchy.specs.TableView.{Refuses};
-ghost use Rattle.clos_class.specs.inner.Keeping.{TellsAll, lists_of};
+ghost use Rattle.clos_class.specs.inner.Keeping.{TellsEach, Touches, lists_of};
 ghost use Rattle.clos_class.specs.Slots.{initform};
-ghost use Rattle.clos_class.specs.SlotsView.{slots_in};
+ghost use Rattle.clos_class.specs.SlotsView.{defaults, direct_slots, slots_in};
 ghost use Rattle.clos_class.specs.Table.{cells_from, cells_to_make, classes_with, list_with, number, refusal, said_from, with_row};
 
 use crate::cells::Cells;
@@ -40,7 +39,7 @@ pub struct Reserved {
     pub cells: Sequence<NewCell>,
 }
 
-/// The fault that a definition meets, or what there would be to say of all classes after it.
+/// The fault that a definition meets, or what there would be to say after it of the classes that it touches.
 pub fn check(
     alloc: Global,
     table: &mut Hierarchy,
@@ -48,8 +47,9 @@ pub fn check(
 ) -> Result<Preview, ClassFault>
     ensures ok { OnOk result (refusal table.old definition.now ≡ None) }
     ensures class { IfOk result (λ r. r.class ≡ number table.old definition.now) }
-    ensures lists { IfOk result (λ r. (n : ℕ) → listing_then r n ≡ listing (classes_with table.old definition.now) n) }
-    ensures changed { IfOk result (λ r. r.changed ≡ changed table.old.classes (classes_with table.old definition.now)) }
+    ensures own { IfOk result (λ r. has r.touched r.class ≡ true) }
+    ensures lists { IfOk result (λ r. r.listings ≡ map (λ n. listing (classes_with table.old definition.now) n) r.touched) }
+    ensures touches { IfOk result (λ r. Touches table.old.classes (classes_with table.old definition.now) r.class r.touched) }
     ensures fault { IfErr result (λ e. Refuses e (refusal table.old definition.now)) }
     ensures same { table.new ≡ table.old }
 {
@@ -137,9 +137,11 @@ fn find_said(
     Ok(said)
 }
 
-/// What stands in the table of classes once one is defined: what it says of slots, and what is kept of all.
+/// What stands in the table of classes once one is defined: what it says of slots, and what is kept of the classes that it
+/// touches.
 #[derive(Drop)]
 pub struct Prepared {
+    pub preview: Preview,
     pub said: ClassSlots,
     pub kept: Vec<Option<Rc<Effective>>>,
 }
@@ -150,22 +152,31 @@ pub fn prepare(
     alloc: Global,
     table: &mut Hierarchy,
     rows: &[ClassSlots],
-    kept: &[Option<Rc<Effective>>],
     definition: &ClassDefinition,
     first: CellId,
 ) -> Result<Prepared, ClassFault>
-    requires rows { length rows.now ≡ length table.old.classes.names }
-    requires kept { TellsAll rows.now (lists_of table.old.classes) kept.now }
+    requires { length rows.now ≡ length table.old.classes.names }
     ensures ok { OnOk result (refusal table.old definition.now ≡ None) }
+    ensures class { IfOk result (λ r. r.preview.class ≡ number table.old definition.now) }
     ensures said { IfOk result (λ r. r.said ≡ said_from rows.now (number table.old definition.now) (list_with table.old definition.now) definition.now first.0) }
-    ensures kept { IfOk result (λ r. TellsAll (with_row rows.now (number table.old definition.now) r.said) (lists_of (classes_with table.old definition.now)) r.kept.items) }
+    ensures touches { IfOk result (λ r. Touches table.old.classes (classes_with table.old definition.now) r.preview.class r.preview.touched) }
+    ensures kept { IfOk result (λ r. TellsEach (direct_slots (with_row rows.now r.preview.class r.said)) (defaults (with_row rows.now r.preview.class r.said)) (lists_of (classes_with table.old definition.now)) r.preview.touched r.kept.items) }
     ensures fault { IfErr result (λ e. Refuses e (refusal table.old definition.now)) }
     ensures same { table.new ≡ table.old }
 {
     let preview = check(alloc, table, definition)?;
-    let class = preview.class();
-    let list = preview.precedence_or_none(class);
-    let said = find_said(alloc, rows, class, list, definition, first)?;
-    let kept = keep_then(alloc, table, rows, kept, &preview, &said)?;
-    Ok(Prepared { said, kept })
+    let said = find_said(
+        alloc,
+        rows,
+        preview.class(),
+        preview.list(),
+        definition,
+        first,
+    )?;
+    let kept = keep_then(alloc, rows, &preview, &said)?;
+    Ok(Prepared {
+        preview,
+        said,
+        kept,
+    })
 }

@@ -15,10 +15,10 @@ use crate::definition::has_shared_slots;
 use crate::direct::ClassSlots;
 use crate::effective::Effective;
 use crate::effective_slots::EffectiveSlot;
-use crate::keep::{keep_first, kept_at};
+use crate::keep::{keep, keep_first, kept_at};
 use crate::layout::Layout;
 use crate::names::{copy_names, is_among};
-use crate::reserve::{Reserved, cells_to_make, check, prepare};
+use crate::reserve::{Prepared, Reserved, cells_to_make, check, prepare};
 use clos_forms::Form;
 use clos_hierarchy::{Changed, ClassFault, Hierarchy};
 use clos_syntax::{ClassDefinition, DefaultInitarg};
@@ -49,7 +49,7 @@ impl Model for Classes {
 
     ghost view = { λ a. record { table = a.table; slots = a.rows.items } };
 
-    ghost invariant = { λ a. (length a.rows.items ≡ length a.table.classes.names) × TellsAll a.rows.items (lists_of a.table.classes) a.kept.items };
+    ghost invariant = { λ a. (length a.rows.items ≡ length a.table.classes.names) × (length a.kept.items ≡ length a.table.classes.names) × TellsAll a.rows.items (lists_of a.table.classes) a.kept.items };
 }
 
 /// Nothing, of each class.
@@ -123,7 +123,7 @@ impl Classes {
     {
         let preview = check(alloc, &mut self.table, definition)?;
         let class = preview.class();
-        let list = preview.precedence_or_none(class);
+        let list = preview.list();
         let cells = cells_to_make(alloc, &self.rows, class, list, definition)?;
         Ok(Reserved { class, cells })
     }
@@ -142,18 +142,16 @@ impl Classes {
         ensures err { OnErr result (self.new ≡ self.old) }
         ensures fault { IfErr result (λ e. Refuses e (refusal self.old.table definition.now)) }
     {
-        let prepared = prepare(
-            alloc,
-            &mut self.table,
-            &self.rows,
-            &self.kept,
-            definition,
-            first,
-        )?;
+        let Prepared {
+            preview,
+            said,
+            kept,
+        } = prepare(alloc, &mut self.table, &self.rows, definition, first)?;
         self.rows.reserve(1)?;
+        self.kept.reserve(1)?;
         let changed = define_name(alloc, &mut self.table, definition)?;
-        put(&mut self.rows, changed.class, prepared.said);
-        self.kept = prepared.kept;
+        put(&mut self.rows, changed.class, said);
+        keep(&mut self.kept, changed.class, preview.touched(), kept);
         Ok(changed)
     }
 

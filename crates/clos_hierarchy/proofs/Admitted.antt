@@ -1,6 +1,6 @@
 -- A class that is defined among the others.
 use Rattle.std.proofs.Common.{◌≡◌, ℕ, Bool, true, false, List, [], ◌∷◌, ◌++◌, Option, None, inl, inr, length, ◌+◌, ◌<◌, arith, refl, sym, subst, ap, ◌∙◌}
-use Rattle.std.specs.Prelude.{not, ◌||◌, Result, Ok, Err, IfErr, IfOk}
+use Rattle.std.specs.Prelude.{not, ◌||◌}
 use Rattle.std.specs.List.{list_any}
 use Rattle.lisp_data.specs.Name.{Name, same_name}
 use Rattle.clos_hierarchy.specs.Classes.{Classes, number_of, with_class, is_lacking, listing}
@@ -74,13 +74,3 @@ found_wrong_own cs to ks n own name above shared whole P o l e h g p k =
 
 pub with_own : (cs to : Classes) (own name : Name) (above : List Name) → own ≡ name → to ≡ with_class cs own above → to ≡ with_class cs name above
 with_own cs to own name above o e = subst (λ v. to ≡ with_class cs v above) o e
-
--- ---- what is answered
-
-pub if_ok : (A E : Type 0) (P Q : A → Type 0) (r : Result A E) → ((a : A) → P a → Q a) → IfOk r P → IfOk r Q
-if_ok A E P Q (Ok a) f h = f a h
-if_ok A E P Q (Err e) f h = h
-
-pub if_err : (A E : Type 0) (P Q : E → Type 0) (r : Result A E) → ((e : E) → P e → Q e) → IfErr r P → IfErr r Q
-if_err A E P Q (Ok a) f h = h
-if_err A E P Q (Err e) f h = f e h
