@@ -2,7 +2,7 @@
 ghost use Rattle.std.specs.Prelude.{◌≡◌, ◌||◌, ℕ, IfOk, OnOk};
 ghost use Rattle.clos_precedence.specs.Precedence.{has};
 ghost use Rattle.clos_precedence.specs.PrecedenceView.{numbers};
-ghost use Rattle.clos_hierarchy.specs.inner.Touched.{Ascends, have_it, is_touched};
+ghost use Rattle.clos_hierarchy.specs.inner.Touched.{Ascends, begins_with, have_it, is_touched};
 
 use crate::below::Below;
 use crate::find::list_of;
@@ -10,16 +10,14 @@ use crate::kept::Kept;
 use clos_precedence::contains;
 use lisp_data::ClassId;
 use std::alloc::{AllocError, Global};
-use std::collections::BTreeSet;
 
 /// Adds these classes.
-fn add_all(places: &mut BTreeSet<u64>, classes: &[ClassId]) -> Result<(), AllocError>
-    ensures members { OnOk result ((n : ℕ) → has places.new.keys n ≡ (has places.old.keys n || has (numbers classes.now) n)) }
-    ensures ordered { OnOk result (Ascends places.old.keys → Ascends places.new.keys) }
+fn add_all(places: &mut Vec<u64>, classes: &[ClassId]) -> Result<(), AllocError>
+    ensures { OnOk result ((n : ℕ) → has places.new.items n ≡ (has places.old.items n || has (numbers classes.now) n)) }
 {
     let mut left = classes;
     while let Some((class, others)) = left.split_first() {
-        places.insert(class.0)?;
+        places.push(class.0)?;
         left = others;
     }
     Ok(())
@@ -27,30 +25,45 @@ fn add_all(places: &mut BTreeSet<u64>, classes: &[ClassId]) -> Result<(), AllocE
 
 /// Adds those of these that have a class in their lists.
 fn add_below(
-    places: &mut BTreeSet<u64>,
+    places: &mut Vec<u64>,
     kept: &[Kept],
     class: ClassId,
     noted: &[u64],
 ) -> Result<(), AllocError>
-    ensures members { OnOk result ((n : ℕ) → has places.new.keys n ≡ (has places.old.keys n || have_it kept.now class.0 noted.now n)) }
-    ensures ordered { OnOk result (Ascends places.old.keys → Ascends places.new.keys) }
+    ensures { OnOk result ((n : ℕ) → has places.new.items n ≡ (has places.old.items n || have_it kept.now class.0 noted.now n)) }
 {
     let mut left = noted;
     while let Some((number, others)) = left.split_first() {
         if contains(list_of(kept, ClassId(*number)), class) {
-            places.insert(*number)?;
+            places.push(*number)?;
         }
         left = others;
     }
     Ok(())
 }
 
-fn in_order(alloc: Global, mut places: BTreeSet<u64>) -> Result<Vec<ClassId>, AllocError>
-    ensures { IfOk result (λ r. numbers r.items ≡ places.keys) }
+fn begins_with(numbers: &[u64], number: u64) -> bool
+    ensures { result ≡ begins_with numbers.now number }
 {
+    match numbers.first() {
+        Some(first) => *first == number,
+        None => false,
+    }
+}
+
+/// Each of these once, in the order of their numbers.
+fn in_order(alloc: Global, mut places: Vec<u64>) -> Result<Vec<ClassId>, AllocError>
+    ensures members { IfOk result (λ r. (n : ℕ) → has (numbers r.items) n ≡ has places.items n) }
+    ensures ordered { IfOk result (λ r. Ascends (numbers r.items)) }
+{
+    places.sort()?;
     let mut classes = Vec::new(alloc);
-    while let Some(number) = places.pop_first() {
-        classes.push(ClassId(number))?;
+    let mut left = places.as_slice();
+    while let Some((number, others)) = left.split_first() {
+        if !begins_with(others, *number) {
+            classes.push(ClassId(*number))?;
+        }
+        left = others;
     }
     Ok(classes)
 }
@@ -66,8 +79,8 @@ pub fn touched(
     ensures members { IfOk result (λ r. (n : ℕ) → has (numbers r.items) n ≡ is_touched kept.now (numbers waiting.now) below.now class.0 n) }
     ensures ordered { IfOk result (λ r. Ascends (numbers r.items)) }
 {
-    let mut places = BTreeSet::new(alloc);
-    places.insert(class.0)?;
+    let mut places = Vec::new(alloc);
+    places.push(class.0)?;
     add_all(&mut places, waiting)?;
     add_below(&mut places, kept, class, below.of(class))?;
     let touched = in_order(alloc, places)?;

@@ -14,6 +14,11 @@ abbrev pub Ascends : List ℕ → Type 0
 Ascends [] = Unit {0}
 Ascends (x ∷ xs) = ((y : ℕ) → has xs y ≡ true → x < y) × Ascends xs
 
+-- whether this is the first of these
+abbrev pub begins_with : List ℕ → ℕ → Bool
+begins_with [] n = false
+begins_with (x ∷ xs) n = x == n
+
 -- those among these that have the class c in their lists
 abbrev pub have_it : List Kept → ℕ → List ℕ → ℕ → Bool
 have_it ks c ns n = has ns n && has (list_in (listing_at ks n)) c

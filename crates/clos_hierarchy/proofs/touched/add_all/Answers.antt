@@ -6,5 +6,5 @@ use Rattle.clos_hierarchy.proofs.touched.add_all.Goals as goal
 
 pub loop-class-preserved : goal.loop-class-preserved
 loop-class-preserved c =
-    merges_next c.args.places.now.keys c.loop-class.places.keys c.insert.new.self.keys (has (numbers c.args.classes.now)) (has (numbers c.loop-class.left.now)) (has (numbers c.in-Some.others.now))
-    c.in-Some.class.now.0 c.loop-class.invariant c.in_ok-insert.ensures.keys (λ n. ap (λ cs. has (numbers cs) n) (sym c.in-Some.ensures.cases.0))
+    merges_next c.args.places.now.items c.loop-class.places.items c.push.new.self.items (has (numbers c.args.classes.now)) (has (numbers c.loop-class.left.now)) (has (numbers c.in-Some.others.now))
+    c.in-Some.class.now.0 c.loop-class.invariant c.in_ok-push.ensures.items (λ n. ap (λ cs. has (numbers cs) n) (sym c.in-Some.ensures.cases.0))

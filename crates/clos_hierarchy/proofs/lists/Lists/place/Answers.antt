@@ -14,11 +14,11 @@ use Rattle.clos_hierarchy.proofs.lists.Lists.place.Goals as goal
 pub invariant_of-self-in-Ok-1 : goal.invariant_of-self-in-Ok-1
 invariant_of-self-in-Ok-1 c = (
   waiting_then (numbers c.self.inside.waiting.items) (numbers c.in-Ok.field-0.waiting.items) (numbers c.in_ok-replaced.replaced.places.items) c.args.class.0 c.in_ok-replaced.replaced.olds.items c.self.inside.kept.items c.place.new.kept.items
-  (subst (λ v. Replaces (numbers v) (numbers c.in_ok-replaced.replaced.places.items) c.args.class.0 c.in_ok-replaced.replaced.olds.items c.self.inside.kept.items c.place.new.kept.items) c.as_slice.ensures.value c.in_ok-replaced.ensures.replaced) c.self.invariant.0
-  (c.in-Ok.ensures.waiting ∙ ap (λ v. filter (λ n. is_unlisted (listing_at v n)) (numbers c.as_slice-2.result.now)) c.as_slice-4.ensures.value
-  ∙ ap (λ v. filter (λ n. is_unlisted (listing_at c.place.new.kept.items n)) (numbers v)) c.as_slice-2.ensures.value),
+      (subst (λ v. Replaces (numbers v) (numbers c.in_ok-replaced.replaced.places.items) c.args.class.0 c.in_ok-replaced.replaced.olds.items c.self.inside.kept.items c.place.new.kept.items) c.as_slice.ensures.value c.in_ok-replaced.ensures.replaced) c.self.invariant.0
+      (c.in-Ok.ensures.waiting ∙ ap (λ v. filter (λ n. is_unlisted (listing_at v n)) (numbers c.as_slice-2.result.now)) c.as_slice-4.ensures.value
+      ∙ ap (λ v. filter (λ n. is_unlisted (listing_at c.place.new.kept.items n)) (numbers v)) c.as_slice-2.ensures.value),
   noted_now c.self.inside.below c.settle.new.below c.self.inside.kept.items c.place.new.kept.items (numbers c.in_ok-replaced.replaced.places.items) c.self.invariant.1 c.settle.ensures.grows c.in_ok-replaced.ensures.replaced.others
-  (λ n m h g. c.in-Ok.ensures.noted n m (subst (λ v. has (numbers v) n ≡ true) (sym c.as_slice-2.ensures.value) h) (subst (λ v. has (list_in (listing_at v n)) m ≡ true) (sym c.as_slice-4.ensures.value) g)),
+      (λ n m h g. c.in-Ok.ensures.noted n m (subst (λ v. has (numbers v) n ≡ true) (sym c.as_slice-2.ensures.value) h) (subst (λ v. has (list_in (listing_at v n)) m ≡ true) (sym c.as_slice-4.ensures.value) g)),
 )
 
 pub invariant_of-self-in-Err : goal.invariant_of-self-in-Err

@@ -16,7 +16,7 @@ pub loop-place-preserved : goal.loop-place-preserved
 loop-place-preserved c =
     let l : c.loop-place.place < length c.self.inside.touched.items = omega (arith, c.loop-place-test.true, c.len.ensures) in (
       ap (λ o. listing_among (drop (c.loop-place.place + 1) o.touched) (drop (c.loop-place.place + 1) c.args.self.now.listings) c.args.self.now.class) (sym c.self.view_is)
-      ∙ among_on c.self.inside.touched.items c.args.self.now.listings c.loop-place.place c.args.self.now.class c.index.result.now l (λ e. c.if-index-self.false (ap (λ x. x.0) c.index.ensures ∙ e ∙ sym (ap (λ o. o.class) c.self.view_is)))
-      ∙ ap (λ o. listing_among (drop c.loop-place.place o.touched) (drop c.loop-place.place c.args.self.now.listings) c.args.self.now.class) c.self.view_is ∙ c.loop-place.invariant.0,
+          ∙ among_on c.self.inside.touched.items c.args.self.now.listings c.loop-place.place c.args.self.now.class c.index.result.now l (λ e. c.if-index-self.false (ap (λ x. x.0) c.index.ensures ∙ e ∙ sym (ap (λ o. o.class) c.self.view_is)))
+          ∙ ap (λ o. listing_among (drop c.loop-place.place o.touched) (drop c.loop-place.place c.args.self.now.listings) c.args.self.now.class) c.self.view_is ∙ c.loop-place.invariant.0,
       omega (arith, l),
     )
