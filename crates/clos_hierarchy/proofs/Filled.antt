@@ -100,14 +100,12 @@ goes_on b c r cs old mid new all left rest x g f o l h e = (
   λ n i. g.1 n (l n ∙ or_right (x == n) (has rest n) i),
 )
 
-pub knows_end : (b c : Bool) (cs : Classes) (first old mid new : List Kept) (all : List ℕ) → b ≡ false → c ≡ false → (Progress cs first → Progress cs old) → Adds first old → OthersStay all first old
-    → Filled b cs old mid (AllEnd cs old all) → Filled c cs mid new (AllEnd cs mid all) → Progress cs first → WaitWithin all first → Knows cs new
-knows_end true c cs first old mid new all h i p a o f g q w = absurd (true≢false h)
-knows_end false true cs first old mid new all h i p a o f g q w = absurd (true≢false i)
-knows_end false false cs first old mid new all h i p a o f g q w =
-    let e : new ≡ old = g.0 ∙ f.0 in
+pub knows_end : (b : Bool) (cs : Classes) (first old new : List Kept) (all : List ℕ) → b ≡ false → (Progress cs first → Progress cs old) → Adds first old → OthersStay all first old → Filled b cs old new (AllEnd cs old all)
+    → Progress cs first → WaitWithin all first → Knows cs new
+knows_end true cs first old new all h p a o f q w = absurd (true≢false h)
+knows_end false cs first old new all h p a o f q w =
     let r : Progress cs old = p q in
-    subst (Knows cs) (sym e) (knows_then cs old all r (f.1 r.keeps) (wait_then all first old o.0 a w))
+    subst (Knows cs) (sym f.0) (knows_then cs old all r (f.1 r.keeps) (wait_then all first old o.0 a w))
   where
     lacks : (a b : Listing) → More a b → is_lacking b ≡ true → is_lacking a ≡ true
     lacks a b (inl e) h = ap is_lacking e

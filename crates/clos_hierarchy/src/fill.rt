@@ -102,10 +102,9 @@ pub fn fill(
     ensures others { OthersStay (numbers places.now) kept.old.items kept.new.items }
 {
     loop {
-        let forward = fill_forward(alloc, definitions, kept, places)?;
-        let backward = fill_backward(alloc, definitions, kept, places)?;
-        if !forward && !backward {
+        if !fill_forward(alloc, definitions, kept, places)? {
             return Ok(());
         }
+        fill_backward(alloc, definitions, kept, places)?;
     }
 }
