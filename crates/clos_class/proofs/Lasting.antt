@@ -1,22 +1,14 @@
 -- What is kept of all classes.
-use Rattle.std.proofs.Common.{◌≡◌, ℕ, zero, suc, ◌==◌, ◌+◌, Bool, true, false, List, [], ◌∷◌, ◌++◌, Some, None, length, length-append, ◌<◌, ◌≤◌, arith, refl, ap, sym, subst, ◌∙◌}
+use Rattle.std.proofs.Common.{◌≡◌, ℕ, zero, suc, ◌==◌, ◌+◌, Bool, true, false, List, [], ◌∷◌, ◌++◌, None, length, length-append, ◌<◌, ◌≤◌, arith, refl, ap, sym, subst, ◌∙◌}
 use Rattle.std.specs.Prelude.{nat_lt, unwrap_or}
-use Rattle.std.specs.declared.alloc.Global.{Global}
-use Rattle.std.specs.declared.rc.Rc.{Rc}
 use Rattle.std.proofs.lemmas.Bool.{eqb-true, eqb-false, le-ltb, ltb-false, ltb-true}
 use Rattle.std.proofs.lemmas.Option.{slice_get_past}
 use Rattle.clos_hierarchy.specs.Classes.{Classes, lacking, list_in, listing_within}
 use Rattle.clos_class.specs.declared.direct.ClassSlots.{ClassSlots}
 use Rattle.clos_class.specs.inner.Keeping.{Kept, Tells, TellsAll, kept_at, lists_of}
-use Rattle.clos_class.specs.Slots.{Defaults, DirectSlots, Effective}
+use Rattle.clos_class.specs.Slots.{Defaults, DirectSlots}
 use Rattle.clos_class.specs.SlotsView.{defaults, direct_slots}
 use Rattle.clos_class.proofs.Rowed.{end_here, end_other}
-
--- what is told by what is shared is told by a copy
-pub copied : (of : DirectSlots) (ds : Defaults) (l : List ℕ) (e f : Rc Effective Global) → f.value ≡ e.value → Tells of ds l (Some e) → Tells of ds l (Some f)
-copied of ds l e f h t = record {
-  kept = ap Some h ∙ t.kept;
-}
 
 at_end : (T : ℕ → Kept → Type 0) (ks : List Kept) (k : Kept) (n : ℕ) (b : Bool) → (n == length ks) ≡ b → n < length ks + 1 → ((m : ℕ) → m < length ks → T m (kept_at ks m)) → T (length ks) k → T n (kept_at (ks ++ k ∷ []) n)
 at_end T ks k n true e h f t =

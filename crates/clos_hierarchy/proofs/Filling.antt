@@ -1,7 +1,7 @@
 -- One more class of which something is found.
 use Rattle.std.proofs.Common.{◌≡◌, ℕ, zero, suc, ◌==◌, ◌+◌, Bool, true, false, List, [], ◌∷◌, inl, inr, length, ◌<◌, ◌≤◌, arith, refl, sym, subst, ap, ◌∙◌}
-use Rattle.std.specs.Prelude.{◌||◌, ◌⊎◌, nat_lt, slice_set, if◌then◌else◌}
-use Rattle.std.proofs.lemmas.Bool.{eqb-true, eqb-false, ltb-true}
+use Rattle.std.specs.Prelude.{◌⊎◌, nat_lt, slice_set, if◌then◌else◌}
+use Rattle.std.proofs.lemmas.Bool.{eqb-true, ltb-true}
 use Rattle.clos_precedence.specs.Precedence.{has, IsPrecedenceList}
 use Rattle.clos_hierarchy.specs.Classes.{Classes, Listing, lacking, broken, listed, found, superclasses, is_lacking}
 use Rattle.clos_hierarchy.specs.declared.kept.Kept.{Kept}
@@ -173,51 +173,3 @@ found_lacks a b e h = let p : a ≡ lacking = it_lacks a h in cc
 
 pub nothing_found : (cs : Classes) (ks : List Kept) (m : ℕ) (v : Kept) → (Keeps cs ks → listing_of v ≡ found cs (listing_at ks) m) → is_lacking (listing_of v) ≡ true → Keeps cs ks → Ends cs ks m
 nothing_found cs ks m v r h k e = found_lacks (listing_of v) (found cs (listing_at ks) m) (r k) h
-
--- ---- one place after another
-
-abbrev pub EndBelow : Classes → List Kept → ℕ → Type 0
-EndBelow cs ks place = (n : ℕ) → n < place → Ends cs ks n
-
--- after one more place it is still known of the first that nothing more is found of it, where nothing was found
-pub filled_also : (cs : Classes) (old mid new : List Kept) (b c : Bool) (E F : Type 0) → Filled b cs old mid E → Filled c cs mid new F → Filled (b || c) cs old new E
-filled_also cs old mid new true true E F f g =
-    let p : lacking_in mid < lacking_in old = f.0 in
-    let q : lacking_in new < lacking_in mid = g.0 in (omega (arith, p, q), g.1 ∙ f.1, (λ k. g.2 (f.2 k)), adds_through old mid new f.3 g.3)
-filled_also cs old mid new true false E F f g = subst (λ v. Filled true cs old v E) (sym g.0) f
-filled_also cs old mid new false true E F f g = let e : mid ≡ old = f.0 in subst (λ v. Filled true cs v new E) e g
-filled_also cs old mid new false false E F f g = (g.0 ∙ f.0, f.1)
-
-pub fill_none : (cs : Classes) (ks : List Kept) → Filled false cs ks ks (EndBelow cs ks 0)
-fill_none cs ks = (refl, λ k n h. absurd (omega (arith, h)))
-
-below_next : (cs : Classes) (ks : List Kept) (place n : ℕ) (b : Bool) → (place == n) ≡ b → n < suc place → EndBelow cs ks place → Ends cs ks place → Ends cs ks n
-below_next cs ks place n true e h r s = subst (λ v. Ends cs ks v) (eqb-true place n e) s
-below_next cs ks place n false e h r s = r n (omega (arith, h, eqb-false place n e))
-
-abbrev pub NextFilled : Bool → Classes → List Kept → List Kept → ℕ → Type 0
-NextFilled b cs old new place = Filled b cs old new (EndBelow cs old (place + 1)) × (length new ≡ length old)
-
-next_filled : (cs : Classes) (old mid new : List Kept) (b c : Bool) (place : ℕ) → Filled b cs old mid (EndBelow cs old place) → length mid ≡ length old → Filled c cs mid new (Ends cs mid place)
-    → NextFilled (b || c) cs old new place
-next_filled cs old mid new true true place f l g =
-    let p : lacking_in mid < lacking_in old = f.0 in
-    let q : lacking_in new < lacking_in mid = g.0 in ((omega (arith, p, q), g.1 ∙ l, (λ k. g.2 (f.2 k)), λ n. more_through (listing_at old n) (listing_at mid n) (listing_at new n) (f.3 n) (g.3 n)), g.1 ∙ l)
-next_filled cs old mid new true false place f l g = subst (λ v. NextFilled true cs old v place) (sym g.0) (f, l)
-next_filled cs old mid new false true place f l g =
-    let e : mid ≡ old = f.0 in (subst (λ v. Filled true cs v new (EndBelow cs old (place + 1))) e g, g.1 ∙ l)
-next_filled cs old mid new false false place f l g =
-    ((g.0 ∙ f.0, λ k n h. below_next cs old place n (place == n) refl (omega (arith, h)) (f.1 k) (subst (λ v. Ends cs v place) f.0 (g.1 (subst (λ v. Keeps cs v) (sym f.0) k)))), ap length g.0 ∙ l)
-
-pub fill_next : (cs : Classes) (old mid new : List Kept) (b c : Bool) (place : ℕ) → Filled b cs old mid (EndBelow cs old place) × (length mid ≡ length old) → Filled c cs mid new (Ends cs mid place)
-    → NextFilled (b || c) cs old new place
-fill_next cs old mid new b c place f g = next_filled cs old mid new b c place f.0 f.1 g
-
-pub fill_end : (cs : Classes) (old new : List Kept) (b : Bool) (place : ℕ) → Filled b cs old new (EndBelow cs old place) → length old ≤ place → Filled b cs old new (EndBelow cs old (length old))
-fill_end cs old new true place f h = f
-fill_end cs old new false place f h = (f.0, λ k n i. f.1 k n (omega (arith, h, i)))
-
-pub knows_all : (cs : Classes) (old new : List Kept) (b : Bool) → b ≡ false → Progress cs old → Filled b cs old new (EndBelow cs old (length old)) → Knows cs new
-knows_all cs old new true h p f = cc
-knows_all cs old new false h p f =
-    subst (λ v. Knows cs v) (sym f.0) (knows cs old p (λ k i. f.1 p.keeps k (let e : length old ≡ length cs.names = p.length in omega (arith, i, e))))
