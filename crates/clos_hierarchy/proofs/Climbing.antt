@@ -31,7 +31,7 @@ pub record Climbs (cs : Classes) (n : ℕ) (all : List ℕ) (place : ℕ) : Type
 
 -- ---- those that are met
 
-later : (s xs : List ℕ) (x : ℕ) → has s x ≡ true → has (with_all_seen s xs) x ≡ true
+pub later : (s xs : List ℕ) (x : ℕ) → has s x ≡ true → has (with_all_seen s xs) x ≡ true
 later s xs x h = seen_all s xs x ∙ or_left (has s x) (has xs x) h
 
 among : (s xs : List ℕ) (x : ℕ) → has xs x ≡ true → has (with_all_seen s xs) x ≡ true
@@ -41,7 +41,7 @@ once_by : (s : List ℕ) (x : ℕ) (b : Bool) → has s x ≡ b → Once s → O
 once_by s x true e o = o
 once_by s x false e o = (e, o)
 
-once_all : (s xs : List ℕ) → Once s → Once (with_all_seen s xs)
+pub once_all : (s xs : List ℕ) → Once s → Once (with_all_seen s xs)
 once_all s [] o = o
 once_all s (x ∷ xs) o = once_all (with_seen s x) xs (once_by s x (has s x) refl o)
 
@@ -49,7 +49,7 @@ each_by : (P : ℕ → Type 0) (s xs : List ℕ) (x : ℕ) → ((y : ℕ) → ha
 each_by P s xs x f g (inl h) = f x h
 each_by P s xs x f g (inr h) = g x h
 
-each : (P : ℕ → Type 0) (s xs : List ℕ) → ((y : ℕ) → has s y ≡ true → P y) → ((y : ℕ) → has xs y ≡ true → P y) → (x : ℕ) → has (with_all_seen s xs) x ≡ true → P x
+pub each : (P : ℕ → Type 0) (s xs : List ℕ) → ((y : ℕ) → has s y ≡ true → P y) → ((y : ℕ) → has xs y ≡ true → P y) → (x : ℕ) → has (with_all_seen s xs) x ≡ true → P x
 each P s xs f g x h = each_by P s xs x f g (either (has s x) (has xs x) (sym (seen_all s xs x) ∙ h))
 
 -- ---- the class at a place
@@ -66,7 +66,7 @@ at_earlier : (x : ℕ) (xs : List ℕ) (k : ℕ) → k < length xs → slice_ind
 at_earlier x xs k h =
     ap (λ l. slice_index l k) (turned x xs) ∙ get_or_append_left (reverse xs) (x ∷ []) 0 k (subst (λ n. k < n) (sym (length-reverse xs)) h)
 
-place_by : (k n : ℕ) (b : Bool) → (k == n) ≡ b → k < suc n → (k ≡ n) ⊎ (k < n)
+pub place_by : (k n : ℕ) (b : Bool) → (k == n) ≡ b → k < suc n → (k ≡ n) ⊎ (k < n)
 place_by k n true e h = inl (eqb-true k n e)
 place_by k n false e h = let q : k ≢ n = eqb-false k n e in inr (omega (arith, h, q))
 
@@ -74,19 +74,19 @@ there_by : (x : ℕ) (xs : List ℕ) (k : ℕ) → (k ≡ length xs) ⊎ (k < le
 there_by x xs k (inl e) r = subst (λ v. has (x ∷ xs) v ≡ true) (sym (ap (λ j. slice_index (reverse (x ∷ xs)) j) e ∙ at_last x xs)) (has_first x xs)
 there_by x xs k (inr l) r = subst (λ v. has (x ∷ xs) v ≡ true) (sym (at_earlier x xs k l)) (has_later x (slice_index (reverse xs) k) xs (r l))
 
-is_there : (s : List ℕ) (k : ℕ) → k < length s → has s (slice_index (reverse s) k) ≡ true
+pub is_there : (s : List ℕ) (k : ℕ) → k < length s → has s (slice_index (reverse s) k) ≡ true
 is_there [] k h = absurd (omega (arith, h))
 is_there (x ∷ xs) k h = there_by x xs k (place_by k (length xs) (k == length xs) refl h) (λ l. is_there xs k l)
 
 -- the place of a class
-abbrev Place : List ℕ → ℕ → Type 0
+abbrev pub Place : List ℕ → ℕ → Type 0
 Place s x = (k : ℕ) × (k < length s) × (slice_index (reverse s) k ≡ x)
 
 found_by : (y : ℕ) (s : List ℕ) (x : ℕ) → (y ≡ x) ⊎ (has s x ≡ true) → (has s x ≡ true → Place s x) → Place (y ∷ s) x
 found_by y s x (inl e) r = (length s, omega (arith), at_last y s ∙ e)
 found_by y s x (inr h) r = let p : Place s x = r h in let l : p.0 < length s = p.1 in (p.0, omega (arith, l), at_earlier y s p.0 l ∙ p.2)
 
-found : (s : List ℕ) (x : ℕ) → has s x ≡ true → Place s x
+pub found : (s : List ℕ) (x : ℕ) → has s x ≡ true → Place s x
 found [] x h = nothing h
 found (y ∷ s) x h = found_by y s x (first_or_later y x s h) (λ g. found s x g)
 
@@ -95,7 +95,7 @@ stays_by : (s : List ℕ) (x k : ℕ) (b : Bool) → k < length s → (k < lengt
 stays_by s x k true h = (h, refl)
 stays_by s x k false h = (omega (arith, h), at_earlier x s k h)
 
-stays : (s xs : List ℕ) (k : ℕ) → k < length s → slice_index (reverse (with_all_seen s xs)) k ≡ slice_index (reverse s) k
+pub stays : (s xs : List ℕ) (k : ℕ) → k < length s → slice_index (reverse (with_all_seen s xs)) k ≡ slice_index (reverse s) k
 stays s [] k h = refl
 stays s (x ∷ xs) k h =
     let p : (k < length (with_seen s x)) × (slice_index (reverse (with_seen s x)) k ≡ slice_index (reverse s) k) = stays_by s x k (has s x) h in

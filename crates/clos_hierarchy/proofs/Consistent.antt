@@ -58,6 +58,10 @@ within : (cs : Classes) (n : ℕ) (b : Bool) → nat_lt n (length cs.names) ≡ 
 within cs n true e h = h (ltb-true n (length cs.names) e)
 within cs n false e h = past cs n e
 
+-- where a class is not misplaced, none is without a list
+pub none_broken_placed : (to : Classes) (c : ℕ) (name : Name) (whole : Bool) → misplaced to c name whole ≡ None → (n : ℕ) → is_broken (listing to n) ≡ false
+none_broken_placed to c name whole h n = within to n (nat_lt n (length to.names)) refl (λ l. none_broken to to.names 0 n (placed_well to c name whole h).1 (omega (arith)) (omega (arith, l)))
+
 -- ---- a new circle goes through the class that was defined
 
 named_back : (cs to : Classes) (c : ℕ) (y : Name) (ys : List Name) (x : ℕ) → Changes cs to c → (c == x) ≡ false → (has (option_to_list (named to y)) x ≡ true) ⊎ (has (defined to ys) x ≡ true)
@@ -111,7 +115,7 @@ stays_consistent cs to c name whole g h s =
     let p : (is_circular to c ≡ false) × (broken_from 0 to.names to ≡ None) = placed_well to c name whole h in
     record {
       no_circle = λ m q. round_by cs to c m q.0 (c == m) (has q.0 c) g (not_round to c p.0) (s.no_circle m) q.1 refl refl;
-      no_broken = λ n. within to n (nat_lt n (length to.names)) refl (λ l. none_broken to to.names 0 n p.1 (omega (arith)) (omega (arith, l)));
+      no_broken = none_broken_placed to c name whole h;
     }
 
 pub placed_consistent : (cs to : Classes) (own name : Name) (above : List Name) (whole : Bool) → own ≡ name → length cs.above ≡ length cs.names → to ≡ with_class cs own above

@@ -34,7 +34,7 @@ longer [] y = refl
 longer (x ∷ xs) y = let p : length (xs ++ y ∷ []) ≡ length xs + 1 = longer xs y in omega (arith, p)
 
 -- a name that was found is found at the same place
-found_by : (p : Name → Bool) (xs : List Name) (y : Name) (i : ℕ) (b : Bool) → nat_lt (position_or_len p xs) (length xs) ≡ b → position p xs ≡ Some i → position p (xs ++ y ∷ []) ≡ Some i
+pub found_by : (p : Name → Bool) (xs : List Name) (y : Name) (i : ℕ) (b : Bool) → nat_lt (position_or_len p xs) (length xs) ≡ b → position p xs ≡ Some i → position p (xs ++ y ∷ []) ≡ Some i
 found_by p xs y i true e h =
     let l : position_or_len p xs < length xs = ltb-true (position_or_len p xs) (length xs) e in
     let q : position_or_len p (xs ++ y ∷ []) ≡ position_or_len p xs = place_stays p xs y l in
@@ -84,6 +84,9 @@ found_at_by p xs i true e h =
     let q : position_or_len p xs ≡ i = cc in (q, omega (arith, l, q))
 found_at_by p xs i false e h = cc
 
+pub found_at : (p : Name → Bool) (xs : List Name) (i : ℕ) → position p xs ≡ Some i → (position_or_len p xs ≡ i) × (i < length xs)
+found_at p xs i h = found_at_by p xs i (nat_lt (position_or_len p xs) (length xs)) refl h
+
 -- a name that is found there too was found before, or is the last
 was_found_by : (p : Name → Bool) (xs : List Name) (y : Name) (i : ℕ) (b : Bool) → nat_lt (position_or_len p xs) (length xs) ≡ b → position p (xs ++ y ∷ []) ≡ Some i → (length xs == i) ≡ false → position p xs ≡ Some i
 was_found_by p xs y i true e h d =
@@ -105,6 +108,7 @@ changes_by cs to name above true l e h =
       rows = λ k d. ap (λ v. unwrap_or v []) (row_set cs.above (number_of cs name) k above d);
       numbers = λ x i g. g;
       others = λ x i g d. g;
+      back = λ x g l. g;
       more = omega (arith);
     })
 changes_by cs to name above false l e h =
@@ -115,6 +119,7 @@ changes_by cs to name above false l e h =
       rows = λ k d. ap (λ v. unwrap_or v []) (row_last cs.above k above (subst (λ v. (v == k) ≡ false) p d));
       numbers = λ x i g. found_by (same_name x) cs.names name i (nat_lt (position_or_len (same_name x) cs.names) (length cs.names)) refl g;
       others = λ x i g d. was_found_by (same_name x) cs.names name i (nat_lt (position_or_len (same_name x) cs.names) (length cs.names)) refl g (subst (λ v. (v == i) ≡ false) o d);
+      back = λ x g l. absurd (omega (arith, o, l));
       more = omega (arith, q);
     })
 

@@ -1,15 +1,14 @@
 -- One round over some classes.
-use Rattle.std.proofs.Common.{◌≡◌, inl, inr, ℕ, ◌==◌, ◌<◌, Bool, true, false, true≢false, List, [], ◌∷◌, ◌++◌, length, arith, refl, ap, sym, subst, ◌∙◌}
+use Rattle.std.proofs.Common.{◌≡◌, ℕ, ◌==◌, ◌<◌, Bool, true, false, true≢false, List, [], ◌∷◌, ◌++◌, length, arith, refl, ap, sym, subst, ◌∙◌}
 use Rattle.std.specs.Prelude.{◌||◌}
 use Rattle.std.proofs.lemmas.Bool.{eqb-true}
 use Rattle.lisp_data.specs.declared.ids.ClassId.{ClassId}
 use Rattle.clos_precedence.specs.Precedence.{has}
 use Rattle.clos_precedence.specs.PrecedenceView.{numbers}
-use Rattle.clos_hierarchy.specs.Classes.{Classes, Listing, is_lacking}
+use Rattle.clos_hierarchy.specs.Classes.{Classes}
 use Rattle.clos_hierarchy.specs.declared.kept.Kept.{Kept}
-use Rattle.clos_hierarchy.specs.inner.Kept.{Adds, Ends, Filled, Keeps, Knows, More, Progress, lacking_in}
-use Rattle.clos_hierarchy.specs.inner.KeptView.{listing_at}
-use Rattle.clos_hierarchy.specs.inner.Touched.{AllEnd, AreWithin, OthersStay, WaitWithin}
+use Rattle.clos_hierarchy.specs.inner.Kept.{Ends, Filled, Keeps, Knows, Progress, lacking_in}
+use Rattle.clos_hierarchy.specs.inner.Touched.{AllEnd, AreWithin, Closes, EndElse, OthersStay}
 use Rattle.clos_precedence.proofs.Truth.{or_right}
 use Rattle.clos_hierarchy.proofs.Filling.{adds_through, knows}
 
@@ -72,12 +71,12 @@ all_done false cs old new all left e f = (f.0, λ k n h. f.1 k n h (ap (λ l. ha
 
 -- ---- at the end
 
-end_any : (cs : Classes) (ks : List Kept) (all : List ℕ) (n : ℕ) (b : Bool) → is_lacking (listing_at ks n) ≡ b → n < length ks → AllEnd cs ks all → WaitWithin all ks → Ends cs ks n
-end_any cs ks all n true e l a w = a n (w n l e)
-end_any cs ks all n false e l a w = λ h. absurd (true≢false (sym (ap is_lacking h) ∙ e))
+end_by_all : (cs : Classes) (ks : List Kept) (all : List ℕ) (n : ℕ) (b : Bool) → has all n ≡ b → AllEnd cs ks all → EndElse cs all ks → Ends cs ks n
+end_by_all cs ks all n true e a w = a n e
+end_by_all cs ks all n false e a w = w n e
 
-pub knows_then : (cs : Classes) (ks : List Kept) (all : List ℕ) → Progress cs ks → AllEnd cs ks all → WaitWithin all ks → Knows cs ks
-knows_then cs ks all p a w = knows cs ks p (λ n h. let q : length ks ≡ length cs.names = p.length in end_any cs ks all n (is_lacking (listing_at ks n)) refl (omega (arith, h, q)) a w)
+pub knows_then : (cs : Classes) (ks : List Kept) (all : List ℕ) → Progress cs ks → AllEnd cs ks all → EndElse cs all ks → Knows cs ks
+knows_then cs ks all p a w = knows cs ks p (λ n h. end_by_all cs ks all n (has all n) refl a w)
 
 -- ---- the loops
 
@@ -100,19 +99,10 @@ goes_on b c r cs old mid new all left rest x g f o l h e = (
   λ n i. g.1 n (l n ∙ or_right (x == n) (has rest n) i),
 )
 
-pub knows_end : (b : Bool) (cs : Classes) (first old new : List Kept) (all : List ℕ) → b ≡ false → (Progress cs first → Progress cs old) → Adds first old → OthersStay all first old → Filled b cs old new (AllEnd cs old all)
-    → Progress cs first → WaitWithin all first → Knows cs new
-knows_end true cs first old new all h p a o f q w = absurd (true≢false h)
-knows_end false cs first old new all h p a o f q w =
-    let r : Progress cs old = p q in
-    subst (Knows cs) (sym f.0) (knows_then cs old all r (f.1 r.keeps) (wait_then all first old o.0 a w))
-  where
-    lacks : (a b : Listing) → More a b → is_lacking b ≡ true → is_lacking a ≡ true
-    lacks a b (inl e) h = ap is_lacking e
-    lacks a b (inr e) h = ap is_lacking e ∙ h
-
-    wait_then : (all : List ℕ) (first old : List Kept) → length old ≡ length first → Adds first old → WaitWithin all first → WaitWithin all old
-    wait_then all first old l a w n h k = w n (omega (arith, h, l)) (lacks (listing_at first n) (listing_at old n) (a n) k)
+pub knows_end : (b : Bool) (cs : Classes) (first old new : List Kept) (all : List ℕ) → b ≡ false → (Progress cs first → Progress cs old) → OthersStay all first old → Filled b cs old new (AllEnd cs old all) → Progress cs first
+    → Closes cs all first → Knows cs new
+knows_end true cs first old new all h p o f q w = absurd (true≢false h)
+knows_end false cs first old new all h p o f q w = let r : Progress cs old = p q in subst (Knows cs) (sym f.0) (knows_then cs old all r (f.1 r.keeps) (w old o r.keeps))
 
 pub numbers_end : (cs : List ClassId) (c : ClassId) → numbers (cs ++ c ∷ []) ≡ numbers cs ++ c.0 ∷ []
 numbers_end [] c = refl

@@ -83,7 +83,7 @@ fill_nested cs of to m f w i n l x h g = nested_by cs of to m n x l (m == n) f w
 
 -- ---- all of it
 
-it_lacks : (a : Listing) → is_lacking a ≡ true → a ≡ lacking
+pub it_lacks : (a : Listing) → is_lacking a ≡ true → a ≡ lacking
 it_lacks lacking h = refl
 it_lacks broken h = cc
 it_lacks (listed l) h = cc

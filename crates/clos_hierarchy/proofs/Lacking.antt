@@ -24,7 +24,7 @@ ordered_lacks : (f : Supers) (n : ℕ) (b : Bool) (a : Listing) → a ≡ lackin
 ordered_lacks f n true a e = ap (λ v. in_order f n v) e
 ordered_lacks f n false a e = refl
 
-found_lacks : (cs : Classes) (of : ℕ → Listing) (n x : ℕ) → has (superclasses cs n) x ≡ true → of x ≡ lacking → found cs of n ≡ lacking
+pub found_lacks : (cs : Classes) (of : ℕ → Listing) (n x : ℕ) → has (superclasses cs n) x ≡ true → of x ≡ lacking → found cs of n ≡ lacking
 found_lacks cs of n x h k =
     ordered_lacks (superclasses cs) n (is_based cs n) (all_above of (superclasses cs n)) (above_lacks of (superclasses cs n) x h k)
 

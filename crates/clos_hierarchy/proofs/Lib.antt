@@ -29,5 +29,9 @@ pub mod Climbing
 pub mod Lacking
 pub mod Consistent
 pub mod Superclasses
-pub mod Waiting
+pub mod Ready
+pub mod Naming
+pub mod Waking
+pub mod Asleep
+pub mod Closed
 pub mod Placed

@@ -1,5 +1,5 @@
 -- What is told of a class precedence list, and of classes from none on.
-use Rattle.std.proofs.Common.{◌≡◌, ℕ, false, List, [], ◌∷◌, Some, inl, length, arith, refl, sym, subst, ap, ◌∙◌}
+use Rattle.std.proofs.Common.{◌≡◌, ℕ, false, true≢false, List, [], ◌∷◌, Some, inl, length, arith, refl, sym, subst, ap, ◌∙◌}
 use Rattle.std.specs.Prelude.{nat_lt}
 use Rattle.std.proofs.lemmas.Bool.{le-ltb}
 use Rattle.lisp_data.specs.Name.{Name}
@@ -7,7 +7,10 @@ use Rattle.clos_precedence.specs.Precedence.{IsPrecedenceList}
 use Rattle.clos_hierarchy.specs.Classes.{Classes, Listing, lacking, broken, listed, number_of, with_class, found, superclasses, listing}
 use Rattle.clos_hierarchy.specs.declared.kept.Kept.{Kept}
 use Rattle.clos_hierarchy.specs.inner.KeptView.{listing_at}
+use Rattle.clos_hierarchy.specs.inner.Direct.{AreDirect}
 use Rattle.clos_hierarchy.specs.inner.Kept.{Changes, Knows}
+use Rattle.clos_hierarchy.specs.inner.Told.{Tells, Told}
+use Rattle.clos_hierarchy.specs.inner.Touched.{NoneBroken}
 use Rattle.clos_hierarchy.specs.Table.{list_if}
 use Rattle.clos_hierarchy.specs.TableView.{IsListOf}
 use Rattle.clos_hierarchy.specs.Initial.{Row, fixed_name, fixed_names, all_defined}
@@ -52,11 +55,18 @@ knows_none cs ks e h = subst (λ v. Knows v ks) (sym e) (subst (λ v. Knows noth
   length = refl;
 }))
 
+pub tells_none : (cs : Classes) (t : Told) → cs ≡ nothing_defined → t.kept ≡ [] → Tells cs t
+tells_none cs t e h = record {
+  knows = knows_none cs t.kept e h;
+  well = subst NoneBroken (sym h) (λ n. refl);
+  direct = subst (λ v. AreDirect v t.direct) (sym e) (λ n x g. absurd (true≢false (sym g)));
+}
+
 -- ---- one more
 
-pub added : (cs to : Classes) (ks now : List Kept) (n : ℕ) (name : Name) (above : List Name) → length cs.above ≡ length cs.names → to ≡ with_class cs name above → n ≡ number_of cs name
-    → ((ds : Classes) → Knows ds ks → Changes ds to n → Knows to now) → Knows cs ks → Knows to now
-added cs to ks now n name above l e h p k = p cs k (changed_by cs to n name above l e h)
+pub added : (cs to : Classes) (t u : Told) (n : ℕ) (name : Name) (above : List Name) → length cs.above ≡ length cs.names → to ≡ with_class cs name above → n ≡ number_of cs name
+    → ((ds : Classes) → Tells ds t → Changes ds to n → Tells to u) → Tells cs t → Tells to u
+added cs to t u n name above l e h p k = p cs k (changed_by cs to n name above l e h)
 
 pub stepped : (cs now end : Classes) (r : Row) (rows : List Row) → now ≡ with_class cs (fixed_name r.0) (fixed_names r.1) → end ≡ all_defined now rows → end ≡ all_defined cs (r ∷ rows)
 stepped cs now end r rows e h = h ∙ ap (λ v. all_defined v rows) e

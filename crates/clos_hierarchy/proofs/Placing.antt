@@ -50,9 +50,9 @@ is_touched_by ks now ps n true e o h = refl
 is_touched_by ks now ps n false e o h = sym (other_self (listing_at ks n)) ∙ ap (λ k. is_other (listing_at ks n) (listing_of k)) (sym (o n e)) ∙ h
 
 -- ... and they are picked among those that are touched
-pub changed_of : (ns : List ℕ) (places : List ClassId) (c : ℕ) (olds ks now : List Kept) (xs : List ℕ) → Replaces ns (numbers places) c olds ks now → xs ≡ others_among places olds now → (cs to : Classes) → Knows cs ks → Knows to now
+pub changed_of : (places : List ClassId) (c : ℕ) (olds ks now : List Kept) (xs : List ℕ) → Replaces (numbers places) c olds ks now → xs ≡ others_among places olds now → (cs to : Classes) → Knows cs ks → Knows to now
     → xs ≡ changed cs to
-changed_of ns places c olds ks now xs r e cs to k m =
+changed_of places c olds ks now xs r e cs to k m =
     e ∙ ap (λ os. others_among places os now) r.taken
     ∙ picked_all ks now places (length now) r.ordered r.within (λ n l h. is_touched_by ks now (numbers places) n (has (numbers places) n) refl r.others h)
     ∙ changed_is cs to ks now k m

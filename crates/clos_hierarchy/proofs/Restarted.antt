@@ -1,7 +1,7 @@
 -- What is kept where the classes that are touched are taken out, and where they are put back.
 use Rattle.std.proofs.Common.{◌≡◌, ◌⊎◌, inl, inr, ℕ, zero, suc, ◌==◌, ◌<◌, ◌≤◌, Bool, true, false, true≢false, List, [], ◌∷◌, length, map, arith, refl, ap, sym, subst, ◌∙◌}
-use Rattle.std.specs.Prelude.{◌||◌, ◌&&◌, nat_lt, slice_set, if◌then◌else◌}
-use Rattle.std.proofs.lemmas.Bool.{eq-eqb, eqb-true, ltb-true, ltb-false}
+use Rattle.std.specs.Prelude.{◌||◌, ◌&&◌, slice_set, if◌then◌else◌}
+use Rattle.std.proofs.lemmas.Bool.{eq-eqb, eqb-true}
 use Rattle.lisp_data.specs.declared.ids.ClassId.{ClassId}
 use Rattle.clos_precedence.specs.Precedence.{has}
 use Rattle.clos_precedence.specs.PrecedenceView.{numbers}
@@ -14,8 +14,8 @@ use Rattle.clos_hierarchy.specs.inner.Below.{below_at}
 use Rattle.clos_hierarchy.specs.inner.Exchange.{nothing_of, put_all, replaced}
 use Rattle.clos_hierarchy.specs.inner.Kept.{Knows, Restarts, without}
 use Rattle.clos_hierarchy.specs.inner.KeptView.{kept_above, kept_at, listing_at, listing_of}
-use Rattle.clos_hierarchy.specs.inner.Touched.{AreNoted, AreWaiting, AreWithin, Ascends, OthersStay, NoneElse, WaitWithin, have_it, is_touched, is_unlisted}
-use Rattle.clos_hierarchy.proofs.Filling.{same_length, set_other, set_same}
+use Rattle.clos_hierarchy.specs.inner.Touched.{AreNoted, AreWithin, Ascends, OthersStay, NoneBroken, NoneElse, have_it, is_touched}
+use Rattle.clos_hierarchy.proofs.Filling.{it_lacks, same_length, set_other, set_same}
 
 -- ---- what is put in places
 
@@ -74,57 +74,17 @@ past (x ∷ xs) (suc n) h = past xs n (omega (arith, h))
 
 -- ---- by what is known: of the classes old is kept, and ks where the class c may have come as the last
 
-module _ (old ks : List Kept) (waiting : List ℕ) (rows : List (List ℕ)) (c : ℕ) (ps : List ℕ) (same : (n : ℕ) → kept_at ks n ≡ kept_at old n)
-    (longer : (n : ℕ) → n < length ks → (n < length old) ⊎ (c ≡ n)) (w : AreWaiting waiting old) (o : AreNoted rows old) (t : (n : ℕ) → has ps n ≡ is_touched old waiting rows c n) where
-  unlisted : (a : Listing) → is_unlisted a ≡ true → without c a ≡ lacking
-  unlisted lacking h = refl
-  unlisted broken h = refl
-  unlisted (listed l) h = absurd (true≢false (sym h))
-
-  own : (cs : Classes) (k : Knows cs old) (a : Listing) → listing_at old c ≡ a → without c a ≡ lacking
-  own cs k lacking e = refl
-  own cs k broken e = refl
-  own cs k (listed l) e = goes_if (listed l) c (k.keeps.whole c l e).family.self
-
-  gone_by : (cs : Classes) (k : Knows cs old) (n : ℕ) → ((c == n) ≡ true) ⊎ ((has waiting n || have_it old c (below_at rows c) n) ≡ true) → without c (listing_at old n) ≡ lacking
-  gone_by cs k n (inl e) = subst (λ i. without c (listing_at old i) ≡ lacking) (eqb-true c n e) (own cs k (listing_at old c) refl)
-  gone_by cs k n (inr h) = by (either (has waiting n) (have_it old c (below_at rows c) n) h)
-    where
-      by : (has waiting n ≡ true) ⊎ (have_it old c (below_at rows c) n ≡ true) → without c (listing_at old n) ≡ lacking
-      by (inl i) = unlisted (listing_at old n) (w.only n i)
-      by (inr i) = goes_if (listing_at old n) c (second (has (below_at rows c) n) (has (list_in (listing_at old n)) c) i)
-
-  -- the classes that are touched are those of which the lists may go
-  gone : (cs : Classes) (k : Knows cs old) (n : ℕ) → has ps n ≡ true → without c (listing_at old n) ≡ lacking
-  gone cs k n h = gone_by cs k n (either (c == n) (has waiting n || have_it old c (below_at rows c) n) (sym (t n) ∙ h))
-
+module _ (old : List Kept) (woken : List ℕ) (rows : List (List ℕ)) (c : ℕ) (ps : List ℕ) (o : AreNoted rows old) (t : (n : ℕ) → has ps n ≡ is_touched old woken rows c n) where
   pub own_in : has ps c ≡ true
-  own_in = t c ∙ ap (λ b. b || (has waiting c || have_it old c (below_at rows c) c)) (eq-eqb c c refl)
+  own_in = t c ∙ ap (λ b. b || (has woken c || have_it old c (below_at rows c) c)) (eq-eqb c c refl)
 
-  pub waits_in : (n : ℕ) → has waiting n ≡ true → has ps n ≡ true
-  waits_in n h = t n ∙ by (c == n) (has waiting n) (have_it old c (below_at rows c) n) h
+  none_of : (n : ℕ) → has ps n ≡ false → have_it old c (below_at rows c) n ≡ false
+  none_of n h = by (c == n) (has woken n) (have_it old c (below_at rows c) n) (sym (t n) ∙ h)
     where
-      by : (a b d : Bool) → b ≡ true → (a || (b || d)) ≡ true
-      by true b d h = refl
-      by false true d h = refl
-      by false false d h = absurd (true≢false (sym h))
-
-  none_of : (n : ℕ) → has ps n ≡ false → (has waiting n ≡ false) × (have_it old c (below_at rows c) n ≡ false)
-  none_of n h = by (c == n) (has waiting n) (have_it old c (below_at rows c) n) (sym (t n) ∙ h)
-    where
-      by : (a b d : Bool) → (a || (b || d)) ≡ false → (b ≡ false) × (d ≡ false)
+      by : (a b d : Bool) → (a || (b || d)) ≡ false → d ≡ false
       by true b d h = absurd (true≢false h)
       by false true d h = absurd (true≢false h)
-      by false false d h = (refl, h)
-
-  without_it : (a : Listing) (b : Bool) → has (list_in a) c ≡ b → is_unlisted a ≡ false → b ≡ false → a ≡ without c a
-  without_it lacking b e u h = absurd (true≢false u)
-  without_it broken b e u h = absurd (true≢false u)
-  without_it (listed l) b e u h = sym (kept_if (has l c) (e ∙ h))
-    where
-      kept_if : (b : Bool) → b ≡ false → (if b then lacking else listed l) ≡ listed l
-      kept_if true h = absurd (true≢false h)
-      kept_if false h = refl
+      by false false d h = h
 
   not_noted : (n : ℕ) (b : Bool) → has (list_in (listing_at old n)) c ≡ b → have_it old c (below_at rows c) n ≡ false → b ≡ false
   not_noted n true e h = absurd (true≢false (sym (both (has (below_at rows c) n) (has (list_in (listing_at old n)) c) (o n c e) e) ∙ h))
@@ -135,30 +95,42 @@ module _ (old ks : List Kept) (waiting : List ℕ) (rows : List (List ℕ)) (c :
   free n h = by (has (list_in (listing_at old n)) c) refl
     where
       by : (b : Bool) → has (list_in (listing_at old n)) c ≡ b → b ≡ false
-      by b e = not_noted n b e (none_of n h).1
+      by b e = not_noted n b e (none_of n h)
 
-  listed_by : (n : ℕ) (b : Bool) → is_unlisted (listing_at old n) ≡ b → n < length old → has waiting n ≡ false → b ≡ false
-  listed_by n true e l h = absurd (true≢false (sym (w.all n l e) ∙ h))
-  listed_by n false e l h = refl
+module _ (old ks : List Kept) (woken : List ℕ) (rows : List (List ℕ)) (c : ℕ) (ps : List ℕ) (same : (n : ℕ) → kept_at ks n ≡ kept_at old n)
+    (u : NoneBroken old) (w : (n : ℕ) → has woken n ≡ true → is_lacking (listing_at old n) ≡ true) (o : AreNoted rows old) (t : (n : ℕ) → has ps n ≡ is_touched old woken rows c n) where
+  own : (cs : Classes) (k : Knows cs old) (a : Listing) → listing_at old c ≡ a → without c a ≡ lacking
+  own cs k lacking e = refl
+  own cs k broken e = refl
+  own cs k (listed l) e = goes_if (listed l) c (k.keeps.whole c l e).family.self
 
-  -- the lists of all others stay
-  listed_out : (n : ℕ) → n < length old → has ps n ≡ false → is_unlisted (listing_at old n) ≡ false
-  listed_out n l h = listed_by n (is_unlisted (listing_at old n)) refl l (none_of n h).0
+  gone_by : (cs : Classes) (k : Knows cs old) (n : ℕ) → ((c == n) ≡ true) ⊎ ((has woken n || have_it old c (below_at rows c) n) ≡ true) → without c (listing_at old n) ≡ lacking
+  gone_by cs k n (inl e) = subst (λ i. without c (listing_at old i) ≡ lacking) (eqb-true c n e) (own cs k (listing_at old c) refl)
+  gone_by cs k n (inr h) = by (either (has woken n) (have_it old c (below_at rows c) n) h)
+    where
+      by : (has woken n ≡ true) ⊎ (have_it old c (below_at rows c) n ≡ true) → without c (listing_at old n) ≡ lacking
+      by (inl i) = ap (without c) (it_lacks (listing_at old n) (w n i))
+      by (inr i) = goes_if (listing_at old n) c (second (has (below_at rows c) n) (has (list_in (listing_at old n)) c) i)
 
-  stays_out : (n : ℕ) → n < length old → has ps n ≡ false → listing_at old n ≡ without c (listing_at old n)
-  stays_out n l h = without_it (listing_at old n) (has (list_in (listing_at old n)) c) refl (listed_out n l h) (free n h)
+  -- the classes that are touched are those of which the lists may go
+  gone : (cs : Classes) (k : Knows cs old) (n : ℕ) → has ps n ≡ true → without c (listing_at old n) ≡ lacking
+  gone cs k n h = gone_by cs k n (either (c == n) (has woken n || have_it old c (below_at rows c) n) (sym (t n) ∙ h))
 
-  not_broken : (a : Listing) → is_unlisted a ≡ false → is_broken a ≡ false
-  not_broken lacking h = refl
-  not_broken broken h = h
-  not_broken (listed l) h = refl
+  without_it : (a : Listing) (b : Bool) → has (list_in a) c ≡ b → is_broken a ≡ false → b ≡ false → a ≡ without c a
+  without_it lacking b e v h = refl
+  without_it broken b e v h = absurd (true≢false v)
+  without_it (listed l) b e v h = sym (kept_if (has l c) (e ∙ h))
+    where
+      kept_if : (b : Bool) → b ≡ false → (if b then lacking else listed l) ≡ listed l
+      kept_if true h = absurd (true≢false h)
+      kept_if false h = refl
 
-  none_by : (n : ℕ) (b : Bool) → nat_lt n (length old) ≡ b → has ps n ≡ false → is_broken (listing_at old n) ≡ false
-  none_by n true e h = not_broken (listing_at old n) (listed_out n (ltb-true n (length old) e) h)
-  none_by n false e h = ap (λ k. is_broken (listing_of k)) (past old n (ltb-false n (length old) e))
+  -- what is kept of all others stays
+  stays_out : (n : ℕ) → has ps n ≡ false → listing_at old n ≡ without c (listing_at old n)
+  stays_out n h = without_it (listing_at old n) (has (list_in (listing_at old n)) c) refl (u n) (free old woken rows c ps o t n h)
 
   pub none_else : NoneElse ps ks
-  none_else n h = ap (λ k. is_broken (listing_of k)) (same n) ∙ none_by n (nat_lt n (length old)) refl h
+  none_else n h = ap (λ k. is_broken (listing_of k)) (same n) ∙ u n
 
   -- ---- what is kept once they are taken out
 
@@ -169,40 +141,16 @@ module _ (old ks : List Kept) (waiting : List ℕ) (rows : List (List ℕ)) (c :
     abbrev Restart : ℕ → Type 0
     Restart n = (listing_at out n ≡ without c (listing_at old n)) × ((l : List ℕ) → listing_at out n ≡ listed l → kept_above (kept_at out n) ≡ kept_above (kept_at old n))
 
-    restart_out : (n : ℕ) (b : Bool) → nat_lt n (length old) ≡ b → has ps n ≡ false → Restart n
-    restart_out n true e h =
-        let s : kept_at out n ≡ kept_at old n = put_others ps (nothing_of ps) ks n h ∙ same n in (ap listing_of s ∙ stays_out n (ltb-true n (length old) e) h, λ l i. ap kept_above s)
-    restart_out n false e h =
-        let s : kept_at out n ≡ kept_at old n = put_others ps (nothing_of ps) ks n h ∙ same n in
-        let p : kept_at old n ≡ Lacking = past old n (ltb-false n (length old) e) in (ap listing_of (s ∙ p) ∙ ap (λ k. without c (listing_of k)) (sym p), λ l i. ap kept_above s)
-
     restart_by : (cs : Classes) (k : Knows cs old) (n : ℕ) (b : Bool) → has ps n ≡ b → Restart n
     restart_by cs k n true e =
         let s : kept_at out n ≡ Lacking = nothing_there ps ks n a v e in (ap listing_of s ∙ sym (gone cs k n e), λ l i. absurd (lacks l (sym (ap listing_of s) ∙ i)))
       where
         lacks : (l : List ℕ) → lacking ≡ listed l → ⊥
         lacks l e = true≢false (ap is_lacking e)
-    restart_by cs k n false e = restart_out n (nat_lt n (length old)) refl e
+    restart_by cs k n false e = let s : kept_at out n ≡ kept_at old n = put_others ps (nothing_of ps) ks n e ∙ same n in (ap listing_of s ∙ stays_out n e, λ l i. ap kept_above s)
 
     pub restarts : (cs : Classes) → Knows cs old → Restarts c old out
     restarts cs k n = restart_by cs k n (has ps n) refl
-
-    lacks_by : (l : Listing) → is_unlisted l ≡ false → is_lacking l ≡ true → false ≡ true
-    lacks_by lacking h e = sym h
-    lacks_by broken h e = e
-    lacks_by (listed l) h e = e
-
-    waits_where : (n : ℕ) → has ps n ≡ false → (n < length old) ⊎ (c ≡ n) → is_lacking (listing_at out n) ≡ true → false ≡ true
-    waits_where n e (inl l) h =
-        lacks_by (listing_at old n) (listed_out n l e) (sym (ap (λ k. is_lacking (listing_of k)) (put_others ps (nothing_of ps) ks n e ∙ same n)) ∙ h)
-    waits_where n e (inr i) h = sym e ∙ subst (λ m. has ps m ≡ true) i own_in
-
-    waits_by : (n : ℕ) (b : Bool) → has ps n ≡ b → n < length ks → is_lacking (listing_at out n) ≡ true → b ≡ true
-    waits_by n true e l h = refl
-    waits_by n false e l h = waits_where n e (longer n l) h
-
-    pub waits : WaitWithin ps out
-    waits n l h = waits_by n (has ps n) refl (subst (λ m. n < m) (put_length ps (nothing_of ps) ks) l) h
 
 -- ---- what is put back
 

@@ -5,3 +5,7 @@ pub mod Below
 pub mod Touched
 pub mod Exchange
 pub mod Finding
+pub mod Direct
+pub mod Woken
+pub mod Waking
+pub mod Told

@@ -1,6 +1,5 @@
 //! What there is to say of the classes that a definition touches.
 ghost use Rattle.std.specs.Prelude.{◌≡◌, ℕ, length, None, false, IfErr, IfOk, OnOk, map, option_copied, slice_get, if◌then◌else◌};
-ghost use Rattle.std.specs.List.{filter};
 ghost use Rattle.clos_precedence.specs.Precedence.{has};
 ghost use Rattle.lisp_data.specs.Numbers.{same_numbers};
 ghost use Rattle.clos_precedence.specs.PrecedenceView.{numbers};
@@ -10,7 +9,7 @@ ghost use Rattle.clos_hierarchy.specs.TableView.{Refuses};
 ghost use Rattle.clos_hierarchy.specs.declared.kept.Kept.{Kept};
 ghost use Rattle.clos_hierarchy.specs.inner.Kept.{Knows};
 ghost use Rattle.clos_hierarchy.specs.inner.KeptView.{listing_at, listing_of};
-ghost use Rattle.clos_hierarchy.specs.inner.Touched.{Ascends, NoneElse, is_unlisted, others_among};
+ghost use Rattle.clos_hierarchy.specs.inner.Touched.{Ascends, NoneElse, others_among};
 
 use crate::definitions::Definitions;
 use crate::fault::ClassFault;
@@ -66,36 +65,6 @@ pub fn changed_among(
         at += 1;
     }
     Ok(changed)
-}
-
-/// Whether a class has no list.
-fn is_unlisted(now: &[Kept], class: ClassId) -> bool
-    ensures { result ≡ is_unlisted (listing_at now.now class.0) }
-{
-    match now.get(class.0 as usize) {
-        Some(Kept::Listed(_)) => false,
-        _ => true,
-    }
-}
-
-/// Those of the classes at these places that have no list.
-pub fn waiting_among(
-    alloc: Global,
-    places: &[ClassId],
-    now: &[Kept],
-) -> Result<Vec<ClassId>, AllocError>
-    ensures { IfOk result (λ r. numbers r.items ≡ filter (λ n. is_unlisted (listing_at now.now n)) (numbers places.now)) }
-{
-    let mut waiting = Vec::new(alloc);
-    let mut at = 0;
-    while at < places.len() {
-        let class = places[at];
-        if is_unlisted(now, class) {
-            waiting.push(class)?;
-        }
-        at += 1;
-    }
-    Ok(waiting)
 }
 
 /// The name of the class at this place, if it has no list, though all above it is defined.

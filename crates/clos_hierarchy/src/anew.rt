@@ -4,7 +4,7 @@ ghost use Rattle.clos_precedence.specs.PrecedenceView.{numbers};
 ghost use Rattle.clos_hierarchy.specs.inner.Exchange.{taken_out};
 ghost use Rattle.clos_hierarchy.specs.inner.Kept.{Adds, Knows, Progress};
 ghost use Rattle.clos_hierarchy.specs.inner.KeptView.{kept_at};
-ghost use Rattle.clos_hierarchy.specs.inner.Touched.{AreWithin, Ascends, OthersStay, WaitWithin};
+ghost use Rattle.clos_hierarchy.specs.inner.Touched.{AreWithin, Ascends, Closes, OthersStay};
 
 use crate::definitions::Definitions;
 use crate::exchange::{exchange, nothing_of};
@@ -24,7 +24,7 @@ pub fn find_anew(
     requires ordered { Ascends (numbers places.now) }
     ensures taken { IfOk result (λ r. r.items ≡ map (kept_at kept.old.items) (numbers places.now)) }
     ensures others { OnOk result (OthersStay (numbers places.now) kept.old.items kept.new.items) }
-    ensures knows { OnOk result (Progress definitions.now (taken_out (numbers places.now) kept.old.items) → WaitWithin (numbers places.now) (taken_out (numbers places.now) kept.old.items) → Knows definitions.now kept.new.items) }
+    ensures knows { OnOk result (Progress definitions.now (taken_out (numbers places.now) kept.old.items) → Closes definitions.now (numbers places.now) (taken_out (numbers places.now) kept.old.items) → Knows definitions.now kept.new.items) }
     ensures err { OnErr result (kept.new.items ≡ kept.old.items) }
 {
     let mut taken = nothing_of(alloc, places)?;

@@ -1,4 +1,4 @@
-//! The classes below each class: those that have it in their class precedence lists.
+//! Classes that are noted in rows: below each class, or below each name.
 ghost use Rattle.std.specs.Prelude.{◌≡◌, ◌<◌, ℕ, [], true, OnOk, length};
 ghost use Rattle.clos_precedence.specs.Precedence.{has};
 ghost use Rattle.clos_precedence.specs.PrecedenceView.{numbers};
@@ -9,7 +9,7 @@ use lisp_data::ClassId;
 use std::alloc::{AllocError, Global};
 use std::marker::Model;
 
-/// Of each class, the numbers of those that have it in their lists, or had it once.
+/// Rows of numbers of classes, each once. What was noted stays.
 #[derive(Drop)]
 pub struct Below {
     rows: Vec<IndexSet<u64>>,
@@ -27,7 +27,7 @@ impl Model for Below {
 }
 
 impl Below {
-    /// None of any class.
+    /// No rows.
     pub fn new(alloc: Global) -> Below
         ensures { result ≡ [] }
     {
@@ -36,45 +36,45 @@ impl Below {
         }
     }
 
-    /// Those of a class.
-    pub fn of(&self, class: ClassId) -> &[u64]
-        ensures { result.now ≡ below_at self.now class.0 }
+    /// The classes that are noted in a row.
+    pub fn of(&self, row: u64) -> &[u64]
+        ensures { result.now ≡ below_at self.now row }
     {
-        match self.rows.get(class.0 as usize) {
+        match self.rows.get(row as usize) {
             Some(row) => row.as_slice(),
             None => &[],
         }
     }
 
-    /// Has rows for the classes up to this one.
-    fn reach(&mut self, alloc: Global, class: ClassId) -> Result<(), AllocError>
+    /// Has rows up to this one.
+    fn reach(&mut self, alloc: Global, row: u64) -> Result<(), AllocError>
         ensures grows { Grows self.old self.new }
-        ensures reached { OnOk result (class.0 < length self.new) }
+        ensures reached { OnOk result (row < length self.new) }
     {
-        while self.rows.len() as u64 <= class.0 {
+        while self.rows.len() as u64 <= row {
             self.rows.push(IndexSet::new(alloc))?;
         }
         Ok(())
     }
 
-    /// Notes that a class has another one in its list.
-    fn note(&mut self, alloc: Global, above: ClassId, class: ClassId) -> Result<(), AllocError>
+    /// Notes a class in a row.
+    pub fn note(&mut self, alloc: Global, row: u64, class: ClassId) -> Result<(), AllocError>
         ensures grows { Grows self.old self.new }
-        ensures noted { OnOk result (has (below_at self.new above.0) class.0 ≡ true) }
+        ensures noted { OnOk result (has (below_at self.new row) class.0 ≡ true) }
     {
-        self.reach(alloc, above)?;
-        self.rows[above.0 as usize].insert(class.0)?;
+        self.reach(alloc, row)?;
+        self.rows[row as usize].insert(class.0)?;
         Ok(())
     }
 
-    /// Notes that a class has these in its list.
+    /// Notes a class in the rows of all these, which are in its list.
     pub fn add(&mut self, alloc: Global, class: ClassId, list: &[ClassId]) -> Result<(), AllocError>
         ensures grows { Grows self.old self.new }
         ensures added { OnOk result ((m : ℕ) → has (numbers list.now) m ≡ true → has (below_at self.new m) class.0 ≡ true) }
     {
         let mut left = list;
         while let Some((above, others)) = left.split_first() {
-            self.note(alloc, *above, class)?;
+            self.note(alloc, above.0, class)?;
             left = others;
         }
         Ok(())

@@ -1,7 +1,7 @@
 //! What is kept of the classes, found for one after another until no more is found.
 ghost use Rattle.std.specs.Prelude.{◌≡◌, ◌<◌, ◌∷◌, [], ℕ, IfOk, OnOk, length};
 ghost use Rattle.clos_precedence.specs.PrecedenceView.{numbers};
-ghost use Rattle.clos_hierarchy.specs.inner.Touched.{AllEnd, AreWithin, OthersStay, WaitWithin};
+ghost use Rattle.clos_hierarchy.specs.inner.Touched.{AllEnd, AreWithin, Closes, OthersStay};
 ghost use Rattle.clos_hierarchy.specs.inner.Kept.{Adds, Ends, Filled, Progress, Knows};
 ghost use Rattle.clos_hierarchy.specs.inner.KeptView.{listing_of};
 ghost use Rattle.clos_hierarchy.specs.Classes.{is_lacking};
@@ -97,7 +97,7 @@ pub fn fill(
     places: &[ClassId],
 ) -> Result<(), AllocError>
     requires { AreWithin (numbers places.now) kept.old.items }
-    ensures knows { OnOk result (Progress definitions.now kept.old.items → WaitWithin (numbers places.now) kept.old.items → Knows definitions.now kept.new.items) }
+    ensures knows { OnOk result (Progress definitions.now kept.old.items → Closes definitions.now (numbers places.now) kept.old.items → Knows definitions.now kept.new.items) }
     ensures adds { OnOk result (Adds kept.old.items kept.new.items) }
     ensures others { OthersStay (numbers places.now) kept.old.items kept.new.items }
 {

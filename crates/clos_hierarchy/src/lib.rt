@@ -7,6 +7,7 @@ mod anew;
 mod below;
 mod cycle;
 mod definitions;
+mod direct;
 mod exchange;
 mod fault;
 mod fill;
@@ -22,6 +23,7 @@ mod preview;
 mod settle;
 mod table;
 mod touched;
+mod woken;
 
 pub use admit::Changed;
 pub use fault::ClassFault;

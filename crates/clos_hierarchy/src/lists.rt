@@ -6,56 +6,57 @@ ghost use Rattle.clos_hierarchy.specs.Classes.{Classes, list_in, listing};
 ghost use Rattle.clos_hierarchy.specs.Table.{changed, misplaced};
 ghost use Rattle.clos_hierarchy.specs.TableView.{Refuses};
 ghost use Rattle.clos_hierarchy.specs.inner.Exchange.{IsPlace};
-ghost use Rattle.clos_hierarchy.specs.inner.Kept.{Changes, Knows};
+ghost use Rattle.clos_hierarchy.specs.inner.Kept.{Changes};
+ghost use Rattle.clos_hierarchy.specs.inner.Told.{Tells};
 
 use crate::below::Below;
 use crate::definitions::Definitions;
+use crate::direct::Direct;
 use crate::fault::ClassFault;
 use crate::kept::Kept;
 use crate::place::{Replaced, place, put_back};
 use crate::preview::Preview;
-use crate::settle::{Settled, settle};
+use crate::settle::settle;
 use lisp_data::{ClassId, Name};
 use std::alloc::Global;
 use std::marker::Model;
 
-/// What is kept of each class, and what tells quickly which classes a definition touches: those that have no list, and of each
-/// class those below it. A definition costs what it touches, not what the table holds.
+/// What is kept of each class, and what tells quickly which classes a definition touches: the classes directly below each name, for
+/// those that have no list yet, and of each class those that have it in their lists. A definition costs what it touches, not what
+/// the table holds.
 #[derive(Drop)]
 pub struct Lists {
     kept: Vec<Kept>,
-    waiting: Vec<ClassId>,
+    direct: Direct,
     below: Below,
 }
 
 impl Model for Lists {
-    ghost use Rattle.std.specs.Prelude.{List};
-    ghost use Rattle.clos_precedence.specs.PrecedenceView.{numbers};
-    ghost use Rattle.clos_hierarchy.specs.declared.kept.Kept.{Kept};
-    ghost use Rattle.clos_hierarchy.specs.inner.Touched.{AreNoted, AreWaiting};
+    ghost use Rattle.clos_hierarchy.specs.inner.Told.{Told, told};
+    ghost use Rattle.clos_hierarchy.specs.inner.Touched.{AreNoted};
 
-    ghost Value = { List Kept };
+    ghost Value = { Told };
 
-    ghost view = { λ a. a.kept.items };
+    ghost view = { λ a. told a.kept.items a.direct };
 
-    ghost invariant = { λ a. AreWaiting (numbers a.waiting.items) a.kept.items × AreNoted a.below a.kept.items };
+    ghost invariant = { λ a. AreNoted a.below a.kept.items };
 }
 
 impl Lists {
     /// Of no class.
     pub fn new(alloc: Global) -> Lists
-        ensures { result ≡ [] }
+        ensures { result.kept ≡ [] }
     {
         Lists {
             kept: Vec::new(alloc),
-            waiting: Vec::new(alloc),
+            direct: Direct::new(alloc),
             below: Below::new(alloc),
         }
     }
 
     /// What is kept of each class, by its number.
     pub fn as_slice(&self) -> &[Kept]
-        ensures { result.now ≡ self.now }
+        ensures { result.now ≡ self.now.kept }
     {
         self.kept.as_slice()
     }
@@ -70,19 +71,20 @@ impl Lists {
         name: &Name,
         whole: bool,
     ) -> Result<Vec<ClassId>, ClassFault>
-        requires { IsPlace class.0 (length self.old) (length definitions.now.names) }
-        ensures knows { OnOk result ((cs : Classes) → Knows cs self.old → Changes cs definitions.now class.0 → Knows definitions.now self.new) }
-        ensures well { OnOk result ((cs : Classes) → Knows cs self.old → Changes cs definitions.now class.0 → misplaced definitions.now class.0 name.now whole ≡ None) }
-        ensures changed { IfOk result (λ r. (cs : Classes) → Knows cs self.old → Changes cs definitions.now class.0 → numbers r.items ≡ changed cs definitions.now) }
-        ensures err { OnErr result (self.new ≡ self.old) }
-        ensures fault { IfErr result (λ e. (cs : Classes) → Knows cs self.old → Changes cs definitions.now class.0 → Refuses e (misplaced definitions.now class.0 name.now whole)) }
+        requires { IsPlace class.0 (length self.old.kept) (length definitions.now.names) }
+        ensures tells { OnOk result ((cs : Classes) → Tells cs self.old → Changes cs definitions.now class.0 → Tells definitions.now self.new) }
+        ensures well { OnOk result ((cs : Classes) → Tells cs self.old → Changes cs definitions.now class.0 → misplaced definitions.now class.0 name.now whole ≡ None) }
+        ensures changed { IfOk result (λ r. (cs : Classes) → Tells cs self.old → Changes cs definitions.now class.0 → numbers r.items ≡ changed cs definitions.now) }
+        ensures err { OnErr result ((cs : Classes) → Tells cs self.old → Tells cs self.new) }
+        ensures fault { IfErr result (λ e. (cs : Classes) → Tells cs self.old → Changes cs definitions.now class.0 → Refuses e (misplaced definitions.now class.0 name.now whole)) }
     {
+        self.direct.add(alloc, class, definitions.above(class))?;
         let len = self.kept.len();
         let replaced = place(
             alloc,
             definitions,
             &mut self.kept,
-            self.waiting.as_slice(),
+            &self.direct,
             &self.below,
             class,
             name,
@@ -95,10 +97,7 @@ impl Lists {
             replaced.olds.as_slice(),
             self.kept.as_slice(),
         ) {
-            Ok(Settled { changed, waiting }) => {
-                self.waiting = waiting;
-                Ok(changed)
-            }
+            Ok(changed) => Ok(changed),
             Err(_) => {
                 put_back(&mut self.kept, replaced, len);
                 Err(ClassFault::Memory)
@@ -115,15 +114,15 @@ impl Lists {
         name: &Name,
         whole: bool,
     ) -> Result<Preview, ClassFault>
-        requires { IsPlace class.0 (length self.old) (length definitions.now.names) }
+        requires { IsPlace class.0 (length self.old.kept) (length definitions.now.names) }
         ensures class { IfOk result (λ r. r.class ≡ class.0) }
         ensures own { IfOk result (λ r. has r.touched class.0 ≡ true) }
-        ensures lists { IfOk result (λ r. (cs : Classes) → Knows cs self.old → Changes cs definitions.now class.0 → r.listings ≡ map (λ n. listing definitions.now n) r.touched) }
-        ensures within { IfOk result (λ r. (cs : Classes) → Knows cs self.old → Changes cs definitions.now class.0 → (n : ℕ) → has r.touched n ≡ true → n < length definitions.now.names) }
-        ensures others { IfOk result (λ r. (cs : Classes) → Knows cs self.old → Changes cs definitions.now class.0 → (n : ℕ) → has r.touched n ≡ false → listing definitions.now n ≡ listing cs n) }
-        ensures free { IfOk result (λ r. (cs : Classes) → Knows cs self.old → (n : ℕ) → has r.touched n ≡ false → has (list_in (listing cs n)) r.class ≡ false) }
-        ensures well { OnOk result ((cs : Classes) → Knows cs self.old → Changes cs definitions.now class.0 → misplaced definitions.now class.0 name.now whole ≡ None) }
-        ensures fault { IfErr result (λ e. (cs : Classes) → Knows cs self.old → Changes cs definitions.now class.0 → Refuses e (misplaced definitions.now class.0 name.now whole)) }
+        ensures lists { IfOk result (λ r. (cs : Classes) → Tells cs self.old → Changes cs definitions.now class.0 → r.listings ≡ map (λ n. listing definitions.now n) r.touched) }
+        ensures within { IfOk result (λ r. (cs : Classes) → Tells cs self.old → Changes cs definitions.now class.0 → (n : ℕ) → has r.touched n ≡ true → n < length definitions.now.names) }
+        ensures others { IfOk result (λ r. (cs : Classes) → Tells cs self.old → Changes cs definitions.now class.0 → (n : ℕ) → has r.touched n ≡ false → listing definitions.now n ≡ listing cs n) }
+        ensures free { IfOk result (λ r. (cs : Classes) → Tells cs self.old → (n : ℕ) → has r.touched n ≡ false → has (list_in (listing cs n)) r.class ≡ false) }
+        ensures well { OnOk result ((cs : Classes) → Tells cs self.old → Changes cs definitions.now class.0 → misplaced definitions.now class.0 name.now whole ≡ None) }
+        ensures fault { IfErr result (λ e. (cs : Classes) → Tells cs self.old → Changes cs definitions.now class.0 → Refuses e (misplaced definitions.now class.0 name.now whole)) }
         ensures same { self.new ≡ self.old }
     {
         let len = self.kept.len();
@@ -131,7 +130,7 @@ impl Lists {
             alloc,
             definitions,
             &mut self.kept,
-            self.waiting.as_slice(),
+            &self.direct,
             &self.below,
             class,
             name,

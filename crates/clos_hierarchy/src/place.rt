@@ -8,13 +8,15 @@ ghost use Rattle.clos_hierarchy.specs.declared.kept.Kept.{Kept};
 ghost use Rattle.clos_hierarchy.specs.inner.Exchange.{IsPlace, Replaces, reached, taken_out};
 ghost use Rattle.clos_hierarchy.specs.inner.Kept.{Changes, Knows, Progress};
 ghost use Rattle.clos_hierarchy.specs.inner.KeptView.{kept_at};
-ghost use Rattle.clos_hierarchy.specs.inner.Touched.{AreNoted, AreWaiting, AreWithin, Ascends, NoneElse, OthersStay, WaitWithin};
+ghost use Rattle.clos_hierarchy.specs.inner.Told.{Tells, told};
+ghost use Rattle.clos_hierarchy.specs.inner.Touched.{AreNoted, AreWithin, Ascends, Closes, NoneElse, OthersStay};
 
 use crate::among::find_broken;
 use crate::anew::find_anew;
 use crate::below::Below;
 use crate::cycle::is_circular;
 use crate::definitions::Definitions;
+use crate::direct::Direct;
 use crate::exchange::exchange;
 use crate::fault::ClassFault;
 use crate::find::{is_broken, is_lacking};
@@ -60,10 +62,10 @@ fn find_well(
     requires ordered { Ascends (numbers places.now) }
     ensures taken { IfOk result (λ r. r.items ≡ map (kept_at kept.old.items) (numbers places.now)) }
     ensures others { OnOk result (OthersStay (numbers places.now) kept.old.items kept.new.items) }
-    ensures knows { OnOk result (Progress definitions.now (taken_out (numbers places.now) kept.old.items) → WaitWithin (numbers places.now) (taken_out (numbers places.now) kept.old.items) → Knows definitions.now kept.new.items) }
-    ensures well { OnOk result (Progress definitions.now (taken_out (numbers places.now) kept.old.items) → WaitWithin (numbers places.now) (taken_out (numbers places.now) kept.old.items) → NoneElse (numbers places.now) kept.old.items → out_of_order definitions.now class.0 name.now whole ≡ None) }
+    ensures knows { OnOk result (Progress definitions.now (taken_out (numbers places.now) kept.old.items) → Closes definitions.now (numbers places.now) (taken_out (numbers places.now) kept.old.items) → Knows definitions.now kept.new.items) }
+    ensures well { OnOk result (Progress definitions.now (taken_out (numbers places.now) kept.old.items) → Closes definitions.now (numbers places.now) (taken_out (numbers places.now) kept.old.items) → NoneElse (numbers places.now) kept.old.items → out_of_order definitions.now class.0 name.now whole ≡ None) }
     ensures err { OnErr result (kept.new.items ≡ kept.old.items) }
-    ensures fault { IfErr result (λ e. Progress definitions.now (taken_out (numbers places.now) kept.old.items) → WaitWithin (numbers places.now) (taken_out (numbers places.now) kept.old.items) → NoneElse (numbers places.now) kept.old.items → Refuses e (out_of_order definitions.now class.0 name.now whole)) }
+    ensures fault { IfErr result (λ e. Progress definitions.now (taken_out (numbers places.now) kept.old.items) → Closes definitions.now (numbers places.now) (taken_out (numbers places.now) kept.old.items) → NoneElse (numbers places.now) kept.old.items → Refuses e (out_of_order definitions.now class.0 name.now whole)) }
 {
     let mut olds = find_anew(alloc, definitions, kept, places)?;
     match check(definitions, kept.as_slice(), places, class, name, whole) {
@@ -99,25 +101,24 @@ pub fn place(
     alloc: Global,
     definitions: &Definitions,
     kept: &mut Vec<Kept>,
-    waiting: &[ClassId],
+    direct: &Direct,
     below: &Below,
     class: ClassId,
     name: &Name,
     whole: bool,
 ) -> Result<Replaced, ClassFault>
     requires class { IsPlace class.0 (length kept.old.items) (length definitions.now.names) }
-    requires waiting { AreWaiting (numbers waiting.now) kept.old.items }
     requires noted { AreNoted below.now kept.old.items }
-    ensures replaced { IfOk result (λ r. Replaces (numbers waiting.now) (numbers r.places.items) class.0 r.olds.items kept.old.items kept.new.items) }
-    ensures knows { OnOk result ((cs : Classes) → Knows cs kept.old.items → Changes cs definitions.now class.0 → Knows definitions.now kept.new.items) }
-    ensures well { OnOk result ((cs : Classes) → Knows cs kept.old.items → Changes cs definitions.now class.0 → misplaced definitions.now class.0 name.now whole ≡ None) }
+    ensures replaced { IfOk result (λ r. Replaces (numbers r.places.items) class.0 r.olds.items kept.old.items kept.new.items) }
+    ensures knows { OnOk result ((cs : Classes) → Tells cs (told kept.old.items direct.now) → Changes cs definitions.now class.0 → Knows definitions.now kept.new.items) }
+    ensures well { OnOk result ((cs : Classes) → Tells cs (told kept.old.items direct.now) → Changes cs definitions.now class.0 → misplaced definitions.now class.0 name.now whole ≡ None) }
     ensures err { OnErr result (kept.new.items ≡ kept.old.items) }
-    ensures fault { IfErr result (λ e. (cs : Classes) → Knows cs kept.old.items → Changes cs definitions.now class.0 → Refuses e (misplaced definitions.now class.0 name.now whole)) }
+    ensures fault { IfErr result (λ e. (cs : Classes) → Tells cs (told kept.old.items direct.now) → Changes cs definitions.now class.0 → Refuses e (misplaced definitions.now class.0 name.now whole)) }
 {
     if is_circular(alloc, definitions, class)? {
         return Err(ClassFault::SuperclassCycle);
     }
-    let places = touched(alloc, kept.as_slice(), waiting, below, class)?;
+    let places = touched(alloc, definitions, kept.as_slice(), direct, below, class)?;
     let len = kept.len();
     reach(kept, definitions.len())?;
     match find_well(
@@ -142,7 +143,7 @@ pub fn put_back(kept: &mut Vec<Kept>, replaced: Replaced, len: usize) -> Replace
     requires within { AreWithin (numbers replaced.places.items) kept.old.items }
     requires each { length replaced.olds.items ≡ length replaced.places.items }
     requires ordered { Ascends (numbers replaced.places.items) }
-    ensures back { (ns : List ℕ) (c : ℕ) (ks : List Kept) → Replaces ns (numbers replaced.places.items) c replaced.olds.items ks kept.old.items → length ks ≡ len → kept.new.items ≡ ks }
+    ensures back { (c : ℕ) (ks : List Kept) → Replaces (numbers replaced.places.items) c replaced.olds.items ks kept.old.items → length ks ≡ len → kept.new.items ≡ ks }
     ensures places { result.places.items ≡ replaced.places.items }
     ensures found { result.olds.items ≡ map (kept_at kept.old.items) (numbers replaced.places.items) }
 {

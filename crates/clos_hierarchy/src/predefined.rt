@@ -2,7 +2,7 @@
 ghost use Rattle.std.specs.Prelude.{◌≡◌, [], OnOk, IfOk, map};
 ghost use Rattle.clos_hierarchy.specs.Classes.{with_class};
 ghost use Rattle.clos_hierarchy.specs.Initial.{fixed_name, fixed_names, all_defined, objects_and_numbers, symbols_and_sequences, functions_and_metaobjects, predefined};
-ghost use Rattle.clos_hierarchy.specs.inner.Kept.{Knows};
+ghost use Rattle.clos_hierarchy.specs.inner.Told.{Tells};
 
 use crate::definitions::Definitions;
 use crate::lists::Lists;
@@ -29,9 +29,9 @@ fn add(
     name: &'static &'static str,
     above: &'static [&'static str],
 ) -> Result<(), AllocError>
-    requires { Knows definitions.old lists.old }
+    requires { Tells definitions.old lists.old }
     ensures defined { OnOk result (definitions.new ≡ with_class definitions.old (fixed_name name.now.now) (fixed_names (map (λ t. t.now) above.now))) }
-    ensures knows { OnOk result (Knows definitions.new lists.new) }
+    ensures tells { OnOk result (Tells definitions.new lists.new) }
 {
     let _rows = definitions.len();
     let above = names(alloc, above)?;
@@ -47,9 +47,9 @@ fn add_objects_and_numbers(
     definitions: &mut Definitions,
     lists: &mut Lists,
 ) -> Result<(), AllocError>
-    requires { Knows definitions.old lists.old }
+    requires { Tells definitions.old lists.old }
     ensures defined { OnOk result (definitions.new ≡ all_defined definitions.old objects_and_numbers) }
-    ensures knows { OnOk result (Knows definitions.new lists.new) }
+    ensures tells { OnOk result (Tells definitions.new lists.new) }
 {
     add(alloc, definitions, lists, &"T", &[])?;
     add(alloc, definitions, lists, &"STANDARD-OBJECT", &["T"])?;
@@ -77,9 +77,9 @@ fn add_symbols_and_sequences(
     definitions: &mut Definitions,
     lists: &mut Lists,
 ) -> Result<(), AllocError>
-    requires { Knows definitions.old lists.old }
+    requires { Tells definitions.old lists.old }
     ensures defined { OnOk result (definitions.new ≡ all_defined definitions.old symbols_and_sequences) }
-    ensures knows { OnOk result (Knows definitions.new lists.new) }
+    ensures tells { OnOk result (Tells definitions.new lists.new) }
 {
     add(
         alloc,
@@ -121,9 +121,9 @@ fn add_functions_and_metaobjects(
     definitions: &mut Definitions,
     lists: &mut Lists,
 ) -> Result<(), AllocError>
-    requires { Knows definitions.old lists.old }
+    requires { Tells definitions.old lists.old }
     ensures defined { OnOk result (definitions.new ≡ all_defined definitions.old functions_and_metaobjects) }
-    ensures knows { OnOk result (Knows definitions.new lists.new) }
+    ensures tells { OnOk result (Tells definitions.new lists.new) }
 {
     add(alloc, definitions, lists, &"FUNCTION", &["T"])?;
     add(
@@ -173,16 +173,16 @@ fn add_functions_and_metaobjects(
 }
 
 /// Defines the predefined classes, where there is none.
-#[tactic(auto, using(crate::proofs::Listed::knows_none))]
+#[tactic(auto, using(crate::proofs::Listed::tells_none))]
 pub fn define_predefined(
     alloc: Global,
     definitions: &mut Definitions,
     lists: &mut Lists,
 ) -> Result<(), AllocError>
     requires none { definitions.old ≡ record { names = []; above = [] } }
-    requires empty { lists.old ≡ [] }
+    requires empty { lists.old.kept ≡ [] }
     ensures defined { OnOk result (definitions.new ≡ predefined) }
-    ensures knows { OnOk result (Knows definitions.new lists.new) }
+    ensures tells { OnOk result (Tells definitions.new lists.new) }
 {
     add_objects_and_numbers(alloc, definitions, lists)?;
     add_symbols_and_sequences(alloc, definitions, lists)?;

@@ -36,13 +36,14 @@ pub struct Hierarchy {
 
 impl Model for Hierarchy {
     ghost use Rattle.clos_hierarchy.specs.Table.{Table};
-    ghost use Rattle.clos_hierarchy.specs.inner.Kept.{IsConsistent, Knows};
+    ghost use Rattle.clos_hierarchy.specs.inner.Kept.{IsConsistent};
+    ghost use Rattle.clos_hierarchy.specs.inner.Told.{Tells};
 
     ghost Value = { Table };
 
     ghost view = { λ a. record { classes = a.definitions; predefined = a.predefined; limit = a.limit } };
 
-    ghost invariant = { λ a. Knows a.definitions a.lists × IsConsistent a.definitions };
+    ghost invariant = { λ a. Tells a.definitions a.lists × IsConsistent a.definitions };
 }
 
 impl Hierarchy {

@@ -2,11 +2,14 @@
 ghost use Rattle.std.specs.Prelude.{◌≡◌, ◌||◌, ℕ, IfOk, OnOk};
 ghost use Rattle.clos_precedence.specs.Precedence.{has};
 ghost use Rattle.clos_precedence.specs.PrecedenceView.{numbers};
-ghost use Rattle.clos_hierarchy.specs.inner.Touched.{Ascends, begins_with, have_it, is_touched};
+ghost use Rattle.clos_hierarchy.specs.inner.Touched.{Ascends, Touches, begins_with, have_it, is_touched};
 
 use crate::below::Below;
+use crate::definitions::Definitions;
+use crate::direct::Direct;
 use crate::find::list_of;
 use crate::kept::Kept;
+use crate::woken::woken;
 use clos_precedence::contains;
 use lisp_data::ClassId;
 use std::alloc::{AllocError, Global};
@@ -68,21 +71,37 @@ fn in_order(alloc: Global, mut places: Vec<u64>) -> Result<Vec<ClassId>, AllocEr
     Ok(classes)
 }
 
-/// The classes that a definition of this one touches, in the order of their numbers, where these wait for others.
-pub fn touched(
+/// A class, these others, and those that have it in their lists, in the order of their numbers.
+fn gather(
     alloc: Global,
     kept: &[Kept],
-    waiting: &[ClassId],
+    woken: &[ClassId],
     below: &Below,
     class: ClassId,
 ) -> Result<Vec<ClassId>, AllocError>
-    ensures members { IfOk result (λ r. (n : ℕ) → has (numbers r.items) n ≡ is_touched kept.now (numbers waiting.now) below.now class.0 n) }
+    ensures members { IfOk result (λ r. (n : ℕ) → has (numbers r.items) n ≡ is_touched kept.now (numbers woken.now) below.now class.0 n) }
     ensures ordered { IfOk result (λ r. Ascends (numbers r.items)) }
 {
     let mut places = Vec::new(alloc);
     places.push(class.0)?;
-    add_all(&mut places, waiting)?;
-    add_below(&mut places, kept, class, below.of(class))?;
+    add_all(&mut places, woken)?;
+    add_below(&mut places, kept, class, below.of(class.0))?;
     let touched = in_order(alloc, places)?;
+    Ok(touched)
+}
+
+/// The classes that a definition of this one touches, in the order of their numbers.
+pub fn touched(
+    alloc: Global,
+    definitions: &Definitions,
+    kept: &[Kept],
+    direct: &Direct,
+    below: &Below,
+    class: ClassId,
+) -> Result<Vec<ClassId>, AllocError>
+    ensures { IfOk result (λ r. Touches definitions.now kept.now direct.now below.now class.0 (numbers r.items)) }
+{
+    let woken = woken(alloc, definitions, kept, direct, class)?;
+    let touched = gather(alloc, kept, woken.as_slice(), below, class)?;
     Ok(touched)
 }

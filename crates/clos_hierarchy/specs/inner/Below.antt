@@ -1,8 +1,8 @@
--- The classes below each class, as they are noted.
+-- Classes as they are noted in rows.
 use Rattle.std.specs.Prelude.{◌≡◌, ℕ, true, List, [], slice_get, unwrap_or}
 use Rattle.clos_precedence.specs.Precedence.{has}
 
--- those that are noted of a class
+-- those that are noted in a row
 abbrev pub below_at : List (List ℕ) → ℕ → List ℕ
 below_at rows n = unwrap_or (slice_get rows n) []
 

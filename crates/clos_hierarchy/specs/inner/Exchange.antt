@@ -38,15 +38,13 @@ IsPlace c kept defined = ((defined ≡ kept) × (c < kept)) ⊎ ((defined ≡ su
 abbrev pub reached : List Kept → ℕ → List Kept
 reached ks len = if nat_lt (length ks) len then ks ++ Lacking ∷ [] else ks
 
--- What is kept of these classes came in the place of what was kept of them. They are the class c, those that wait, and all that have
--- c in their lists.
-pub record Replaces (waiting ps : List ℕ) (c : ℕ) (olds ks now : List Kept) : Type 0 where
+-- What is kept of these classes came in the place of what was kept of them. The class c is among them, and all that have it in their
+-- lists.
+pub record Replaces (ps : List ℕ) (c : ℕ) (olds ks now : List Kept) : Type 0 where
   pub ordered : Ascends ps
   pub within : AreWithin ps now
   pub own : has ps c ≡ true
-  pub waits : (n : ℕ) → has waiting n ≡ true → has ps n ≡ true
   pub free : (n : ℕ) → has ps n ≡ false → has (list_in (listing_at ks n)) c ≡ false
   pub taken : olds ≡ map (kept_at ks) ps
   pub others : (n : ℕ) → has ps n ≡ false → kept_at now n ≡ kept_at ks n
   pub no_shorter : length ks ≤ length now
-  pub newest : (n : ℕ) → n < length now → (n < length ks) ⊎ (has ps n ≡ true)

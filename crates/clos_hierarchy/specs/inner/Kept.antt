@@ -110,4 +110,5 @@ pub record Changes (cs to : Classes) (c : ℕ) : Type 0 where
   pub rows : (k : ℕ) → (c == k) ≡ false → names_above to k ≡ names_above cs k
   pub numbers : (x : Name) (i : ℕ) → named cs x ≡ Some i → named to x ≡ Some i
   pub others : (x : Name) (i : ℕ) → named to x ≡ Some i → (c == i) ≡ false → named cs x ≡ Some i
+  pub back : (x : Name) → named to x ≡ Some c → c < length cs.names → named cs x ≡ Some c
   pub more : length cs.names ≤ length to.names

@@ -1,13 +1,15 @@
 -- The classes that a definition touches.
 use Rattle.std.specs.Prelude.{◌≡◌, ℕ, true, false, length, ◌==◌, ◌<◌, Bool, ◌&&◌, ◌||◌, List, [], ◌∷◌, if◌then◌else◌}
 use Rattle.clos_precedence.specs.Precedence.{has}
-use Rattle.clos_hierarchy.specs.Classes.{Classes, Listing, broken, is_broken, is_lacking, lacking, list_in, listed}
+use Rattle.clos_hierarchy.specs.Classes.{Classes, is_broken, is_lacking, list_in}
 use Rattle.clos_hierarchy.specs.Table.{is_other}
 use Rattle.lisp_data.specs.declared.ids.ClassId.{ClassId}
 use Rattle.clos_hierarchy.specs.declared.kept.Kept.{Kept}
 use Rattle.clos_hierarchy.specs.inner.Below.{below_at}
-use Rattle.clos_hierarchy.specs.inner.Kept.{Ends}
+use Rattle.clos_hierarchy.specs.inner.Direct.{Index}
+use Rattle.clos_hierarchy.specs.inner.Kept.{Ends, Keeps}
 use Rattle.clos_hierarchy.specs.inner.KeptView.{kept_at, listing_at, listing_of}
+use Rattle.clos_hierarchy.specs.inner.Woken.{Asleep, Sleeps}
 
 -- each number is below those after it
 abbrev pub Ascends : List ℕ → Type 0
@@ -23,9 +25,19 @@ begins_with (x ∷ xs) n = x == n
 abbrev pub have_it : List Kept → ℕ → List ℕ → ℕ → Bool
 have_it ks c ns n = has ns n && has (list_in (listing_at ks n)) c
 
--- the class itself, those that wait for others, which these are, and those that have it in their lists, as is noted
+-- the class itself, those of which something is said once it is defined, which these are, and those that have it in their lists, as is
+-- noted
 abbrev pub is_touched : List Kept → List ℕ → List (List ℕ) → ℕ → ℕ → Bool
-is_touched ks waiting rows c n = c == n || (has waiting n || have_it ks c (below_at rows c) n)
+is_touched ks woken rows c n = c == n || (has woken n || have_it ks c (below_at rows c) n)
+
+-- these are the classes that are touched where the class c was defined
+pub record Touches (to : Classes) (ks : List Kept) (d : Index) (rows : List (List ℕ)) (c : ℕ) (ps : List ℕ) : Type 0 where
+  pub woken : List ℕ
+  pub within : (n : ℕ) → has woken n ≡ true → n < length to.names
+  pub waited : (n : ℕ) → has woken n ≡ true → is_lacking (listing_at ks n) ≡ true
+  pub sleep : Asleep to (listing_at ks) d c → (n : ℕ) → Sleeps to (listing_at ks) woken n
+  pub members : (n : ℕ) → has ps n ≡ is_touched ks woken rows c n
+  pub ordered : Ascends ps
 
 -- what is kept of all others stays
 abbrev pub OthersStay : List ℕ → List Kept → List Kept → Type 0
@@ -39,25 +51,21 @@ AreWithin ns ks = (n : ℕ) → has ns n ≡ true → n < length ks
 abbrev pub AllEnd : Classes → List Kept → List ℕ → Type 0
 AllEnd cs ks ns = (n : ℕ) → has ns n ≡ true → Ends cs ks n
 
--- the classes of which nothing is said are among these
-abbrev pub WaitWithin : List ℕ → List Kept → Type 0
-WaitWithin ns ks = (n : ℕ) → n < length ks → is_lacking (listing_at ks n) ≡ true → has ns n ≡ true
+-- nothing more is found of any other
+abbrev pub EndElse : Classes → List ℕ → List Kept → Type 0
+EndElse cs ns ks = (n : ℕ) → has ns n ≡ false → Ends cs ks n
 
--- whether there is no list
-abbrev pub is_unlisted : Listing → Bool
-is_unlisted lacking = true
-is_unlisted broken = true
-is_unlisted (listed l) = false
+-- whatever is kept of these, nothing more is found of the others
+abbrev pub Closes : Classes → List ℕ → List Kept → Type 0
+Closes cs ns ks = (now : List Kept) → OthersStay ns ks now → Keeps cs now → EndElse cs ns now
+
+-- of no class it is said that there is no list
+abbrev pub NoneBroken : List Kept → Type 0
+NoneBroken ks = (n : ℕ) → is_broken (listing_at ks n) ≡ false
 
 -- of no other class it is said that there is no list
 abbrev pub NoneElse : List ℕ → List Kept → Type 0
 NoneElse ns ks = (n : ℕ) → has ns n ≡ false → is_broken (listing_at ks n) ≡ false
-
--- these are the classes that have no list
-pub record AreWaiting (ns : List ℕ) (ks : List Kept) : Type 0 where
-  pub within : AreWithin ns ks
-  pub all : (n : ℕ) → n < length ks → is_unlisted (listing_at ks n) ≡ true → has ns n ≡ true
-  pub only : (n : ℕ) → has ns n ≡ true → is_unlisted (listing_at ks n) ≡ true
 
 -- of each class it is noted which classes have it in their lists
 abbrev pub AreNoted : List (List ℕ) → List Kept → Type 0

@@ -6,9 +6,9 @@ use Rattle.clos_hierarchy.proofs.Restarted.{replaced_is}
 use Rattle.clos_hierarchy.proofs.place.put_back.Goals as goal
 
 pub returns-clause-back : goal.returns-clause-back
-returns-clause-back c = λ ns k ks r h.
+returns-clause-back c = λ k ks r h.
     c.truncate.ensures.items ∙ ap (take c.args.len) c.exchange.ensures.kept ∙ ap (λ v. take c.args.len (put_all (numbers v) c.args.replaced.olds.items c.args.kept.now.items)) c.as_slice.ensures.value
-    ∙ put_back_is ns (numbers c.args.replaced.places.items) k c.args.replaced.olds.items ks c.args.kept.now.items c.args.len r h
+    ∙ put_back_is (numbers c.args.replaced.places.items) k c.args.replaced.olds.items ks c.args.kept.now.items c.args.len r h
 
 pub returns-clause-found : goal.returns-clause-found
 returns-clause-found c =

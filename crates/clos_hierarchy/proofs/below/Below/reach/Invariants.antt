@@ -6,4 +6,4 @@ abbrev pub invariant-loop-alloc : goal.invariant-loop-alloc
 invariant-loop-alloc l = Grows l.fn.self (map (λ s. s.keys) l.self-inside.rows.items)
 
 abbrev pub decreases-loop-alloc : goal.decreases-loop-alloc
-decreases-loop-alloc l = l.fn.class.0 + 1 - length l.self-inside.rows.items
+decreases-loop-alloc l = l.fn.row + 1 - length l.self-inside.rows.items

@@ -7,18 +7,18 @@ use Rattle.clos_hierarchy.specs.Ways.{IsSuperclass, IsSelfOrAbove, IsIncomplete}
 use Rattle.clos_hierarchy.proofs.Consistent.{no_list_told, members_told}
 use Rattle.clos_hierarchy.proofs.table.Hierarchy.precedence.Goals as goal
 
-told : (c : goal.After-listed) → option_map (λ l. numbers l.now) c.listed.result ≡ list_if (listing_at c.self.inside.lists c.args.class.0)
+told : (c : goal.After-listed) → option_map (λ l. numbers l.now) c.listed.result ≡ list_if (listing_at c.self.inside.lists.kept c.args.class.0)
 told c = c.listed.ensures ∙ ap (λ v. list_if (listing_at v c.args.class.0)) c.as_slice.ensures
 
 pub returns-clause-members : goal.returns-clause-members
 returns-clause-members c =
     subst (λ v. IfSome c.listed.result (λ l. (m : ℕ) → (has (numbers l.now) m ≡ true) ↔ IsSelfOrAbove v.classes c.args.class.0 m)) c.self.view_is
-    (members_told c.self.inside.definitions c.self.inside.lists c.args.class.0 c.listed.result (λ l. numbers l.now) c.self.invariant.0 (told c))
+    (members_told c.self.inside.definitions c.self.inside.lists.kept c.args.class.0 c.listed.result (λ l. numbers l.now) c.self.invariant.0.knows (told c))
 
 pub returns-clause-none : goal.returns-clause-none
 returns-clause-none c =
     subst (λ v. IsNone c.listed.result ↔ IsIncomplete v.classes c.args.class.0) c.self.view_is
-    (no_list_told c.self.inside.definitions c.self.inside.lists c.args.class.0 c.listed.result (λ l. numbers l.now) c.self.invariant.0 c.self.invariant.1 (told c))
+    (no_list_told c.self.inside.definitions c.self.inside.lists.kept c.args.class.0 c.listed.result (λ l. numbers l.now) c.self.invariant.0.knows c.self.invariant.1 (told c))
 
 pub returns-clause-no_circle : goal.returns-clause-no_circle
 returns-clause-no_circle c = subst (λ v. IsSuperclass v.classes c.args.class.0 c.args.class.0 → ⊥) c.self.view_is (λ q. c.self.invariant.1.no_circle c.args.class.0 q)
