@@ -1,0 +1,2 @@
+-- What stands behind the contracts.
+pub mod Facts
