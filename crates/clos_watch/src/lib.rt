@@ -1,0 +1,13 @@
+//! What hears of changes to classes and generic functions (AMOP chapter 6).
+#![tactic(auto)]
+
+mod callback;
+mod dependent;
+mod notice;
+mod recorder;
+mod reserved;
+
+pub use callback::{Callback, Listener};
+pub use dependent::Dependent;
+pub use notice::{Metaobject, Notice};
+pub use recorder::Recorder;
