@@ -1,2 +1,4 @@
 pub mod Answers
 pub mod Reserved
+pub mod Rows
+pub mod Watching

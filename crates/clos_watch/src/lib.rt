@@ -6,8 +6,11 @@ mod dependent;
 mod notice;
 mod recorder;
 mod reserved;
+mod rows;
+mod watchers;
 
 pub use callback::{Callback, Listener};
 pub use dependent::Dependent;
 pub use notice::{Metaobject, Notice};
 pub use recorder::Recorder;
+pub use watchers::Watchers;

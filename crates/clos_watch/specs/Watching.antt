@@ -1,0 +1,46 @@
+-- The dependents that metaobjects have, by their places in the session's list of dependents.
+use Rattle.std.specs.Prelude.{ℕ, ◌==◌, Bool, false, List, [], ◌∷◌, ◌++◌, slice_get, unwrap_or, if◌then◌else◌}
+use Rattle.std.specs.List.{list_any}
+use Rattle.clos_watch.specs.declared.notice.Metaobject.{Metaobject}
+use Rattle.clos_watch.specs.declared.notice.Metaobject.TheVariants.{Class, Generic}
+use Rattle.clos_watch.specs.declared.notice.Notice.{Notice}
+use Rattle.clos_watch.specs.declared.notice.Notice.TheVariants.{ClassRedefined, MethodAdded, MethodRemoved, GenericRedefined}
+
+-- of each class and of each generic function, by its number, in order of addition
+pub record Watching : Type 0 where
+  pub classes : List (List ℕ)
+  pub generics : List (List ℕ)
+
+abbrev pub has : List ℕ → ℕ → Bool
+has xs n = list_any (λ x. n == x) xs
+
+abbrev pub row_at : List (List ℕ) → ℕ → List ℕ
+row_at rows n = unwrap_or (slice_get rows n) []
+
+-- the dependents of a metaobject
+abbrev pub dependents_of : Watching → Metaobject → List ℕ
+dependents_of w (Class c) = row_at w.classes c.0
+dependents_of w (Generic g) = row_at w.generics g.0
+
+-- whether they are one
+abbrev pub is_same : Metaobject → Metaobject → Bool
+is_same (Class c) (Class d) = c.0 == d.0
+is_same (Class c) (Generic g) = false
+is_same (Generic g) (Class c) = false
+is_same (Generic g) (Generic h) = g.0 == h.0
+
+-- these and one more, which comes last, unless it is among them
+abbrev pub with_place : List ℕ → ℕ → List ℕ
+with_place xs n = if has xs n then xs else xs ++ n ∷ []
+
+-- these without this one
+abbrev pub without_place : List ℕ → ℕ → List ℕ
+without_place [] n = []
+without_place (x ∷ xs) n = if n == x then xs else x ∷ without_place xs n
+
+-- what a notice is of
+abbrev pub changed : Notice → Metaobject
+changed (ClassRedefined c) = Class c
+changed (MethodAdded g m) = Generic g
+changed (MethodRemoved g m) = Generic g
+changed (GenericRedefined g) = Generic g
