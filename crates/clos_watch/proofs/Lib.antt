@@ -1,2 +1,4 @@
 pub mod Each
 pub mod Places
+pub mod Times
+pub mod Handed

@@ -1,5 +1,5 @@
 -- The dependents that metaobjects have, by their places in the session's list of dependents.
-use Rattle.std.specs.Prelude.{ℕ, ◌==◌, Bool, false, List, [], ◌∷◌, ◌++◌, slice_get, unwrap_or, if◌then◌else◌}
+use Rattle.std.specs.Prelude.{suc, ℕ, ◌==◌, Bool, false, List, [], ◌∷◌, ◌++◌, slice_get, unwrap_or, if◌then◌else◌}
 use Rattle.std.specs.List.{list_any}
 use Rattle.clos_watch.specs.declared.notice.Metaobject.{Metaobject}
 use Rattle.clos_watch.specs.declared.notice.Metaobject.TheVariants.{Class, Generic}
@@ -44,3 +44,8 @@ changed (ClassRedefined c) = Class c
 changed (MethodAdded g m) = Generic g
 changed (MethodRemoved g m) = Generic g
 changed (GenericRedefined g) = Generic g
+
+-- how many of these notices the dependent at this place hears
+abbrev pub times_told : Watching → List Notice → ℕ → ℕ
+times_told w [] n = 0
+times_told w (x ∷ xs) n = if has (dependents_of w (changed x)) n then suc (times_told w xs n) else times_told w xs n

@@ -1,4 +1,7 @@
 //! What dependents are told.
+ghost use Rattle.std.specs.Prelude.{◌≡◌};
+ghost use Rattle.clos_watch.specs.Watching.{changed};
+
 use lisp_data::{ClassId, GenericId, MethodId};
 
 /// What has dependents.
@@ -19,4 +22,19 @@ pub enum Notice {
     MethodRemoved(GenericId, MethodId),
     /// The function was defined again.
     GenericRedefined(GenericId),
+}
+
+impl Notice {
+    /// What changed.
+    pub fn metaobject(&self) -> Metaobject
+        ensures { result ≡ changed self.now }
+    {
+        match self {
+            Notice::ClassRedefined(class) => Metaobject::Class(*class),
+            Notice::MethodAdded(generic, _) | Notice::MethodRemoved(generic, _) => {
+                Metaobject::Generic(*generic)
+            }
+            Notice::GenericRedefined(generic) => Metaobject::Generic(*generic),
+        }
+    }
 }

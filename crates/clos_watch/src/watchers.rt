@@ -1,11 +1,13 @@
 //! Which dependents metaobjects have (AMOP chapter 6).
-ghost use Rattle.std.specs.Prelude.{◌≡◌, [], OnErr, OnOk, if◌then◌else◌};
+ghost use Rattle.std.specs.Prelude.{◌≡◌, ◌≤◌, ℕ, [], Some, OnErr, OnOk, length, slice_get, if◌then◌else◌};
 ghost use Rattle.clos_watch.specs.declared.notice.Metaobject.{Metaobject};
 ghost use Rattle.clos_watch.specs.Rows.{Once};
-ghost use Rattle.clos_watch.specs.Watching.{dependents_of, is_same, with_place, without_place};
+ghost use Rattle.clos_watch.specs.Watching.{dependents_of, is_same, times_told, with_place, without_place};
 
-use crate::notice::Metaobject;
+use crate::dependent::Dependent;
+use crate::notice::{Metaobject, Notice};
 use crate::rows::Rows;
+use lisp_data::Name;
 use std::alloc::{AllocError, Global};
 use std::marker::Model;
 
@@ -23,6 +25,18 @@ impl Model for Watchers {
     ghost Value = { Watching };
 
     ghost view = { λ a. record { classes = a.classes; generics = a.generics } };
+}
+
+/// A dependent that a session was handed, with its name.
+pub type Handed = (Name, Box<dyn Dependent>);
+
+/// Has a dependent have room for so many notices.
+fn prepare(dependent: &mut Handed, times: usize) -> Result<(), AllocError>
+    ensures ok { OnOk result (times ≤ room dependent.new.1) }
+    ensures told { told dependent.new.1 ≡ told dependent.old.1 }
+    ensures room { room dependent.old.1 ≤ room dependent.new.1 }
+{
+    dependent.1.prepare(times)
 }
 
 impl Watchers {
@@ -71,5 +85,40 @@ impl Watchers {
             Metaobject::Class(class) => self.classes.remove(class.0, place),
             Metaobject::Generic(generic) => self.generics.remove(generic.0, place),
         }
+    }
+
+    /// How many of these notices the dependent at this place hears.
+    fn times_told(&self, notices: &[Notice], place: usize) -> usize
+        ensures { result ≡ times_told self.now notices.now place }
+    {
+        let mut times = 0;
+        let mut left = notices;
+        while let Some((notice, others)) = left.split_first() {
+            if self.of(notice.metaobject()).contains(&place) {
+                times += 1;
+            }
+            left = others;
+        }
+        times
+    }
+
+    /// Has each dependent have room for all of these notices that it hears. Where memory is refused, none has heard more, and
+    /// none has less room.
+    pub fn prepare_all(
+        &self,
+        dependents: &mut [Handed],
+        notices: &[Notice],
+    ) -> Result<(), AllocError>
+        ensures len { length dependents.new ≡ length dependents.old }
+        ensures ok { OnOk result ((p : ℕ) (d : _) → slice_get dependents.new p ≡ Some d → times_told self.now notices.now p ≤ room d.1) }
+        ensures same { (p : ℕ) (d e : _) → slice_get dependents.old p ≡ Some d → slice_get dependents.new p ≡ Some e → (told e.1 ≡ told d.1) × (room d.1 ≤ room e.1) }
+    {
+        let mut place = 0;
+        while place < dependents.len() {
+            let times = self.times_told(notices, place);
+            prepare(&mut dependents[place], times)?;
+            place += 1;
+        }
+        Ok(())
     }
 }
