@@ -1,5 +1,5 @@
 -- The dependents that a session was handed, of which one after another changes.
-use Rattle.std.proofs.Common.{◌≡◌, ◌⊎◌, inl, inr, ℕ, zero, suc, ◌==◌, ◌+◌, ◌<◌, ◌≤◌, Bool, true, false, List, [], ◌∷◌, Option, Some, None, length, arith, refl, ap, sym, subst, ◌∙◌}
+use Rattle.std.proofs.Common.{◌≡◌, ◌⊎◌, inl, inr, ℕ, zero, suc, ◌==◌, ◌+◌, ◌<◌, ◌≤◌, Bool, true, false, List, [], ◌∷◌, Some, length, arith, refl, ap, sym, subst, ◌∙◌}
 use Rattle.std.specs.Prelude.{slice_get, slice_index_or, slice_set}
 use Rattle.std.proofs.lemmas.Bool.{eqb-false, eqb-true}
 use Rattle.clos_watch.specs.Watching.{Watching, times_told}
@@ -23,7 +23,7 @@ module _ {D : Type 0} where
   get_there (d ∷ ds) (suc p) zero e h = refl
   get_there (d ∷ ds) (suc p) (suc q) e h = get_there ds p q e (λ i. h (ap suc i))
 
-  some_is : (d e : D) → Some d ≡ Some e → d ≡ e
+  pub some_is : (d e : D) → Some d ≡ Some e → d ≡ e
   some_is d e h = cc
 
   -- what stands at a place after another one came to stand at p

@@ -2,3 +2,4 @@ pub mod Each
 pub mod Places
 pub mod Times
 pub mod Handed
+pub mod Telling

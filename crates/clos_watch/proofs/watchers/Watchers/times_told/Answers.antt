@@ -1,5 +1,5 @@
 use Rattle.std.proofs.Common.{◌≡◌, ◌+◌, ◌≤◌, length, ap, arith, subst, sym, ◌∙◌}
-use Rattle.clos_watch.specs.Watching.{changed, dependents_of, has, times_told}
+use Rattle.clos_watch.specs.Watching.{dependents_of, has, times_told}
 use Rattle.clos_watch.proofs.Times.{any_turned, times_more, times_same}
 use Rattle.clos_watch.proofs.watchers.Watchers.times_told.Goals as goal
 
@@ -9,7 +9,7 @@ loop-notice-preserved-then-contains c = (
       (subst (λ v. c.loop-notice.times + times_told c.args.self.now v c.args.place ≡ times_told c.args.self.now c.args.notices.now c.args.place) c.in-Some.ensures.cases.0 c.loop-notice.invariant.0)
       (ap (λ m. has (dependents_of c.args.self.now m) c.args.place) (sym c.metaobject.ensures) ∙ ap (λ xs. has xs c.args.place) (sym c.of.ensures.places) ∙ sym (any_turned c.of.result.now c.args.place) ∙ sym c.contains.ensures.value ∙ c.if-contains.true),
   (let l : length c.loop-notice.left.now ≡ length c.in-Some.others.now + 1 = ap length c.in-Some.ensures.cases.0 ∙ omega (arith) in
-  let m : c.loop-notice.times + length c.loop-notice.left.now ≤ length c.args.notices.now = c.loop-notice.invariant.1 in omega (arith, l, m)),
+      let m : c.loop-notice.times + length c.loop-notice.left.now ≤ length c.args.notices.now = c.loop-notice.invariant.1 in omega (arith, l, m)),
 )
 
 pub loop-notice-preserved : goal.loop-notice-preserved
@@ -18,5 +18,5 @@ loop-notice-preserved c = (
       (subst (λ v. c.loop-notice.times + times_told c.args.self.now v c.args.place ≡ times_told c.args.self.now c.args.notices.now c.args.place) c.in-Some.ensures.cases.0 c.loop-notice.invariant.0)
       (ap (λ m. has (dependents_of c.args.self.now m) c.args.place) (sym c.metaobject.ensures) ∙ ap (λ xs. has xs c.args.place) (sym c.of.ensures.places) ∙ sym (any_turned c.of.result.now c.args.place) ∙ sym c.contains.ensures.value ∙ c.if-contains.false),
   (let l : length c.loop-notice.left.now ≡ length c.in-Some.others.now + 1 = ap length c.in-Some.ensures.cases.0 ∙ omega (arith) in
-  let m : c.loop-notice.times + length c.loop-notice.left.now ≤ length c.args.notices.now = c.loop-notice.invariant.1 in omega (arith, l, m)),
+      let m : c.loop-notice.times + length c.loop-notice.left.now ≤ length c.args.notices.now = c.loop-notice.invariant.1 in omega (arith, l, m)),
 )
