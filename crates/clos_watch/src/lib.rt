@@ -13,4 +13,4 @@ pub use callback::{Callback, Listener};
 pub use dependent::Dependent;
 pub use notice::{Metaobject, Notice};
 pub use recorder::Recorder;
-pub use watchers::Watchers;
+pub use watchers::{Handed, Watchers};
