@@ -11,6 +11,7 @@ pub record Index : Type 0 where
   pub names : List Name
   pub rows : List (List ℕ)
 
+-- the row of the name at this place, where it has one
 abbrev pub row_if : Option ℕ → List (List ℕ) → List ℕ
 row_if None rows = []
 row_if (Some n) rows = below_at rows n
@@ -27,6 +28,7 @@ Spreads old new = (x : Name) (n : ℕ) → has (directly_below old x) n ≡ true
 abbrev pub AreDirect : Classes → Index → Type 0
 AreDirect cs d = (n : ℕ) (x : Name) → list_any (same_name x) (names_above cs n) ≡ true → has (directly_below d x) n ≡ true
 
+-- the classes that are noted below the name of a class, where there is such a class
 abbrev pub below_if : Index → Option Name → List ℕ
 below_if d None = []
 below_if d (Some x) = directly_below d x
