@@ -1,5 +1,5 @@
 //! The classes of which nothing was said, since superclasses of theirs were not defined, and of which something is said once
-//! this one is.
+//! a class is defined.
 ghost use Rattle.std.specs.Prelude.{◌≡◌, ◌<◌, ◌&&◌, ℕ, [], true, IfOk, OnOk, length};
 ghost use Rattle.clos_precedence.specs.Precedence.{has};
 ghost use Rattle.clos_precedence.specs.PrecedenceView.{numbers};

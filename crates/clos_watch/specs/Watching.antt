@@ -45,7 +45,11 @@ changed (MethodAdded g m) = Generic g
 changed (MethodRemoved g m) = Generic g
 changed (GenericRedefined g) = Generic g
 
--- how many of these notices the dependent at this place hears
+-- whether the dependent at this place hears a notice
+abbrev pub hears : Watching → Notice → ℕ → Bool
+hears w x n = has (dependents_of w (changed x)) n
+
+-- how many of these notices it hears
 abbrev pub times_told : Watching → List Notice → ℕ → ℕ
 times_told w [] n = 0
-times_told w (x ∷ xs) n = if has (dependents_of w (changed x)) n then suc (times_told w xs n) else times_told w xs n
+times_told w (x ∷ xs) n = if hears w x n then suc (times_told w xs n) else times_told w xs n

@@ -57,6 +57,7 @@ impl<T: Drop> Reserved<T> {
         let _ = self.items.push(item);
     }
 
+    /// What stands in it.
     pub fn as_slice(&self) -> &[T]
         ensures { result.now ≡ self.now.items }
     {

@@ -2,7 +2,7 @@
 ghost use Rattle.std.specs.Prelude.{◌≡◌, ◌<◌, ◌≤◌, ◌∷◌, ◌++◌, ℕ, suc, true, [], Some, OnErr, OnOk, length, slice_get, if◌then◌else◌};
 ghost use Rattle.clos_watch.specs.declared.notice.Metaobject.{Metaobject};
 ghost use Rattle.clos_watch.specs.Rows.{Once};
-ghost use Rattle.clos_watch.specs.Watching.{changed, dependents_of, has, is_same, times_told, with_place, without_place};
+ghost use Rattle.clos_watch.specs.Watching.{dependents_of, hears, is_same, times_told, with_place, without_place};
 
 use crate::dependent::Dependent;
 use crate::notice::{Metaobject, Notice};
@@ -134,11 +134,11 @@ impl Watchers {
     /// Tells a notice to each dependent of what changed, in the order in which they were added, and to no other. What they
     /// answer is dropped.
     pub fn tell_all(&self, dependents: &mut [Handed], notice: &Notice)
-        requires within { (p : ℕ) → has (dependents_of self.now (changed notice.now)) p ≡ true → p < length dependents.old }
-        requires room { (p : ℕ) (d : _) → has (dependents_of self.now (changed notice.now)) p ≡ true → slice_get dependents.old p ≡ Some d → 0 < room d.1 }
+        requires within { (p : ℕ) → hears self.now notice.now p ≡ true → p < length dependents.old }
+        requires room { (p : ℕ) (d : _) → hears self.now notice.now p ≡ true → slice_get dependents.old p ≡ Some d → 0 < room d.1 }
         ensures len { length dependents.new ≡ length dependents.old }
-        ensures told { (p : ℕ) (d e : _) → slice_get dependents.old p ≡ Some d → slice_get dependents.new p ≡ Some e → told e.1 ≡ (if has (dependents_of self.now (changed notice.now)) p then told d.1 ++ notice.now ∷ [] else told d.1) }
-        ensures room { (p : ℕ) (d e : _) → slice_get dependents.old p ≡ Some d → slice_get dependents.new p ≡ Some e → (if has (dependents_of self.now (changed notice.now)) p then suc (room e.1) else room e.1) ≡ room d.1 }
+        ensures told { (p : ℕ) (d e : _) → slice_get dependents.old p ≡ Some d → slice_get dependents.new p ≡ Some e → told e.1 ≡ (if hears self.now notice.now p then told d.1 ++ notice.now ∷ [] else told d.1) }
+        ensures room { (p : ℕ) (d e : _) → slice_get dependents.old p ≡ Some d → slice_get dependents.new p ≡ Some e → (if hears self.now notice.now p then suc (room e.1) else room e.1) ≡ room d.1 }
     {
         let mut left = self.of(notice.metaobject());
         while let Some((place, others)) = left.split_first() {
