@@ -8,10 +8,10 @@ use Rattle.clos_forms.specs.Form.{Form}
 use Rattle.clos_forms.specs.declared.operator.FunctionName.{FunctionName}
 use Rattle.clos_forms.specs.declared.operator.FunctionName.TheVariants.{Symbol, Setf}
 use Rattle.clos_definition_forms.specs.clos_generic.Table.{named as generic_named}
-use Rattle.clos_syntax.specs.Top.{top_of}
-use Rattle.clos_syntax.specs.declared.top.Top.{Top}
-use Rattle.clos_syntax.specs.declared.top.Top.TheVariants.{DefClass, DefGeneric, DefMethod, DefCombination, Defun, DefVar, RemoveMethod, AddDependent, RemoveDependent, InPackage, Expr}
-use Rattle.clos_syntax.specs.declared.variable.VariableDefinition.{VariableDefinition}
+use Rattle.clos_top.specs.Top.{top_of}
+use Rattle.clos_top.specs.declared.top.Top.{Top}
+use Rattle.clos_top.specs.declared.top.Top.TheVariants.{DefClass, DefGeneric, DefMethod, DefCombination, Defun, DefVar, RemoveMethod, AddDependent, RemoveDependent, InPackage, Expr}
+use Rattle.clos_top.specs.clos_syntax.declared.variable.VariableDefinition.{VariableDefinition}
 use Rattle.clos_definition_forms.specs.clos_world.Functions.{function_in}
 use Rattle.clos_definition_forms.specs.clos_world.Globals.{is_global}
 use Rattle.clos_definition_forms.specs.clos_world.World.{State, seen}

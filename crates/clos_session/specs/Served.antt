@@ -9,11 +9,11 @@ use Rattle.clos_forms.specs.Operator as of
 use Rattle.clos_lambda.specs.LambdaList.{entries_of}
 use Rattle.clos_lambda.specs.declared.lambda_list.LambdaList.{LambdaList}
 use Rattle.clos_lambda.specs.declared.lambda_list.Optional.{Optional}
-use Rattle.clos_syntax.specs.declared.class.ClassDefinition.{ClassDefinition}
-use Rattle.clos_syntax.specs.declared.generic.GenericDefinition.{GenericDefinition}
-use Rattle.clos_syntax.specs.declared.method.MethodDefinition.{MethodDefinition}
-use Rattle.clos_syntax.specs.declared.top.Top.{Top}
-use Rattle.clos_syntax.specs.declared.top.Top.TheVariants.{DefClass, DefGeneric, DefMethod, DefCombination, Defun, DefVar, RemoveMethod, AddDependent, RemoveDependent, InPackage, Expr}
+use Rattle.clos_top.specs.clos_syntax.declared.class.ClassDefinition.{ClassDefinition}
+use Rattle.clos_top.specs.clos_syntax.declared.generic.GenericDefinition.{GenericDefinition}
+use Rattle.clos_top.specs.clos_syntax.declared.method.MethodDefinition.{MethodDefinition}
+use Rattle.clos_top.specs.declared.top.Top.{Top}
+use Rattle.clos_top.specs.declared.top.Top.TheVariants.{DefClass, DefGeneric, DefMethod, DefCombination, Defun, DefVar, RemoveMethod, AddDependent, RemoveDependent, InPackage, Expr}
 use Rattle.clos_definition_forms.specs.clos_definition.Method.{eql_form}
 use Rattle.clos_forms.specs.clos_names.Callee.{callee_of}
 use Rattle.clos_forms.specs.clos_names.declared.callee.Callee.{Callee}

@@ -7,7 +7,7 @@ ghost use Rattle.clos_definition_forms.specs.clos_definition.Method.{eql_form};
 ghost use Rattle.clos_session.specs.Served.{are_inits_served, are_served, calls, is_served, is_served_as, is_served_class, is_served_function, is_served_generic, is_served_if_any, is_served_method, is_served_optional, is_served_top, reads, reads_first, serves};
 
 use clos_forms::{CalledName, Callee, Form, Forms, Operator, Place, is_function};
-use clos_syntax::{
+use clos_top::{
     ClassDefinition, DefaultInitarg, GenericDefinition, Key, Keys, LambdaList, MethodDefinition,
     Optional, ParameterSpecializer, SlotSpecifier, Top,
 };

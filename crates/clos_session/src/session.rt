@@ -14,7 +14,7 @@ use clos_definition_forms::{
     define_variable, defmethod, defun, evaluate, plain, remove_method,
 };
 use clos_forms::SyntaxFault;
-use clos_syntax::{Top, parse_top};
+use clos_top::{Top, parse_top};
 use lisp_data::{Datum, Items, Value};
 use std::alloc::{AllocError, Global};
 

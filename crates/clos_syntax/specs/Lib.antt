@@ -5,6 +5,3 @@ pub mod Variable
 pub mod Slot
 pub mod Class
 pub mod Generic
-pub mod Top
-pub mod Laws
-pub mod WellFormed

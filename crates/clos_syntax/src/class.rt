@@ -269,8 +269,9 @@ fn or_none(alloc: Global, defaults: Option<Sequence<DefaultInitarg>>) -> Sequenc
     }
 }
 
-/// A name, superclasses, slots, and options.
-pub(crate) fn parse_class(alloc: Global, elements: &Data) -> Result<ClassDefinition, SyntaxFault>
+/// The class of the data after `defclass`: a name, superclasses, slots, and options (HyperSpec 7.7, DEFCLASS). `Program` where
+/// they are none.
+pub fn parse_class(alloc: Global, elements: &Data) -> Result<ClassDefinition, SyntaxFault>
     ensures { Gives (λ c. c) result (class_in elements.now) }
 {
     match elements.split_first() {

@@ -18,11 +18,9 @@ pub struct FunctionDefinition {
     pub body: Forms,
 }
 
-/// A name, a lambda list, and a body.
-pub(crate) fn parse_function(
-    alloc: Global,
-    elements: &Data,
-) -> Result<FunctionDefinition, SyntaxFault>
+/// The function of the data after `defun`: a name, a lambda list, and a body (HyperSpec 5.3, DEFUN). `Program` where they are
+/// none.
+pub fn parse_function(alloc: Global, elements: &Data) -> Result<FunctionDefinition, SyntaxFault>
     ensures { Gives (λ d. d) result (function_in elements.now) }
 {
     match elements.split_first() {

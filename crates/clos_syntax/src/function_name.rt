@@ -38,8 +38,9 @@ fn unless_system(name: Name) -> Result<Name, SyntaxFault>
     unless_taken(name)
 }
 
-/// The name of a function that gets methods.
-pub(crate) fn parse_method_function(datum: &Datum) -> Result<FunctionName, SyntaxFault>
+/// The name of a function that gets methods (HyperSpec 11.1.2.1.2). `Program` where a program may not give it methods, or
+/// the datum is no name of a function.
+pub fn parse_method_function(datum: &Datum) -> Result<FunctionName, SyntaxFault>
     ensures { Gives (λ n. n) result (method_function_in (datum_of datum.now)) }
 {
     let name = parse_function_name(datum)?;

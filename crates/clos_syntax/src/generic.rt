@@ -189,11 +189,9 @@ fn fits(
     }
 }
 
-/// A name, a lambda list, and options.
-pub(crate) fn parse_generic(
-    alloc: Global,
-    elements: &Data,
-) -> Result<GenericDefinition, SyntaxFault>
+/// The generic function of the data after `defgeneric`: a name, a lambda list, and options (HyperSpec 7.7, DEFGENERIC).
+/// `Program` where they are none.
+pub fn parse_generic(alloc: Global, elements: &Data) -> Result<GenericDefinition, SyntaxFault>
     ensures { Gives (λ g. g) result (generic_in elements.now) }
 {
     match elements.split_first() {

@@ -1,4 +1,4 @@
-//! From data to checked top-level forms (HyperSpec 3.2.3.1).
+//! What is defined: classes, slots, generic functions, methods, functions and variables, from data (HyperSpec 7.7, 5.3).
 #![tactic(auto)]
 
 pub mod class;
@@ -7,14 +7,13 @@ mod function_name;
 pub mod generic;
 pub mod method;
 pub mod slot;
-pub mod top;
 pub mod variable;
 
-pub use class::{ClassDefinition, DefaultInitarg};
+pub use class::{ClassDefinition, DefaultInitarg, parse_class};
 pub use clos_lambda::{Key, Keys, LambdaList, Optional, Sequence};
-pub use function::FunctionDefinition;
-pub use generic::{CombinationUse, GenericDefinition};
-pub use method::{MethodDefinition, ParameterSpecializer};
+pub use function::{FunctionDefinition, parse_function};
+pub use function_name::parse_method_function;
+pub use generic::{CombinationUse, GenericDefinition, parse_generic};
+pub use method::{MethodDefinition, ParameterSpecializer, parse_method};
 pub use slot::{Accessor, Allocation, SlotSpecifier};
-pub use top::{Top, parse_top};
-pub use variable::{Definer, VariableDefinition};
+pub use variable::{Definer, VariableDefinition, parse_variable};

@@ -216,8 +216,9 @@ fn past_qualifiers(elements: &Data) -> &Data
     rest
 }
 
-/// Qualifiers, a specialized lambda list, and a body.
-pub(crate) fn parse_method(alloc: Global, elements: &Data) -> Result<MethodDefinition, SyntaxFault>
+/// The method of the data after its function's name: qualifiers, a specialized lambda list, and a body (HyperSpec 7.7,
+/// DEFMETHOD). `Program` where they are none.
+pub fn parse_method(alloc: Global, elements: &Data) -> Result<MethodDefinition, SyntaxFault>
     ensures { Gives (λ m. m) result (method_in elements.now) }
 {
     let qualifiers = leading_qualifiers(alloc, elements)?;

@@ -26,8 +26,9 @@ pub struct VariableDefinition {
     pub form: Option<Form>,
 }
 
-/// A name, and what is written after it.
-pub(crate) fn parse_variable(
+/// The variable of the data after `defvar` or `defparameter`: a name, and what is written after it (HyperSpec 5.3, DEFVAR).
+/// `Program` where they are none.
+pub fn parse_variable(
     alloc: Global,
     definer: Definer,
     elements: &Data,

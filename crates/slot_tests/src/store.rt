@@ -30,10 +30,19 @@ pub fn definition(alloc: Global, allocation: Allocation) -> Result<ClassDefiniti
     })
 }
 
-/// The layout of that class, with this cell.
+/// The layout of that class, with this cell, in a table of its own.
 fn layout(alloc: Global, cell: CellId) -> Result<Option<Layout>, ClassFault> {
-    let definition = definition(alloc, Allocation::Class)?;
     let mut classes = Classes::new(alloc, 1)?;
+    layout_in(alloc, &mut classes, cell)
+}
+
+/// The layout of that class, with this cell, in an empty table.
+fn layout_in(
+    alloc: Global,
+    classes: &mut Classes,
+    cell: CellId,
+) -> Result<Option<Layout>, ClassFault> {
+    let definition = definition(alloc, Allocation::Class)?;
     let class = classes.define(alloc, &definition, cell)?.class;
     match classes.layout(class) {
         None => Ok(None),
@@ -94,41 +103,37 @@ fn updated(
     Ok(was_stale && !store.is_stale(instance, other))
 }
 
+/// What is told of instances with these two layouts.
+fn use_instances(
+    store: &mut Store,
+    alloc: Global,
+    kept: &Layout,
+    other: &Layout,
+) -> Result<(i64, (usize, usize, usize, u64), bool), StoreFault> {
+    let number = written(store, alloc, kept)?;
+    let told = moved(store, alloc, kept, other)?;
+    let holds = updated(store, alloc, kept, other)?;
+    Ok((number, told, holds))
+}
+
+/// The number of the first of two new cells, and what is told of instances whose layouts have them.
+fn use_store(
+    store: &mut Store,
+    alloc: Global,
+) -> Option<(u64, (i64, (usize, usize, usize, u64), bool))> {
+    let first = cell(store).ok()?;
+    let second = cell(store).ok()?;
+    let kept = layout(alloc, first).ok()??;
+    let other = layout(alloc, second).ok()??;
+    let told = use_instances(store, alloc, &kept, &other).ok()?;
+    Some((first.0, told))
+}
+
 #[test]
 fn calls_succeed(rt: HostRuntime) -> Result<(), Fail> {
     let alloc = rt.alloc();
     let mut store = Store::new(alloc, 5, 2);
-    let Ok(first) = cell(&mut store) else {
-        assert!(rt; false);
-        return Ok(());
-    };
-    let Ok(second) = cell(&mut store) else {
-        assert!(rt; false);
-        return Ok(());
-    };
-    let Ok(Some(kept)) = layout(alloc, first) else {
-        assert!(rt; false);
-        return Ok(());
-    };
-    let Ok(Some(other)) = layout(alloc, second) else {
-        assert!(rt; false);
-        return Ok(());
-    };
-    assert_eq!(rt; first.0, 0);
-    let Ok(number) = written(&mut store, alloc, &kept) else {
-        assert!(rt; false);
-        return Ok(());
-    };
-    assert_eq!(rt; number, 5);
-    let Ok(told) = moved(&mut store, alloc, &kept, &other) else {
-        assert!(rt; false);
-        return Ok(());
-    };
-    assert_eq!(rt; told, (0, 0, 0, 3));
-    let Ok(holds) = updated(&mut store, alloc, &kept, &other) else {
-        assert!(rt; false);
-        return Ok(());
-    };
-    assert!(rt; holds);
+    let told = use_store(&mut store, alloc);
+    assert_eq!(rt; told, Some((0, (5, (0, 0, 0, 3), true))));
     Ok(())
 }

@@ -1,8 +1,8 @@
 //! Worked examples, each line a `defclass` or a question, and what it comes to.
 use clos_class::{ClassFault, Classes, Effective, Layout, NewCell};
 use clos_forms::{Form, Operator};
-use clos_syntax::{ClassDefinition, DefaultInitarg, Top, parse_top};
-use lisp_data::{CellId, ClassId, Name, Value};
+use clos_syntax::{ClassDefinition, DefaultInitarg, parse_class};
+use lisp_data::{CellId, ClassId, Datum, Name, Value};
 use lisp_reader::read_form;
 use std::alloc::{AllocError, Global};
 use std::process::Abort;
@@ -111,8 +111,11 @@ fn definition(alloc: Global, text: &str) -> Result<Option<ClassDefinition>, Allo
     let Ok(Some((datum, _))) = read_form(alloc, text.as_bytes(), 0) else {
         return Ok(None);
     };
-    match parse_top(alloc, &datum) {
-        Ok(Top::DefClass(definition)) => Ok(Some(definition)),
+    match &datum {
+        Datum::List(form) => match form.split_first() {
+            Some((_, rest)) => Ok(parse_class(alloc, rest).ok()),
+            None => Ok(None),
+        },
         _ => Ok(None),
     }
 }

@@ -2,19 +2,18 @@
 ghost use Rattle.std.specs.Prelude.{◌≡◌, IfOk};
 ghost use Rattle.lisp_data.specs.DatumView.{datum_of};
 ghost use Rattle.clos_forms.specs.Fault.{Gives};
-ghost use Rattle.clos_syntax.specs.Laws.{AreSpecialized};
-ghost use Rattle.clos_syntax.specs.Top.{any_has_method, any_top, defmethod_in, expression, has_method, headed_top, in_package, named_top, other_top, top_of, two_forms_in};
-ghost use Rattle.clos_syntax.specs.WellFormed.{AreWellFormed};
+ghost use Rattle.clos_top.specs.Laws.{AreSpecialized};
+ghost use Rattle.clos_top.specs.Top.{any_has_method, any_top, defmethod_in, expression, has_method, headed_top, in_package, named_top, other_top, top_of, two_forms_in};
+ghost use Rattle.clos_top.specs.WellFormed.{AreWellFormed};
 
-use crate::class::{ClassDefinition, parse_class};
-use crate::function::{FunctionDefinition, parse_function};
-use crate::function_name::parse_method_function;
-use crate::generic::{GenericDefinition, parse_generic};
-use crate::method::{MethodDefinition, parse_method};
-use crate::variable::{Definer, VariableDefinition, parse_variable};
 use clos_combination::{CombinationDefinition, parse_combination};
 use clos_forms::{Form, FunctionName, SyntaxFault, is_the, only};
 use clos_lambda::parse_plain_form;
+use clos_syntax::{
+    ClassDefinition, Definer, FunctionDefinition, GenericDefinition, MethodDefinition,
+    VariableDefinition, parse_class, parse_function, parse_generic, parse_method,
+    parse_method_function, parse_variable,
+};
 use lisp_data::{Data, Datum, Name};
 use std::alloc::Global;
 

@@ -14,8 +14,8 @@ use Rattle.clos_syntax.specs.FunctionName.{method_function_in}
 use Rattle.clos_syntax.specs.Generic.{generic_in}
 use Rattle.clos_syntax.specs.Method.{method_in}
 use Rattle.clos_syntax.specs.Variable.{variable_definition_in}
-use Rattle.clos_syntax.specs.declared.top.Top.{Top}
-use Rattle.clos_syntax.specs.declared.top.Top.TheVariants.{DefClass, DefGeneric, DefMethod, DefCombination, Defun, DefVar, RemoveMethod, AddDependent, RemoveDependent, InPackage, Expr}
+use Rattle.clos_top.specs.declared.top.Top.{Top}
+use Rattle.clos_top.specs.declared.top.Top.TheVariants.{DefClass, DefGeneric, DefMethod, DefCombination, Defun, DefVar, RemoveMethod, AddDependent, RemoveDependent, InPackage, Expr}
 use Rattle.clos_syntax.specs.declared.variable.Definer.TheVariants.{DefVar as a_defvar, DefParameter as a_defparameter}
 
 -- whether a method stands in the datum

@@ -16,8 +16,8 @@ use Rattle.clos_syntax.specs.declared.method.MethodDefinition.{MethodDefinition}
 use Rattle.clos_syntax.specs.declared.method.ParameterSpecializer.{ParameterSpecializer}
 use Rattle.clos_syntax.specs.declared.method.ParameterSpecializer.TheVariants.{Class, Eql}
 use Rattle.clos_syntax.specs.declared.slot.SlotSpecifier.{SlotSpecifier}
-use Rattle.clos_syntax.specs.declared.top.Top.{Top}
-use Rattle.clos_syntax.specs.declared.top.Top.TheVariants.{DefClass, DefGeneric, DefMethod, DefCombination, Defun, DefVar, RemoveMethod, AddDependent, RemoveDependent, InPackage, Expr}
+use Rattle.clos_top.specs.declared.top.Top.{Top}
+use Rattle.clos_top.specs.declared.top.Top.TheVariants.{DefClass, DefGeneric, DefMethod, DefCombination, Defun, DefVar, RemoveMethod, AddDependent, RemoveDependent, InPackage, Expr}
 use Rattle.clos_syntax.specs.declared.variable.VariableDefinition.{VariableDefinition}
 
 -- a form outside of any method's body

@@ -25,18 +25,18 @@ use Rattle.clos_syntax.specs.Class.{class_in, documentation_option_in}
 use Rattle.clos_syntax.specs.Function.{function_in}
 use Rattle.clos_syntax.specs.FunctionName.{method_function_in, new_function_in}
 use Rattle.clos_syntax.specs.Generic.{combination_use_in, fits, generic, generic_in, generic_option_in, generic_options_in, generic_with, method_option_in, symbols_in}
-use Rattle.clos_syntax.specs.Laws.{IsSpecialized, AreSpecialized}
+use Rattle.clos_top.specs.Laws.{IsSpecialized, AreSpecialized}
 use Rattle.clos_syntax.specs.Method.{method_in, method_with, past_qualifiers, qualified, qualifiers_in, required_in, specialized, specializer_in, specializers_in}
-use Rattle.clos_syntax.specs.Top.{any_top, defmethod_in, expression, headed_top, in_package, listed_top, named_top, other_top, two_forms_in}
+use Rattle.clos_top.specs.Top.{any_top, defmethod_in, expression, headed_top, in_package, listed_top, named_top, other_top, two_forms_in}
 use Rattle.clos_syntax.specs.Variable.{variable_definition_in}
 use Rattle.clos_syntax.specs.declared.generic.CombinationUse.{CombinationUse}
 use Rattle.clos_syntax.specs.declared.generic.GenericDefinition.{GenericDefinition}
 use Rattle.clos_syntax.specs.declared.generic.GenericOptions.{GenericOptions}
 use Rattle.clos_syntax.specs.declared.method.MethodDefinition.{MethodDefinition}
 use Rattle.clos_syntax.specs.declared.method.ParameterSpecializer.{ParameterSpecializer}
-use Rattle.clos_syntax.specs.declared.top.Top.{Top}
-use Rattle.clos_syntax.specs.declared.top.Top.TheVariants.{DefClass, DefGeneric, DefMethod, DefCombination, Defun, DefVar, RemoveMethod, AddDependent, RemoveDependent, InPackage, Expr}
-use Rattle.clos_syntax.proofs.WhereGiven.{nothing, passes, keeps, follows, either, one_for_each, all_of_each, Cases}
+use Rattle.clos_top.specs.declared.top.Top.{Top}
+use Rattle.clos_top.specs.declared.top.Top.TheVariants.{DefClass, DefGeneric, DefMethod, DefCombination, Defun, DefVar, RemoveMethod, AddDependent, RemoveDependent, InPackage, Expr}
+use Rattle.clos_top.proofs.WhereGiven.{nothing, passes, keeps, follows, either, one_for_each, all_of_each, Cases}
 
 -- ---- lambda lists keep their required parameters
 

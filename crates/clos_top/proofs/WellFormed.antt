@@ -33,9 +33,9 @@ use Rattle.clos_syntax.specs.FunctionName.{method_function_in, new_function_in}
 use Rattle.clos_syntax.specs.Generic.{combination_use_in, fits, generic, generic_in, generic_option_in, generic_options_in, generic_with, method_option_in, symbols_in}
 use Rattle.clos_syntax.specs.Method.{eql_specializer, listed_specializer, method_in, method_with, past_qualifiers, qualified, qualifiers_in, required_in, specialized, specializer_in, specializer_named, specializers_in}
 use Rattle.clos_syntax.specs.Slot.{accessors_in, allocation_in, are_slot_options, listed_slot, or_instance, slot_from, slot_in, slot_with}
-use Rattle.clos_syntax.specs.Top.{defmethod_in, two_forms_in}
+use Rattle.clos_top.specs.Top.{defmethod_in, two_forms_in}
 use Rattle.clos_syntax.specs.Variable.{documented, init_in, is_documentation, variable_definition_in}
-use Rattle.clos_syntax.specs.WellFormed.{AreWellFormed, HasInit, IsPlain, OfClass, OfDefault, OfFunction, OfGeneric, OfKey, OfKeys, OfLambdaList, OfMethod, OfOptional, OfSlot, OfSpecializer, OfVariable}
+use Rattle.clos_top.specs.WellFormed.{AreWellFormed, HasInit, IsPlain, OfClass, OfDefault, OfFunction, OfGeneric, OfKey, OfKeys, OfLambdaList, OfMethod, OfOptional, OfSlot, OfSpecializer, OfVariable}
 use Rattle.clos_syntax.specs.declared.class.ClassDefinition.{ClassDefinition}
 use Rattle.clos_syntax.specs.declared.class.DefaultInitarg.{DefaultInitarg}
 use Rattle.clos_syntax.specs.declared.function.FunctionDefinition.{FunctionDefinition}
@@ -48,12 +48,12 @@ use Rattle.clos_syntax.specs.declared.method.ParameterSpecializer.TheVariants.{C
 use Rattle.clos_syntax.specs.declared.slot.Accessor.{Accessor}
 use Rattle.clos_syntax.specs.declared.slot.Allocation.{Allocation}
 use Rattle.clos_syntax.specs.declared.slot.SlotSpecifier.{SlotSpecifier}
-use Rattle.clos_syntax.specs.declared.top.Top.{Top}
-use Rattle.clos_syntax.specs.declared.top.Top.TheVariants.{DefMethod}
+use Rattle.clos_top.specs.declared.top.Top.{Top}
+use Rattle.clos_top.specs.declared.top.Top.TheVariants.{DefMethod}
 use Rattle.clos_syntax.specs.declared.variable.Definer.{Definer}
 use Rattle.clos_syntax.specs.declared.variable.Definer.TheVariants.{DefVar, DefParameter}
 use Rattle.clos_syntax.specs.declared.variable.VariableDefinition.{VariableDefinition}
-use Rattle.clos_syntax.proofs.WhereGiven.{nothing, passes, keeps, either, all_of_each, single_law, each_given, Cases}
+use Rattle.clos_top.proofs.WhereGiven.{nothing, passes, keeps, either, all_of_each, single_law, each_given, Cases}
 
 form_law : (d : Dat) → IfSome (form_of Plain d) IsPlain
 form_law d = each_given IsPlain (form_of Plain d) (λ f e. form_is_well_formed full_room Plain d f e)

@@ -1,8 +1,8 @@
 -- What holds of each method that is read.
 use Rattle.std.specs.Prelude.{◌≡◌, All, ⊤, length}
 use Rattle.clos_syntax.specs.declared.method.MethodDefinition.{MethodDefinition}
-use Rattle.clos_syntax.specs.declared.top.Top.{Top}
-use Rattle.clos_syntax.specs.declared.top.Top.TheVariants.{DefClass, DefGeneric, DefMethod, DefCombination, Defun, DefVar, RemoveMethod, AddDependent, RemoveDependent, InPackage, Expr}
+use Rattle.clos_top.specs.declared.top.Top.{Top}
+use Rattle.clos_top.specs.declared.top.Top.TheVariants.{DefClass, DefGeneric, DefMethod, DefCombination, Defun, DefVar, RemoveMethod, AddDependent, RemoveDependent, InPackage, Expr}
 
 -- one specializer for each required parameter (7.6.2)
 abbrev pub IsSpecialized : MethodDefinition → Type 0

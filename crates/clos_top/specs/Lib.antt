@@ -1,0 +1,4 @@
+pub mod Top
+pub mod Laws
+pub mod WellFormed
+pub use Rattle.clos_syntax.specs as clos_syntax

@@ -1,0 +1,10 @@
+//! Top-level forms: from data to definitions and expressions that are checked (HyperSpec 3.2.3.1).
+#![tactic(auto)]
+
+mod top;
+
+pub use clos_syntax::{
+    ClassDefinition, DefaultInitarg, GenericDefinition, Key, Keys, LambdaList, MethodDefinition,
+    Optional, ParameterSpecializer, SlotSpecifier,
+};
+pub use top::{Top, parse_top};
