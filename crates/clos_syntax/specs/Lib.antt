@@ -5,3 +5,5 @@ pub mod Variable
 pub mod Slot
 pub mod Class
 pub mod Generic
+pub mod Laws
+pub mod WellFormed

@@ -1,3 +1,3 @@
-pub mod WhereGiven
+pub mod Cases
 pub mod Laws
 pub mod WellFormed

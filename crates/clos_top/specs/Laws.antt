@@ -1,14 +1,10 @@
--- What holds of each method that is read.
-use Rattle.std.specs.Prelude.{◌≡◌, All, ⊤, length}
-use Rattle.clos_syntax.specs.declared.method.MethodDefinition.{MethodDefinition}
+-- What holds of each method of a top-level form that is read.
+use Rattle.std.specs.Prelude.{All, ⊤}
+use Rattle.clos_syntax.specs.Laws.{IsSpecialized}
 use Rattle.clos_top.specs.declared.top.Top.{Top}
 use Rattle.clos_top.specs.declared.top.Top.TheVariants.{DefClass, DefGeneric, DefMethod, DefCombination, Defun, DefVar, RemoveMethod, AddDependent, RemoveDependent, InPackage, Expr}
 
--- one specializer for each required parameter (7.6.2)
-abbrev pub IsSpecialized : MethodDefinition → Type 0
-IsSpecialized m = length m.specializers ≡ length m.lambda_list.required
-
--- each method of a top-level form is
+-- it has one specializer for each required parameter
 abbrev pub AreSpecialized : Top → Type 0
 AreSpecialized (DefClass c) = ⊤
 AreSpecialized (DefGeneric g) = All IsSpecialized g.methods

@@ -3,7 +3,7 @@ use Rattle.clos_top.specs.Laws.{AreSpecialized}
 use Rattle.clos_top.specs.WellFormed.{AreWellFormed}
 use Rattle.clos_top.proofs.Laws.{specialized_cases}
 use Rattle.clos_top.proofs.WellFormed.{well_formed_cases}
-use Rattle.clos_top.proofs.WhereGiven.{given_so}
+use Rattle.clos_top.proofs.Cases.{given_so}
 use Rattle.clos_top.proofs.top.parse_top.Goals as goal
 
 pub returns-clause-specialized : goal.returns-clause-specialized

@@ -1,0 +1,3 @@
+pub mod WhereGiven
+pub mod Laws
+pub mod WellFormed
