@@ -4,12 +4,13 @@ ghost use Rattle.lisp_data.specs.Value.{Val};
 ghost use Rattle.lisp_data.specs.ValueView.{value_of};
 ghost use Rattle.clos_forms.specs.Quotation.{name_value};
 ghost use Rattle.clos_machine.specs.clos_world.World.{State, seen};
-ghost use Rattle.clos_machine.specs.Machine.{Answers};
+ghost use Rattle.clos_machine.specs.Machine.{Answers, AnswersWith};
+ghost use Rattle.clos_eval.specs.Host.{host_of};
 ghost use Rattle.clos_machine.specs.clos_meaning.Meaning.{evaluation};
 ghost use Rattle.clos_machine.specs.clos_meaning.Outcome.{Run, Gave, step_then, then_do};
 ghost use Rattle.clos_definition_forms.specs.Variable.{variable_defined, keeps_value, declared, given_value, value_given, room_below};
 
-use clos_eval::evaluate;
+use clos_eval::{Native, evaluate};
 use clos_forms::{Form, value_named};
 use clos_machine::{ConditionKind, Stop, World, plain};
 use clos_syntax::{Definer, VariableDefinition};
@@ -17,13 +18,16 @@ use lisp_data::{Name, Value};
 use std::alloc::Global;
 
 /// Defines a global variable.
+#[tactic(auto, using(clos_machine::proofs::Answering::answers_with))]
 pub fn define_variable(
     alloc: Global,
     world: &mut World,
+    natives: &[Native],
+    answers: &mut Vec<i64>,
     definition: VariableDefinition,
     steps: &mut u64,
 ) -> Result<Value, Stop>
-    ensures { Answers (variable_defined definition) (seen world.old) steps.old result (seen world.new) steps.new }
+    ensures { AnswersWith (host_of natives.now) (variable_defined definition) (seen world.old) steps.old answers.old.items result (seen world.new) steps.new answers.new.items }
 {
     let VariableDefinition {
         definer,
@@ -38,7 +42,7 @@ pub fn define_variable(
     }
     match form {
         None => declare(alloc, world, name, steps),
-        Some(form) => give_value(alloc, world, name, form, steps),
+        Some(form) => give_value(alloc, world, natives, answers, name, form, steps),
     }
 }
 
@@ -87,15 +91,17 @@ fn declare(alloc: Global, world: &mut World, name: Name, steps: &mut u64) -> Res
 fn give_value(
     alloc: Global,
     world: &mut World,
+    natives: &[Native],
+    answers: &mut Vec<i64>,
     name: Name,
     form: Form,
     steps: &mut u64,
 ) -> Result<Value, Stop>
-    ensures { Answers (given_value name form) (seen world.old) steps.old result (seen world.new) steps.new }
+    ensures { AnswersWith (host_of natives.now) (given_value name form) (seen world.old) steps.old answers.old.items result (seen world.new) steps.new answers.new.items }
 {
     let room = world.limits.depth.min(4_000);
     let below = room.saturating_sub(1);
-    match evaluate(alloc, world, form, below, steps) {
+    match evaluate(alloc, world, natives, answers, form, below, steps) {
         Ok(value) => set_value(alloc, world, name, value, steps),
         Err(stop) => Err(stop),
     }

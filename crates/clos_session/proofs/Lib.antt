@@ -1,3 +1,2 @@
 pub mod StepQuiet
 pub mod Definitions
-pub mod Serving
