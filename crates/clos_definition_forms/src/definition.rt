@@ -10,6 +10,7 @@ ghost use Rattle.clos_definition.specs.Generic.{eql_forms};
 ghost use Rattle.clos_definition.specs.Method.{eql_form};
 ghost use Rattle.clos_definition.specs.Removal.{with_removed};
 ghost use Rattle.clos_machine.specs.Machine.{Answers};
+ghost use Rattle.clos_eval.specs.Host.{AnswersBy};
 ghost use Rattle.clos_definition_forms.specs.Definition.{class_made, define_class, define_generic, define_method, generic_made, method_made, remove_method, takes_effect, value_at, values_removed};
 ghost use Rattle.clos_definition_forms.specs.Forms.{forms_evaluated};
 
@@ -19,6 +20,7 @@ use clos_definition::{
     Effect, check_class, check_generic, check_method, find_removable, generic_forms, make,
     make_class, method_forms, number_of, prepare_class, prepare_generic, prepare_method, remove,
 };
+use clos_eval::Native;
 use clos_forms::{Form, FunctionName};
 use clos_machine::{ConditionKind, Stop, World, plain};
 use clos_store::Slot;
@@ -31,15 +33,19 @@ use std::alloc::{AllocError, Global};
 pub fn defmethod(
     alloc: Global,
     world: &mut World,
+    natives: &[Native],
+    answers: &mut Vec<i64>,
     name: FunctionName,
     definition: MethodDefinition,
     steps: &mut u64,
 ) -> Result<Value, Stop>
-    ensures { Answers (define_method name definition) (seen world.old) steps.old result (seen world.new) steps.new }
+    ensures { AnswersBy natives.now (define_method name definition) world.old steps.old answers.old result world.new steps.new answers.new }
 {
     match check_method(alloc, world, &name, &definition) {
         Err(stop) => Err(stop),
-        Ok(()) => define_checked_method(alloc, world, name, definition, steps),
+        Ok(()) => {
+            define_checked_method(alloc, world, natives, answers, name, definition, steps)
+        },
     }
 }
 
@@ -48,16 +54,19 @@ pub fn defmethod(
 fn define_checked_method(
     alloc: Global,
     world: &mut World,
+    natives: &[Native],
+    answers: &mut Vec<i64>,
     name: FunctionName,
     definition: MethodDefinition,
     steps: &mut u64,
 ) -> Result<Value, Stop>
-    ensures { Answers (forms_evaluated (map eql_form definition.specializers) [] (method_made name definition)) (seen world.old) steps.old result (seen world.new) steps.new }
+    ensures { AnswersBy natives.now (forms_evaluated (map eql_form definition.specializers) [] (method_made name definition))
+        world.old steps.old answers.old result world.new steps.new answers.new }
 {
     let Ok(forms) = method_forms(alloc, &definition) else {
         return Err(Stop::Storage);
     };
-    match evaluate_forms(alloc, world, &forms, steps) {
+    match evaluate_forms(alloc, world, natives, answers, &forms, steps) {
         Err(stop) => Err(stop),
         Ok(values) => make_method(alloc, world, name, definition, &values, steps),
     }
@@ -87,14 +96,16 @@ fn make_method(
 pub fn defgeneric(
     alloc: Global,
     world: &mut World,
+    natives: &[Native],
+    answers: &mut Vec<i64>,
     definition: GenericDefinition,
     steps: &mut u64,
 ) -> Result<Value, Stop>
-    ensures { Answers (define_generic definition) (seen world.old) steps.old result (seen world.new) steps.new }
+    ensures { AnswersBy natives.now (define_generic definition) world.old steps.old answers.old result world.new steps.new answers.new }
 {
     match check_generic(alloc, world, &definition) {
         Err(stop) => Err(stop),
-        Ok(()) => define_checked_generic(alloc, world, definition, steps),
+        Ok(()) => define_checked_generic(alloc, world, natives, answers, definition, steps),
     }
 }
 
@@ -103,15 +114,18 @@ pub fn defgeneric(
 fn define_checked_generic(
     alloc: Global,
     world: &mut World,
+    natives: &[Native],
+    answers: &mut Vec<i64>,
     definition: GenericDefinition,
     steps: &mut u64,
 ) -> Result<Value, Stop>
-    ensures { Answers (forms_evaluated (eql_forms definition.methods) [] (generic_made definition)) (seen world.old) steps.old result (seen world.new) steps.new }
+    ensures { AnswersBy natives.now (forms_evaluated (eql_forms definition.methods) [] (generic_made definition))
+        world.old steps.old answers.old result world.new steps.new answers.new }
 {
     let Ok(forms) = generic_forms(alloc, &definition) else {
         return Err(Stop::Storage);
     };
-    match evaluate_forms(alloc, world, &forms, steps) {
+    match evaluate_forms(alloc, world, natives, answers, &forms, steps) {
         Err(stop) => Err(stop),
         Ok(values) => make_generic(alloc, world, definition, &values, steps),
     }
@@ -160,15 +174,25 @@ fn take_effect(
 pub fn defclass(
     alloc: Global,
     world: &mut World,
+    natives: &[Native],
+    answers: &mut Vec<i64>,
     definition: &ClassDefinition,
     steps: &mut u64,
 ) -> Result<Value, Stop>
-    ensures { Answers (define_class definition.now) (seen world.old) steps.old result (seen world.new) steps.new }
+    ensures { AnswersBy natives.now (define_class definition.now) world.old steps.old answers.old result world.new steps.new answers.new }
 {
     match check_class(alloc, world, definition) {
         Err(stop) => Err(stop),
         Ok(reserved) => {
-            define_checked_class(alloc, world, definition, reserved.cells.as_slice(), steps)
+            define_checked_class(
+                alloc,
+                world,
+                natives,
+                answers,
+                definition,
+                reserved.cells.as_slice(),
+                steps,
+            )
         }
     }
 }
@@ -178,16 +202,19 @@ pub fn defclass(
 fn define_checked_class(
     alloc: Global,
     world: &mut World,
+    natives: &[Native],
+    answers: &mut Vec<i64>,
     definition: &ClassDefinition,
     cells: &[NewCell],
     steps: &mut u64,
 ) -> Result<Value, Stop>
-    ensures { Answers (forms_evaluated (initforms cells.now) [] (class_made definition.now)) (seen world.old) steps.old result (seen world.new) steps.new }
+    ensures { AnswersBy natives.now (forms_evaluated (initforms cells.now) [] (class_made definition.now))
+        world.old steps.old answers.old result world.new steps.new answers.new }
 {
     let Ok(forms) = initforms(alloc, cells) else {
         return Err(Stop::Storage);
     };
-    match evaluate_forms(alloc, world, &forms, steps) {
+    match evaluate_forms(alloc, world, natives, answers, &forms, steps) {
         Err(stop) => Err(stop),
         Ok(values) => make_checked_class(alloc, world, definition, values, steps),
     }
@@ -263,16 +290,18 @@ fn make_prepared_class(
 pub fn remove_method(
     alloc: Global,
     world: &mut World,
+    natives: &[Native],
+    answers: &mut Vec<i64>,
     function: Form,
     method: Form,
     steps: &mut u64,
 ) -> Result<Value, Stop>
-    ensures { Answers (remove_method function method) (seen world.old) steps.old result (seen world.new) steps.new }
+    ensures { AnswersBy natives.now (remove_method function method) world.old steps.old answers.old result world.new steps.new answers.new }
 {
     let Ok(forms) = both(alloc, function, method) else {
         return Err(Stop::Storage);
     };
-    match evaluate_forms(alloc, world, &forms, steps) {
+    match evaluate_forms(alloc, world, natives, answers, &forms, steps) {
         Err(stop) => Err(stop),
         Ok(values) => remove_evaluated(alloc, world, &values, steps),
     }

@@ -2,9 +2,10 @@
 //! forms of eql specializers (HyperSpec 7.7 `defmethod`).
 ghost use Rattle.std.specs.Prelude.{◌≡◌, [], IfOk, IfErr};
 ghost use Rattle.clos_machine.specs.clos_world.World.{seen};
+ghost use Rattle.clos_eval.specs.Host.{host_of};
 ghost use Rattle.clos_definition_forms.specs.Forms.{EndsBefore, GoesOn, form_evaluated, forms_evaluated};
 
-use clos_eval::evaluate;
+use clos_eval::{Native, evaluate};
 use clos_forms::Form;
 use clos_machine::{Stop, World};
 use clos_store::Slot;
@@ -15,16 +16,20 @@ use std::alloc::Global;
 pub fn evaluate_forms(
     alloc: Global,
     world: &mut World,
+    natives: &[Native],
+    answers: &mut Vec<i64>,
     forms: &[Option<Form>],
     steps: &mut u64,
 ) -> Result<Vec<Slot>, Stop>
-    ensures values { IfOk result (λ r. GoesOn (forms_evaluated forms.now []) (seen world.old) steps.old r.items (seen world.new) steps.new) }
-    ensures stop { IfErr result (λ e. EndsBefore (forms_evaluated forms.now []) (seen world.old) steps.old e (seen world.new) steps.new) }
+    ensures values { IfOk result (λ r. GoesOn (host_of natives.now) (forms_evaluated forms.now [])
+        (seen world.old) steps.old answers.old.items r.items (seen world.new) steps.new answers.new.items) }
+    ensures stop { IfErr result (λ e. EndsBefore (host_of natives.now) (forms_evaluated forms.now [])
+        (seen world.old) steps.old answers.old.items e (seen world.new) steps.new answers.new.items) }
 {
     let mut values = Vec::new(alloc);
     let mut left = forms;
     while let Some((form, others)) = left.split_first() {
-        let value = evaluate_form(alloc, world, form, steps)?;
+        let value = evaluate_form(alloc, world, natives, answers, form, steps)?;
         values.push(value)?;
         left = others;
     }
@@ -36,11 +41,15 @@ pub fn evaluate_forms(
 fn evaluate_form(
     alloc: Global,
     world: &mut World,
+    natives: &[Native],
+    answers: &mut Vec<i64>,
     form: &Option<Form>,
     steps: &mut u64,
 ) -> Result<Slot, Stop>
-    ensures value { IfOk result (λ r. GoesOn (form_evaluated form.now) (seen world.old) steps.old r (seen world.new) steps.new) }
-    ensures stop { IfErr result (λ e. EndsBefore (form_evaluated form.now) (seen world.old) steps.old e (seen world.new) steps.new) }
+    ensures value { IfOk result (λ r. GoesOn (host_of natives.now) (form_evaluated form.now)
+        (seen world.old) steps.old answers.old.items r (seen world.new) steps.new answers.new.items) }
+    ensures stop { IfErr result (λ e. EndsBefore (host_of natives.now) (form_evaluated form.now)
+        (seen world.old) steps.old answers.old.items e (seen world.new) steps.new answers.new.items) }
 {
     let Some(form) = form else {
         return Ok(Slot::new(None));
@@ -49,6 +58,6 @@ fn evaluate_form(
         return Err(Stop::Storage);
     };
     let room = world.limits.depth.min(4_000).saturating_sub(1);
-    let value = evaluate(alloc, world, form, room, steps)?;
+    let value = evaluate(alloc, world, natives, answers, form, room, steps)?;
     Ok(Slot::new(Some(value)))
 }

@@ -1,11 +1,13 @@
 //! Evaluation: the machine takes one turn after another, up to the value of the whole.
 ghost use Rattle.clos_machine.specs.clos_world.World.{seen};
-ghost use Rattle.clos_machine.specs.Machine.{Answers, Takes};
+ghost use Rattle.clos_machine.specs.Machine.{TakesWith};
 ghost use Rattle.clos_machine.specs.clos_meaning.Meaning.{evaluation};
+ghost use Rattle.clos_eval.specs.Host.{AnswersBy, host_of};
 
 use crate::actions::{act, perform};
 use crate::forms::begin_form;
 use crate::frames::give;
+use crate::natives::call_native;
 use clos_calls::generic_calls::invoke;
 use clos_control::arguments::collect_values;
 use clos_control::binding::turn;
@@ -13,20 +15,24 @@ use clos_forms::Form;
 use clos_machine::locals::Locals;
 use clos_machine::machine::{Doing, Level, Levels, Machine};
 use clos_machine::{Arguments, Context, Stop, Values, World};
+use clos_native::Native;
 use lisp_data::Value;
 use std::alloc::Global;
 
-/// Evaluates a form with this much room for depth. Steps fall by those taken. Where memory is refused, the world is
-/// that after the steps taken.
+/// Evaluates a form with this much room for depth. Steps fall by those taken, and the answers of the host's functions that
+/// were called come after those that are there. Where memory is refused, the world is that after the steps taken.
 pub fn evaluate(
     alloc: Global,
     world: &mut World,
+    natives: &[Native],
+    answers: &mut Vec<i64>,
     form: Form,
     room: u64,
     steps: &mut u64,
 ) -> Result<Value, Stop>
-    ensures answer { Answers (evaluation room form) (seen world.old) steps.old result (seen world.new) steps.new }
-    ensures taken { Takes (evaluation room form) (seen world.old) steps.old result (seen world.new) steps.new }
+    ensures answer { AnswersBy natives.now (evaluation room form) world.old steps.old answers.old result world.new steps.new answers.new }
+    ensures taken { TakesWith (host_of natives.now) (evaluation room form)
+        (seen world.old) steps.old answers.old.items result (seen world.new) steps.new answers.new.items }
 {
     let Ok(arguments) = Arguments::new(alloc, Values::new(alloc)) else {
         return Err(Stop::Storage);
@@ -55,6 +61,9 @@ pub fn evaluate(
             }
             Doing::Turn(repetition, counter) => {
                 turn(alloc, &mut machine, world, repetition, counter, steps)
+            }
+            Doing::Native(values) => {
+                call_native(alloc, &machine, natives, answers, &values, steps)
             }
             Doing::Give(value) => match machine.levels.pop() {
                 None => return Ok(value),

@@ -3,7 +3,7 @@ ghost use Rattle.std.specs.Prelude.{◌≡◌, ◌⊎◌, ◌||◌, IfOk, IfErr,
 ghost use Rattle.std.specs.List.{list_any};
 ghost use Rattle.std.specs.Io.KnownBytes.{Keeps};
 ghost use Rattle.clos_system.specs.clos_world.Limits.{standard};
-ghost use Rattle.clos_system.specs.clos_session.Session.{state_of};
+ghost use Rattle.clos_system.specs.clos_session.Session.{host_in, standing_of};
 ghost use Rattle.clos_program.specs.Program.{Failed, Ran, RunsInput, fault_status, is_input, is_input_alone, status_of};
 
 use crate::fault::{Fault, report};
@@ -81,8 +81,8 @@ fn run_text<'a, I: Read, O: Write>(
     output: &mut O,
     echo: bool,
 ) -> Result<bool, Fault<'a>>
-    ensures finishes { IfOk result (Ran echo (I.remaining input.old) (state_of session.old) (state_of session.new) (O.contents output.old) (O.contents output.new)) }
-    ensures fails { IfErr result (λ _. Failed echo (I.remaining input.old) (state_of session.old) (state_of session.new) (O.contents output.old) (O.contents output.new)) }
+    ensures finishes { IfOk result (Ran (host_in session.old) echo (I.remaining input.old) (standing_of session.old) (standing_of session.new) (O.contents output.old) (O.contents output.new)) }
+    ensures fails { IfErr result (λ _. Failed (host_in session.old) echo (I.remaining input.old) (standing_of session.old) (standing_of session.new) (O.contents output.old) (O.contents output.new)) }
 {
     match run(alloc, session, input, output, echo) {
         Ok(summary) => Ok(summary.conditions > 0 || summary.storages > 0),
@@ -164,7 +164,7 @@ pub fn program<R: Files, I: Read, O: Write, E: Write>(
 ) -> u8
     ensures status { (result ≡ STATUS_DONE) ⊎ (result ≡ STATUS_CONDITION) ⊎ (result ≡ STATUS_FAULT) }
     ensures input { is_input_alone (map (λ f. f.now) settings.now.files.items) ≡ true
-        → RunsInput settings.now.echo (I.remaining input.old) (state_of session.old) (state_of session.new)
+        → RunsInput (host_in session.old) settings.now.echo (I.remaining input.old) (standing_of session.old) (standing_of session.new)
         (O.contents output.old) (O.contents output.new) result }
 {
     if is_input_alone(settings.files.as_slice()) {

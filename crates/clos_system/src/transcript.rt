@@ -4,7 +4,7 @@ ghost use Rattle.lisp_data.specs.Print.{text_of};
 ghost use Rattle.lisp_data.specs.ValueView.{value_of};
 ghost use Rattle.lisp_data.specs.DatumView.{datum_of};
 ghost use Rattle.clos_session.specs.clos_world.World.{State, seen, names_of};
-ghost use Rattle.clos_session.specs.Session.{state_of};
+ghost use Rattle.clos_session.specs.Session.{host_in, standing_of};
 ghost use Rattle.clos_system.specs.Transcript.{ends_line, fresh_line, condition_text, storage_text, told_for, counted_for, Finishes, Faults, Performs, FailsAfter, OverText, RunFaults, SourceFails};
 
 use clos_session::{Condition, Session, Stop, World};
@@ -58,9 +58,11 @@ pub fn run<R: Read, W: Write>(
     echo: bool,
 ) -> Result<Summary, RunFault>
     ensures finishes { IfOk result (λ n. OverText (R.remaining reader.old) (λ text.
-        Finishes echo text (state_of session.old) (state_of session.new) (W.contents writer.old) (W.contents writer.new) n)) }
-    ensures faults { IfErr result (RunFaults echo (R.remaining reader.old) (state_of session.old) (state_of session.new)
+        Finishes (host_in session.old) echo text (standing_of session.old) (standing_of session.new) (W.contents writer.old) (W.contents writer.new) n)) }
+    ensures faults { IfErr result (RunFaults (host_in session.old) echo (R.remaining reader.old)
+        (standing_of session.old) (standing_of session.new)
         (W.contents writer.old) (W.contents writer.new)) }
+    ensures host { host_in session.new ≡ host_in session.old }
 {
     match read_source(alloc, reader) {
         Ok(source) => run_text(alloc, session, source.as_slice(), writer, echo),
@@ -106,8 +108,11 @@ fn run_text<W: Write>(
     writer: &mut W,
     echo: bool,
 ) -> Result<Summary, RunFault>
-    ensures finishes { IfOk result (Finishes echo text.now (state_of session.old) (state_of session.new) (W.contents writer.old) (W.contents writer.new)) }
-    ensures faults { IfErr result (Faults echo text.now (state_of session.old) (state_of session.new) (W.contents writer.old) (W.contents writer.new)) }
+    ensures finishes { IfOk result (Finishes (host_in session.old) echo text.now
+        (standing_of session.old) (standing_of session.new) (W.contents writer.old) (W.contents writer.new)) }
+    ensures faults { IfErr result (Faults (host_in session.old) echo text.now
+        (standing_of session.old) (standing_of session.new) (W.contents writer.old) (W.contents writer.new)) }
+    ensures host { host_in session.new ≡ host_in session.old }
 {
     let mut summary = Summary {
         forms: 0,
@@ -149,10 +154,12 @@ fn run_form<W: Write>(
     requires forms { summary.forms + 1 < 2 ^ 64 }
     requires conditions { summary.conditions ≤ summary.forms }
     requires storages { summary.storages ≤ summary.forms }
-    ensures performs { IfOk result (λ r. Performs echo (datum_of datum) (state_of session.old) (state_of session.new)
+    ensures performs { IfOk result (λ r. Performs (host_in session.old) echo (datum_of datum)
+        (standing_of session.old) (standing_of session.new)
         (W.contents writer.old) (W.contents writer.new) summary r.0 fresh r.1) }
     ensures few { IfOk result (λ r. (r.0.conditions ≤ r.0.forms) × (r.0.storages ≤ r.0.forms) × (r.0.forms ≡ summary.forms + 1)) }
-    ensures fails { IfErr result (FailsAfter (datum_of datum) (state_of session.old) (state_of session.new)) }
+    ensures fails { IfErr result (FailsAfter (host_in session.old) (datum_of datum) (standing_of session.old) (standing_of session.new)) }
+    ensures host { host_in session.new ≡ host_in session.old }
 {
     let from = session.written().len();
     let limit = session.world().limits.steps;

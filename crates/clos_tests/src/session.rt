@@ -27,7 +27,7 @@ const WITHOUT_STEPS: [(&str, u64, u64); 13] = [
 
 #[test]
 fn the_count_of_forms(rt: HostRuntime) -> Result<(), Fail> {
-    let mut session = Session::new(rt.alloc(), Limits::default())?;
+    let mut session = Session::new(rt.alloc(), Limits::default(), Vec::new(rt.alloc()))?;
     let mut source = b"(princ 1) (f) (defclass a () ()) (f) (princ 2)".as_slice();
     let mut output = Vec::new(rt.alloc());
     let summary = run(rt.alloc(), &mut session, &mut source, &mut output, false)?;
@@ -42,7 +42,7 @@ fn the_count_of_forms(rt: HostRuntime) -> Result<(), Fail> {
 
 /// The fault with which a run of a text ends, which writes this before.
 fn fault(alloc: Global, text: &[u8], output: &mut Vec<u8>) -> Result<Option<RunFault>, Fail> {
-    let mut session = Session::new(alloc, Limits::default())?;
+    let mut session = Session::new(alloc, Limits::default(), Vec::new(alloc))?;
     let mut source = text;
     Ok(run(alloc, &mut session, &mut source, output, false).err())
 }
@@ -143,7 +143,7 @@ impl Read for OneByOne {
 
 #[test]
 fn the_longest_source_byte_by_byte(rt: HostRuntime) -> Result<(), Fail> {
-    let mut session = Session::new(rt.alloc(), Limits::default())?;
+    let mut session = Session::new(rt.alloc(), Limits::default(), Vec::new(rt.alloc()))?;
     let mut longest = OneByOne { left: 16_777_216 };
     let mut output = Vec::new(rt.alloc());
     let summary = run(rt.alloc(), &mut session, &mut longest, &mut output, false)?;
@@ -160,7 +160,7 @@ fn fails_to_read(alloc: Global, session: &mut Session, left: u64, output: &mut V
 #[test]
 fn readers_that_fail(rt: HostRuntime) -> Result<(), Fail> {
     for left in [0, 1, 2] {
-        let mut session = Session::new(rt.alloc(), Limits::default())?;
+        let mut session = Session::new(rt.alloc(), Limits::default(), Vec::new(rt.alloc()))?;
         let mut output = Vec::new(rt.alloc());
         let fails = fails_to_read(rt.alloc(), &mut session, left, &mut output);
         assert!(rt; fails, "after {left} reads");
@@ -180,7 +180,7 @@ fn fails_to_write(alloc: Global, session: &mut Session, left: u64) -> bool {
 #[test]
 fn writers_that_fail(rt: HostRuntime) -> Result<(), Fail> {
     for (left, written) in [(0, "1"), (1, "12"), (2, "123")] {
-        let mut session = Session::new(rt.alloc(), Limits::default())?;
+        let mut session = Session::new(rt.alloc(), Limits::default(), Vec::new(rt.alloc()))?;
         let fails = fails_to_write(rt.alloc(), &mut session, left);
         assert!(rt; fails, "after {left} writes");
         assert_eq!(rt; str::from_utf8(session.written())?, written);
@@ -242,7 +242,7 @@ fn dotted_method(alloc: Global) -> Result<Datum, Fail> {
 #[test]
 fn submitted_data(rt: HostRuntime) -> Result<(), Fail> {
     let alloc = rt.alloc();
-    let mut session = Session::new(alloc, Limits::default())?;
+    let mut session = Session::new(alloc, Limits::default(), Vec::new(alloc))?;
     assert_eq!(rt; integer(&mut session, &datum(alloc, "(princ 1)")?), Some(1));
     assert_eq!(rt; session.written(), b"1".as_slice());
     for (text, number) in [("(1 . 2)", 1), ("'(1 . 2)", 28)] {
@@ -266,7 +266,7 @@ fn three_steps() -> Limits {
 /// Steps, and the number of the condition of `(princ 1)` within them, in a session that allows three.
 #[test]
 fn submitted_within_steps(rt: HostRuntime) -> Result<(), Fail> {
-    let mut session = Session::new(rt.alloc(), three_steps())?;
+    let mut session = Session::new(rt.alloc(), three_steps(), Vec::new(rt.alloc()))?;
     let form = datum(rt.alloc(), "(princ 1)")?;
     for (steps, number, written) in [(0, 29, 0), (2, 29, 0), (3, 0, 1), (u64::MAX, 0, 2)] {
         assert_eq!(rt; condition_within(&mut session, &form, steps), number);
@@ -277,7 +277,7 @@ fn submitted_within_steps(rt: HostRuntime) -> Result<(), Fail> {
 
 #[test]
 fn effective_methods_that_were_worked_out(rt: HostRuntime) -> Result<(), Fail> {
-    let mut session = Session::new(rt.alloc(), Limits::default())?;
+    let mut session = Session::new(rt.alloc(), Limits::default(), Vec::new(rt.alloc()))?;
     assert_eq!(rt; session.built(), 0);
     for (text, built) in [
         ("(defmethod g ((x integer)) x)", 0),
@@ -293,7 +293,7 @@ fn effective_methods_that_were_worked_out(rt: HostRuntime) -> Result<(), Fail> {
 
 #[test]
 fn the_deepest_datum(rt: HostRuntime) -> Result<(), Fail> {
-    let mut session = Session::new(rt.alloc(), Limits::default())?;
+    let mut session = Session::new(rt.alloc(), Limits::default(), Vec::new(rt.alloc()))?;
     let call = deepest(rt.alloc(), "F")?;
     assert_eq!(rt; call.nesting(), MAX_NESTING);
     assert_eq!(rt; condition(&mut session, &call), 30);
@@ -302,7 +302,7 @@ fn the_deepest_datum(rt: HostRuntime) -> Result<(), Fail> {
 
 #[test]
 fn the_deepest_quoted_datum(rt: HostRuntime) -> Result<(), Fail> {
-    let mut session = Session::new(rt.alloc(), Limits::default())?;
+    let mut session = Session::new(rt.alloc(), Limits::default(), Vec::new(rt.alloc()))?;
     let quoted = deepest(rt.alloc(), "QUOTE")?;
     assert_eq!(rt; quoted.nesting(), MAX_NESTING);
     assert!(rt; is_list(&session.submit(&quoted)));
@@ -311,7 +311,7 @@ fn the_deepest_quoted_datum(rt: HostRuntime) -> Result<(), Fail> {
 
 #[test]
 fn the_deepest_and_the_longest_form(rt: HostRuntime) -> Result<(), Fail> {
-    let mut session = Session::new(rt.alloc(), Limits::default())?;
+    let mut session = Session::new(rt.alloc(), Limits::default(), Vec::new(rt.alloc()))?;
     let deep = deepest(rt.alloc(), "PROGN")?;
     assert_eq!(rt; condition(&mut session, &deep), 30);
     let mut long = Data::new();
@@ -327,7 +327,7 @@ fn the_deepest_and_the_longest_form(rt: HostRuntime) -> Result<(), Fail> {
 #[test]
 fn lists_of_no_elements(rt: HostRuntime) -> Result<(), Fail> {
     let alloc = rt.alloc();
-    let mut session = Session::new(alloc, Limits::default())?;
+    let mut session = Session::new(alloc, Limits::default(), Vec::new(alloc))?;
     let none = || Datum::List(Data::new());
     assert!(rt; is_list(&session.submit(&none())));
     let clause = list_of(alloc, "COND", none(), Data::new())?;
@@ -339,7 +339,7 @@ fn lists_of_no_elements(rt: HostRuntime) -> Result<(), Fail> {
 
 /// A session with a class that can never have a precedence list, and one that waits for its superclass.
 fn with_incomplete_classes(alloc: Global) -> Result<Session, Fail> {
-    let mut session = Session::new(alloc, Limits::default())?;
+    let mut session = Session::new(alloc, Limits::default(), Vec::new(alloc))?;
     condition(
         &mut session,
         &datum(alloc, "(defclass a (standard-object b) ())")?,

@@ -100,7 +100,7 @@ fn perform(
     times: u64,
 ) -> Result<Performance, AllocError> {
     let mut performance = Performance {
-        session: Session::new(alloc, Limits::default())?,
+        session: Session::new(alloc, Limits::default(), Vec::new(alloc))?,
         replies: Vec::new(alloc),
     };
     performance.replies.reserve(script.len())?;

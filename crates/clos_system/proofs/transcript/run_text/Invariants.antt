@@ -1,11 +1,12 @@
 use Rattle.std.proofs.Common.{◌-◌, length}
-use Rattle.clos_session.specs.Session.{state_of}
+use Rattle.clos_session.specs.Session.{host_in, standing_of}
 use Rattle.clos_system.specs.Transcript.{Stands}
 use Rattle.clos_system.proofs.transcript.run_text.Given as goal
 
 abbrev pub invariant-loop-found : goal.invariant-loop-found
 invariant-loop-found g l =
-    Stands l.echo l.text (state_of l.fn.session) (state_of l.session) (g.W.Write.contents l.fn.writer) (g.W.Write.contents l.writer) l.at l.summary l.fresh
+    Stands (host_in l.fn.session) (host_in l.session) l.echo l.text (standing_of l.fn.session) (standing_of l.session)
+    (g.W.Write.contents l.fn.writer) (g.W.Write.contents l.writer) l.at l.summary l.fresh
 
 abbrev pub decreases-loop-found : goal.decreases-loop-found
 decreases-loop-found g l = length l.text - l.at
