@@ -4,8 +4,11 @@
 use clap::error::ErrorKind;
 use clos_command_line::Settings;
 use clos_program::{
-    Fault, STATUS_DONE, STATUS_FAULT, STATUS_USAGE, Session, limits, program, reads_input, report,
+    Fault, Native, Relation, STATUS_DONE, STATUS_FAULT, STATUS_USAGE, Session, affine, limits, low,
+    program, reads_input, report,
 };
+use lisp_data::Name;
+use std::alloc::AllocError;
 use std::io::{self, BufWriter, IsTerminal, Write};
 use std::process::ExitCode;
 
@@ -24,14 +27,40 @@ fn tell_waiting(rt: &HostRuntime) {
 
 /// Runs what the settings ask for, and writes to this output.
 fn run_over<O: Write>(rt: &HostRuntime, settings: &Settings<'_>, output: &mut O) -> u8 {
+    match run_session(rt, settings, output) {
+        Ok(status) => status,
+        Err(_) => fail(rt, Fault::Memory),
+    }
+}
+
+/// Runs what the settings ask for in a session, for which the functions `affine` and `low` are stored.
+fn run_session<O: Write>(
+    rt: &HostRuntime,
+    settings: &Settings<'_>,
+    output: &mut O,
+) -> Result<u8, AllocError> {
     let alloc = rt.alloc();
-    let Ok(mut session) = Session::new(alloc, limits(settings)) else {
-        return fail(rt, Fault::Memory);
+    let mut coefficients = Vec::new(alloc);
+    coefficients.push(3)?;
+    coefficients.push(-2)?;
+    let affine_relation = Relation::Clamped {
+        coefficients,
+        constant: 7,
+        lo: -1_000,
+        hi: 1_000,
     };
+    let low_relation = Relation::Within { lo: 0, hi: 15 };
+    let affine_name = Name::fixed(&"AFFINE");
+    let affine = Native::new(affine_name, 2, affine_relation, Box::new(alloc, affine)?);
+    let low = Native::new(Name::fixed(&"LOW"), 1, low_relation, Box::new(alloc, low)?);
+    let mut natives = Vec::new(alloc);
+    natives.push(affine)?;
+    natives.push(low)?;
+    let mut session = Session::new(alloc, limits(settings), natives)?;
     if reads_input(settings) {
         tell_waiting(rt);
     }
-    program(
+    Ok(program(
         rt,
         alloc,
         &mut session,
@@ -39,7 +68,7 @@ fn run_over<O: Write>(rt: &HostRuntime, settings: &Settings<'_>, output: &mut O)
         &mut rt.reader(),
         output,
         &mut rt.stderr(),
-    )
+    ))
 }
 
 /// Runs what the settings ask for. What goes to a terminal is written after each form, and not held back.

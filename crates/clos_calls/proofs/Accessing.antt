@@ -23,7 +23,7 @@ use Rattle.clos_machine.specs.clos_meaning.Calls.{keys_are_even, method_body_run
 use Rattle.clos_machine.specs.Machine.{Leads, at, inside, performed, resume}
 use Rattle.clos_machine.specs.clos_meaning.Meaning.{closed, meaning}
 use Rattle.clos_machine.specs.clos_meaning.GenericCalls.{invoked}
-use Rattle.clos_machine.specs.clos_meaning.Outcome.{Out, Gave, Stopped, Noted, Eval, Run, stopped, then_do}
+use Rattle.clos_machine.specs.clos_meaning.Outcome.{Out, Gave, Stopped, Asked, Looked, Noted, Eval, Run, stopped, then_do}
 use Rattle.clos_machine.specs.clos_meaning.Parameters.{sources}
 use Rattle.clos_machine.specs.clos_meaning.Slots.{instance_in, slot_answer, slot_changed, slot_put, slot_read}
 use Rattle.clos_machine.specs.clos_meaning.Updating.{due, restructured, told, updated, updated_if, updated_with}
@@ -33,7 +33,7 @@ use Rattle.clos_machine.specs.declared.machine.BuiltIn.TheVariants as built_in
 use Rattle.clos_machine.specs.declared.machine.Doing.{Doing}
 use Rattle.clos_machine.specs.declared.machine.Doing.TheVariants.{Perform}
 use Rattle.clos_machine.specs.declared.machine.Machine.{Machine}
-use Rattle.clos_machine.proofs.Turns.{leads_same}
+use Rattle.clos_machine.proofs.Turns.{asked_same, leads_same, looked_same}
 use Rattle.clos_calls.specs.Methods.{forms_run}
 
 -- ---- what is done with an instance that is updated first
@@ -43,6 +43,8 @@ module _ (go on : Val → Run) (h : (v : Val) (w : State) (s : ℕ) → go v w s
   then_same (Gave v w s) = h v w s
   then_same (Stopped c w s) = refl
   then_same (Noted n o) = ap (Noted n) (then_same o)
+  then_same (Looked name more) = looked_same name _ _ (λ n. then_same (more n))
+  then_same (Asked name xs more) = asked_same name xs _ _ (λ x. then_same (more x))
 
 module _ (ev : Eval) (i : ℕ) (go on : Run) (h : (w : State) (s : ℕ) → go w s ≡ on w s) (w : State) where
   restructured_same : (l : Layout) (vs : List Val) (s : ℕ) → restructured ev i l vs go w s ≡ restructured ev i l vs on w s

@@ -1,5 +1,6 @@
 -- Definition forms that are refused, and those that go on.
 use Rattle.std.proofs.Common.{◌≡◌, ℕ, List, [], ◌∷◌, Option, Some, None, Result, Ok, Err, map, length, refl, ap, sym, ◌∙◌, subst, arith}
+use Rattle.std.specs.Prelude.{ℤ}
 use Rattle.lisp_data.specs.Value.{Val, class, generic, method}
 use Rattle.lisp_data.specs.declared.value.Value.{Value}
 use Rattle.clos_class.specs.declared.reserve.NewCell.{NewCell}
@@ -20,13 +21,21 @@ use Rattle.clos_definition.specs.Method.{eql_form, method_refusal, with_defined_
 use Rattle.clos_definition.specs.Refusal.{StopsFor}
 use Rattle.clos_definition.specs.Removal.{Finds, removable, with_removed}
 use Rattle.clos_definition.specs.declared.effect.Effect.{Effect}
-use Rattle.clos_machine.specs.Machine.{Answers}
+use Rattle.clos_machine.specs.Machine.{Answers, AnswersWith}
+use Rattle.clos_machine.specs.clos_meaning.Host.{Host}
 use Rattle.clos_machine.specs.clos_meaning.Outcome.{Run, Stopped, leaves}
 use Rattle.clos_definition_forms.specs.Definition.{class_made, define_class, define_generic, define_method, generic_made, method_made, remove_method, removed_if, takes_effect, unless, value_at, values_removed}
 use Rattle.clos_definition_forms.specs.Forms.{EndsBefore, GoesOn, forms_evaluated}
-use Rattle.clos_definition_forms.proofs.Evaluations.{answers_same}
+use Rattle.clos_machine.proofs.Answering.{answers_as, answers_with}
 use Rattle.clos_definition_forms.proofs.Quiet.{class_forms_quiet, class_made_quiet, define_generic_quiet, define_method_quiet, generic_forms_quiet, generic_made_quiet, method_forms_quiet, method_made_quiet, define_class_quiet, remove_method_quiet, values_removed_quiet}
 use Rattle.clos_definition_forms.proofs.Evaluated.{forms_go_on, forms_stop}
+
+-- a run that does the same from there
+answers_same : (run run' : Run) (w : State) (s : ℕ) (r : Result Value Stop) (x : State) (j : ℕ) → ((i : ℕ) → run w i ≡ run' w i)
+    → Answers run w s r x j → Answers run' w s r x j
+answers_same run run' w s (Ok v) x j e a = sym (e s) ∙ a
+answers_same run run' w s (Err (Refused c)) x j e a = sym (e s) ∙ a
+answers_same run run' w s (Err Storage) x j e a = (a.0, a.1, subst (λ o. leaves o x 0) (e a.0) a.2)
 
 -- ---- a check, and then what goes on
 
@@ -41,9 +50,21 @@ module _ (o : Option Condition) (go : Run) (w u : State) where
   passes_at s j x r e h a =
       answers_same go (unless o go) w s r x j (λ i. sym (ap (λ p. unless p go w i) h)) (subst (λ v. Answers go v s r x j) e a)
 
+  -- the same, where functions of the host's may have answered
+  passes_with : (host : Host) (s j : ℕ) (past past' : List ℤ) (x : State) (r : Result Value Stop) → u ≡ w → o ≡ None
+      → AnswersWith host go u s past r x j past' → AnswersWith host (unless o go) w s past r x j past'
+  passes_with host s j past past' x r e h a =
+      answers_as host go (unless o go) w s past r x j past' (λ i. sym (ap (λ p. unless p go w i) h))
+      (subst (λ v. AnswersWith host go v s past r x j past') e a)
+
 -- no memory for the first step
 storage_at : (run : Run) (w : State) (s : ℕ) → leaves (run w 0) w 0 → Answers run w s (Err Storage) w s
 storage_at run w s l = (0, omega arith, l)
+
+-- the same, where functions of the host's may have answered before
+storage_with : (host : Host) (run : Run) (w : State) (s : ℕ) (past : List ℤ) → leaves (run w 0) w 0 → AnswersWith host run w s past
+    (Err Storage) w s past
+storage_with host run w s past l = answers_with host run w s past (Err Storage) w s (storage_at run w s l)
 
 -- an effect for which there is no memory
 pub effect_not_made : (v : Val) (t w u : State) (s : ℕ) → u ≡ w → Answers (takes_effect v t) w s (Err Storage) u s
@@ -57,31 +78,41 @@ takes_same v v' x x' w u y s j r e h g a =
 
 -- ---- defmethod
 
-module _ (name : FunctionName) (m : MethodDefinition) (w u : State) (s : ℕ) where
-  pub method_refused : (stop : Stop) → w.locals ≡ [] → StopsFor (method_refusal name m None w) stop → Answers (define_method name m) w s (Err stop) w s
+module _ (host : Host) (name : FunctionName) (m : MethodDefinition) (w u : State) (s : ℕ) (past past' : List ℤ) where
+  pub method_refused : (stop : Stop) → w.locals ≡ [] → StopsFor (method_refusal name m None w) stop
+      → AnswersWith host (define_method name m) w s past (Err stop) w s past
   method_refused stop l h =
-      stops_at (method_refusal name m None w) (forms_evaluated (map eql_form m.specializers) [] (method_made name m)) w w s stop refl (define_method_quiet name m w l) h
+      answers_with host (define_method name m) w s past (Err stop) w s
+      (stops_at (method_refusal name m None w) (forms_evaluated (map eql_form m.specializers) [] (method_made name m)) w w s stop refl
+      (define_method_quiet name m w l) h)
 
   pub method_evaluated : (j : ℕ) (r : Result Value Stop) → method_refusal name m None w ≡ None
-      → Answers (forms_evaluated (map eql_form m.specializers) [] (method_made name m)) w s r u j → Answers (define_method name m) w s r u j
+      → AnswersWith host (forms_evaluated (map eql_form m.specializers) [] (method_made name m)) w s past r u j past'
+      → AnswersWith host (define_method name m) w s past r u j past'
   method_evaluated j r h a =
-      passes_at (method_refusal name m None w) (forms_evaluated (map eql_form m.specializers) [] (method_made name m)) w w s j u r refl h a
+      passes_with (method_refusal name m None w) (forms_evaluated (map eql_form m.specializers) [] (method_made name m)) w w host s j past
+      past' u r refl h a
 
-  pub method_not_begun : w.locals ≡ [] → Answers (forms_evaluated (map eql_form m.specializers) [] (method_made name m)) w s (Err Storage) w s
-  method_not_begun l = storage_at (forms_evaluated (map eql_form m.specializers) [] (method_made name m)) w s (method_forms_quiet name m w l)
+  pub method_not_begun : w.locals ≡ [] → AnswersWith host (forms_evaluated (map eql_form m.specializers) [] (method_made name m)) w s past
+      (Err Storage) w s past
+  method_not_begun l = storage_with host (forms_evaluated (map eql_form m.specializers) [] (method_made name m)) w s past
+      (method_forms_quiet name m w l)
 
-  pub method_forms_stop : (fs : List (Option Form)) (k : ℕ) (stop : Stop) → fs ≡ map eql_form m.specializers → EndsBefore (forms_evaluated fs []) w s stop u k
-      → Answers (forms_evaluated (map eql_form m.specializers) [] (method_made name m)) w s (Err stop) u k
+  pub method_forms_stop : (fs : List (Option Form)) (k : ℕ) (stop : Stop) → fs ≡ map eql_form m.specializers
+      → EndsBefore host (forms_evaluated fs []) w s past stop u k past'
+      → AnswersWith host (forms_evaluated (map eql_form m.specializers) [] (method_made name m)) w s past (Err stop) u k past'
   method_forms_stop fs k stop e h =
-      forms_stop (map eql_form m.specializers) (method_made name m) w u s k stop (λ vs. method_made_quiet name m vs u)
-      (subst (λ l. EndsBefore (forms_evaluated l []) w s stop u k) e h)
+      forms_stop host (map eql_form m.specializers) (method_made name m) w u s k past past' stop (λ vs. method_made_quiet name m vs u)
+      (subst (λ l. EndsBefore host (forms_evaluated l []) w s past stop u k past') e h)
 
   pub method_forms_go_on : (fs : List (Option Form)) (k : ℕ) (vs : List (Option Val)) (r : Result Value Stop) (x : State) (j : ℕ) → fs ≡ map eql_form m.specializers
-      → GoesOn (forms_evaluated fs []) w s vs u k → Answers (method_made name m vs) u k r x j
-      → Answers (forms_evaluated (map eql_form m.specializers) [] (method_made name m)) w s r x j
+      → GoesOn host (forms_evaluated fs []) w s past vs u k past' → Answers (method_made name m vs) u k r x j
+      → AnswersWith host (forms_evaluated (map eql_form m.specializers) [] (method_made name m)) w s past r x j past'
   method_forms_go_on fs k vs r x j e h a =
-      forms_go_on (map eql_form m.specializers) (method_made name m) w u s k vs r x j (subst (λ l. GoesOn (forms_evaluated l []) w s vs u k) e h) a
+      forms_go_on host (map eql_form m.specializers) (method_made name m) w u s k past past' vs r x j
+      (subst (λ l. GoesOn host (forms_evaluated l []) w s past vs u k past') e h) a
 
+module _ (name : FunctionName) (m : MethodDefinition) (w u : State) (s : ℕ) where
   pub method_not_made : (vs : List (Option Val)) (stop : Stop) → u ≡ w → StopsFor (method_refusal name m (Some vs) w) stop → Answers (method_made name m vs) w s (Err stop) u s
   method_not_made vs stop e h =
       stops_at (method_refusal name m (Some vs) w) (takes_effect (method (length w.generics.methods)) (with_defined_method name m vs w)) w u s stop e (method_made_quiet name m vs w) h
@@ -96,30 +127,39 @@ module _ (name : FunctionName) (m : MethodDefinition) (w u : State) (s : ℕ) wh
 
 -- ---- defgeneric
 
-module _ (d : GenericDefinition) (w u : State) (s : ℕ) where
-  pub generic_refused : (stop : Stop) → w.locals ≡ [] → StopsFor (generic_refusal d None w) stop → Answers (define_generic d) w s (Err stop) w s
+module _ (host : Host) (d : GenericDefinition) (w u : State) (s : ℕ) (past past' : List ℤ) where
+  pub generic_refused : (stop : Stop) → w.locals ≡ [] → StopsFor (generic_refusal d None w) stop → AnswersWith host (define_generic d) w s
+      past (Err stop) w s past
   generic_refused stop l h =
-      stops_at (generic_refusal d None w) (forms_evaluated (eql_forms d.methods) [] (generic_made d)) w w s stop refl (define_generic_quiet d w l) h
+      answers_with host (define_generic d) w s past (Err stop) w s
+      (stops_at (generic_refusal d None w) (forms_evaluated (eql_forms d.methods) [] (generic_made d)) w w s stop refl
+      (define_generic_quiet d w l) h)
 
   pub generic_evaluated : (j : ℕ) (r : Result Value Stop) → generic_refusal d None w ≡ None
-      → Answers (forms_evaluated (eql_forms d.methods) [] (generic_made d)) w s r u j → Answers (define_generic d) w s r u j
-  generic_evaluated j r h a = passes_at (generic_refusal d None w) (forms_evaluated (eql_forms d.methods) [] (generic_made d)) w w s j u r refl h a
+      → AnswersWith host (forms_evaluated (eql_forms d.methods) [] (generic_made d)) w s past r u j past'
+      → AnswersWith host (define_generic d) w s past r u j past'
+  generic_evaluated j r h a = passes_with (generic_refusal d None w) (forms_evaluated (eql_forms d.methods) [] (generic_made d)) w w host s
+      j past past' u r refl h a
 
-  pub generic_not_begun : w.locals ≡ [] → Answers (forms_evaluated (eql_forms d.methods) [] (generic_made d)) w s (Err Storage) w s
-  generic_not_begun l = storage_at (forms_evaluated (eql_forms d.methods) [] (generic_made d)) w s (generic_forms_quiet d w l)
+  pub generic_not_begun : w.locals ≡ [] → AnswersWith host (forms_evaluated (eql_forms d.methods) [] (generic_made d)) w s past
+      (Err Storage) w s past
+  generic_not_begun l = storage_with host (forms_evaluated (eql_forms d.methods) [] (generic_made d)) w s past (generic_forms_quiet d w l)
 
-  pub generic_forms_stop : (fs : List (Option Form)) (k : ℕ) (stop : Stop) → fs ≡ eql_forms d.methods → EndsBefore (forms_evaluated fs []) w s stop u k
-      → Answers (forms_evaluated (eql_forms d.methods) [] (generic_made d)) w s (Err stop) u k
+  pub generic_forms_stop : (fs : List (Option Form)) (k : ℕ) (stop : Stop) → fs ≡ eql_forms d.methods
+      → EndsBefore host (forms_evaluated fs []) w s past stop u k past'
+      → AnswersWith host (forms_evaluated (eql_forms d.methods) [] (generic_made d)) w s past (Err stop) u k past'
   generic_forms_stop fs k stop e h =
-      forms_stop (eql_forms d.methods) (generic_made d) w u s k stop (λ vs. generic_made_quiet d vs u)
-      (subst (λ l. EndsBefore (forms_evaluated l []) w s stop u k) e h)
+      forms_stop host (eql_forms d.methods) (generic_made d) w u s k past past' stop (λ vs. generic_made_quiet d vs u)
+      (subst (λ l. EndsBefore host (forms_evaluated l []) w s past stop u k past') e h)
 
   pub generic_forms_go_on : (fs : List (Option Form)) (k : ℕ) (vs : List (Option Val)) (r : Result Value Stop) (x : State) (j : ℕ) → fs ≡ eql_forms d.methods
-      → GoesOn (forms_evaluated fs []) w s vs u k → Answers (generic_made d vs) u k r x j
-      → Answers (forms_evaluated (eql_forms d.methods) [] (generic_made d)) w s r x j
+      → GoesOn host (forms_evaluated fs []) w s past vs u k past' → Answers (generic_made d vs) u k r x j
+      → AnswersWith host (forms_evaluated (eql_forms d.methods) [] (generic_made d)) w s past r x j past'
   generic_forms_go_on fs k vs r x j e h a =
-      forms_go_on (eql_forms d.methods) (generic_made d) w u s k vs r x j (subst (λ l. GoesOn (forms_evaluated l []) w s vs u k) e h) a
+      forms_go_on host (eql_forms d.methods) (generic_made d) w u s k past past' vs r x j
+      (subst (λ l. GoesOn host (forms_evaluated l []) w s past vs u k past') e h) a
 
+module _ (d : GenericDefinition) (w u : State) (s : ℕ) where
   pub generic_not_made : (vs : List (Option Val)) (stop : Stop) → u ≡ w → StopsFor (generic_refusal d (Some vs) w) stop → Answers (generic_made d vs) w s (Err stop) u s
   generic_not_made vs stop e h =
       stops_at (generic_refusal d (Some vs) w) (takes_effect (generic (number w.generics d.name)) (with_defined_generic d vs w)) w u s stop e (generic_made_quiet d vs w) h
@@ -136,30 +176,41 @@ module _ (d : GenericDefinition) (w u : State) (s : ℕ) where
 
 -- A class that is not defined is a new one.
 
-module _ (d : ClassDefinition) (w u : State) (s : ℕ) where
-  pub class_refused : (stop : Stop) → w.locals ≡ [] → u ≡ w → StopsFor (class_refusal d (length (cells_needed d w)) w) stop → Answers (define_class d) w s (Err stop) u s
+module _ (host : Host) (d : ClassDefinition) (w u : State) (s : ℕ) (past past' : List ℤ) where
+  pub class_refused : (stop : Stop) → w.locals ≡ [] → u ≡ w → StopsFor (class_refusal d (length (cells_needed d w)) w) stop
+      → AnswersWith host (define_class d) w s past (Err stop) u s past
   class_refused stop l e h =
-      stops_at (class_refusal d (length (cells_needed d w)) w) (forms_evaluated (initforms (cells_needed d w)) [] (class_made d)) w u s stop e (define_class_quiet d w l) h
+      answers_with host (define_class d) w s past (Err stop) u s
+      (stops_at (class_refusal d (length (cells_needed d w)) w) (forms_evaluated (initforms (cells_needed d w)) [] (class_made d)) w u s
+      stop e (define_class_quiet d w l) h)
 
   pub class_evaluated : (cs : List NewCell) (j : ℕ) (x : State) (r : Result Value Stop) → u ≡ w → cs ≡ cells_needed d w → class_refusal d (length (cells_needed d w)) w ≡ None
-      → Answers (forms_evaluated (initforms cs) [] (class_made d)) u s r x j → Answers (define_class d) w s r x j
+      → AnswersWith host (forms_evaluated (initforms cs) [] (class_made d)) u s past r x j past' → AnswersWith host (define_class d) w s
+      past r x j past'
   class_evaluated cs j x r e q h a =
-      passes_at (class_refusal d (length (cells_needed d w)) w) (forms_evaluated (initforms (cells_needed d w)) [] (class_made d)) w u s j x r e h
-      (subst (λ l. Answers (forms_evaluated (initforms l) [] (class_made d)) u s r x j) q a)
+      passes_with (class_refusal d (length (cells_needed d w)) w) (forms_evaluated (initforms (cells_needed d w)) [] (class_made d)) w u
+      host s j past past' x r e h
+      (subst (λ l. AnswersWith host (forms_evaluated (initforms l) [] (class_made d)) u s past r x j past') q a)
 
-  pub class_not_begun : (fs : List (Option Form)) → w.locals ≡ [] → Answers (forms_evaluated fs [] (class_made d)) w s (Err Storage) w s
-  class_not_begun fs l = storage_at (forms_evaluated fs [] (class_made d)) w s (class_forms_quiet d fs w l)
+  pub class_not_begun : (fs : List (Option Form)) → w.locals ≡ [] → AnswersWith host (forms_evaluated fs [] (class_made d)) w s past
+      (Err Storage) w s past
+  class_not_begun fs l = storage_with host (forms_evaluated fs [] (class_made d)) w s past (class_forms_quiet d fs w l)
 
-  pub class_forms_stop : (fs gs : List (Option Form)) (k : ℕ) (stop : Stop) → fs ≡ gs → EndsBefore (forms_evaluated fs []) w s stop u k
-      → Answers (forms_evaluated gs [] (class_made d)) w s (Err stop) u k
+  pub class_forms_stop : (fs gs : List (Option Form)) (k : ℕ) (stop : Stop) → fs ≡ gs → EndsBefore host (forms_evaluated fs []) w s past
+      stop u k past'
+      → AnswersWith host (forms_evaluated gs [] (class_made d)) w s past (Err stop) u k past'
   class_forms_stop fs gs k stop e h =
-      forms_stop gs (class_made d) w u s k stop (λ vs. class_made_quiet d vs u) (subst (λ l. EndsBefore (forms_evaluated l []) w s stop u k) e h)
+      forms_stop host gs (class_made d) w u s k past past' stop (λ vs. class_made_quiet d vs u)
+      (subst (λ l. EndsBefore host (forms_evaluated l []) w s past stop u k past') e h)
 
   pub class_forms_go_on : (fs gs : List (Option Form)) (k : ℕ) (vs : List (Option Val)) (r : Result Value Stop) (x : State) (j : ℕ) → fs ≡ gs
-      → GoesOn (forms_evaluated fs []) w s vs u k → Answers (class_made d vs) u k r x j → Answers (forms_evaluated gs [] (class_made d)) w s r x j
+      → GoesOn host (forms_evaluated fs []) w s past vs u k past' → Answers (class_made d vs) u k r x j
+      → AnswersWith host (forms_evaluated gs [] (class_made d)) w s past r x j past'
   class_forms_go_on fs gs k vs r x j e h a =
-      forms_go_on gs (class_made d) w u s k vs r x j (subst (λ l. GoesOn (forms_evaluated l []) w s vs u k) e h) a
+      forms_go_on host gs (class_made d) w u s k past past' vs r x j
+      (subst (λ l. GoesOn host (forms_evaluated l []) w s past vs u k past') e h) a
 
+module _ (d : ClassDefinition) (w u : State) (s : ℕ) where
   pub class_not_made : (vs : List (Option Val)) (n : ℕ) (stop : Stop) → u ≡ w → n ≡ length vs → StopsFor (class_refusal d n w) stop → Answers (class_made d vs) w s (Err stop) u s
   class_not_made vs n stop e q h =
       stops_at (class_refusal d (length vs) w) (takes_effect (class (class_number d w)) (with_defined_class d vs w)) w u s stop e (class_made_quiet d vs w)
@@ -176,20 +227,23 @@ module _ (d : ClassDefinition) (w u : State) (s : ℕ) where
 
 -- ---- remove-method
 
-module _ (f m : Form) (w u : State) (s : ℕ) where
-  pub removal_not_begun : w.locals ≡ [] → Answers (remove_method f m) w s (Err Storage) w s
-  removal_not_begun l = storage_at (remove_method f m) w s (remove_method_quiet f m w l)
+module _ (host : Host) (f m : Form) (w u : State) (s : ℕ) (past past' : List ℤ) where
+  pub removal_not_begun : w.locals ≡ [] → AnswersWith host (remove_method f m) w s past (Err Storage) w s past
+  removal_not_begun l = storage_with host (remove_method f m) w s past (remove_method_quiet f m w l)
 
-  pub removal_forms_stop : (fs : List (Option Form)) (k : ℕ) (stop : Stop) → fs ≡ Some f ∷ Some m ∷ [] → EndsBefore (forms_evaluated fs []) w s stop u k
-      → Answers (remove_method f m) w s (Err stop) u k
+  pub removal_forms_stop : (fs : List (Option Form)) (k : ℕ) (stop : Stop) → fs ≡ Some f ∷ Some m ∷ []
+      → EndsBefore host (forms_evaluated fs []) w s past stop u k past'
+      → AnswersWith host (remove_method f m) w s past (Err stop) u k past'
   removal_forms_stop fs k stop e h =
-      forms_stop (Some f ∷ Some m ∷ []) values_removed w u s k stop (λ vs. values_removed_quiet vs u)
-      (subst (λ l. EndsBefore (forms_evaluated l []) w s stop u k) e h)
+      forms_stop host (Some f ∷ Some m ∷ []) values_removed w u s k past past' stop (λ vs. values_removed_quiet vs u)
+      (subst (λ l. EndsBefore host (forms_evaluated l []) w s past stop u k past') e h)
 
   pub removal_forms_go_on : (fs : List (Option Form)) (k : ℕ) (vs : List (Option Val)) (r : Result Value Stop) (x : State) (j : ℕ) → fs ≡ Some f ∷ Some m ∷ []
-      → GoesOn (forms_evaluated fs []) w s vs u k → Answers (values_removed vs) u k r x j → Answers (remove_method f m) w s r x j
+      → GoesOn host (forms_evaluated fs []) w s past vs u k past' → Answers (values_removed vs) u k r x j
+      → AnswersWith host (remove_method f m) w s past r x j past'
   removal_forms_go_on fs k vs r x j e h a =
-      forms_go_on (Some f ∷ Some m ∷ []) values_removed w u s k vs r x j (subst (λ l. GoesOn (forms_evaluated l []) w s vs u k) e h) a
+      forms_go_on host (Some f ∷ Some m ∷ []) values_removed w u s k past past' vs r x j
+      (subst (λ l. GoesOn host (forms_evaluated l []) w s past vs u k past') e h) a
 
 module _ (vs : List (Option Val)) (w : State) (s : ℕ) where
   pub removal_not_begun_yet : Answers (values_removed vs) w s (Err Storage) w s

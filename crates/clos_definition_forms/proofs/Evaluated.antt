@@ -1,5 +1,6 @@
 -- The evaluation of the forms of a definition.
-use Rattle.std.proofs.Common.{◌≡◌, ℕ, ◌+◌, List, [], ◌∷◌, ◌++◌, Option, Some, None, Result, Ok, Err, arith, ap, sym, ◌∙◌, subst, add_assoc}
+use Rattle.std.proofs.Common.{◌≡◌, ℕ, ◌+◌, List, [], ◌∷◌, ◌++◌, Option, Some, None, Result, Ok, Err, length, arith, ap, sym, ◌∙◌, subst, add_assoc, add-zero, append_assoc, append-nil}
+use Rattle.std.specs.Prelude.{ℤ}
 use Rattle.lisp_data.specs.Value.{Val}
 use Rattle.lisp_data.specs.ValueView.{value_of}
 use Rattle.lisp_data.specs.declared.value.Value.{Value}
@@ -8,9 +9,12 @@ use Rattle.clos_machine.specs.clos_world.World.{State, unbound}
 use Rattle.clos_machine.specs.clos_world.declared.condition.Stop.{Stop}
 use Rattle.clos_machine.specs.clos_world.declared.condition.Stop.TheVariants.{Refused, Storage}
 use Rattle.clos_machine.specs.clos_meaning.Contexts.{known}
-use Rattle.clos_machine.specs.Machine.{Answers, Takes}
+use Rattle.clos_machine.specs.Machine.{Answers, AnswersWith, TakesWith, leaves_by}
+use Rattle.clos_machine.specs.clos_meaning.Host.{Host, answered_by}
 use Rattle.clos_machine.specs.clos_meaning.Meaning.{evaluation}
-use Rattle.clos_machine.specs.clos_meaning.Outcome.{Noted, Out, Gave, Stopped, Run, then_do, leaves}
+use Rattle.clos_machine.specs.clos_meaning.Outcome.{Asked, Looked, Noted, Out, Gave, Stopped, Run, then_do, leaves}
+use Rattle.clos_machine.proofs.Answering.{answered_then, leaves_then, stopped_then}
+use Rattle.clos_machine.proofs.Runs.{quiet_answered}
 use Rattle.clos_machine.proofs.clos_meaning.Quiet.{evaluation_quiet}
 use Rattle.clos_definition_forms.specs.Forms.{EndsBefore, GoesOn, form_evaluated, forms_evaluated}
 use Rattle.clos_definition_forms.specs.Variable.{room_below}
@@ -21,6 +25,8 @@ use Rattle.clos_definition_forms.specs.Variable.{room_below}
 then_quiet : (o : Out) (go : Val → Run) (u : State) → leaves o u 0 → ((v : Val) → leaves (go v u 0) u 0) → leaves (then_do o go) u 0
 then_quiet (Stopped c x k) go u h q = h
 then_quiet (Noted n o) go u h q = then_quiet o go u h q
+then_quiet (Looked name more) go u h q = λ n. then_quiet (more n) go u (h n) q
+then_quiet (Asked name xs more) go u h q = absurd h
 then_quiet (Gave v x k) go u h q = subst (λ y. leaves (go v y k) u 0) (sym h.0) (subst (λ i. leaves (go v u i) u 0) (sym h.1) (q v))
 
 bare_quiet : (n : ℕ) (f : Form) (w : State) → w.locals ≡ [] → leaves (evaluation n f w 0) w 0
@@ -38,78 +44,167 @@ forms_quiet (c ∷ cs) vs go w e q =
 
 -- ---- one form
 
-pub no_form : (w : State) (s : ℕ) → GoesOn (form_evaluated None) w s None w s
-no_form w s = (0, omega arith, λ go t. ap (λ i. go None w i) (omega arith))
+pub no_form : (host : Host) (w : State) (s : ℕ) (past : List ℤ) → GoesOn host (form_evaluated None) w s past None w s past
+no_form host w s past = (
+  0,
+  [],
+  omega arith,
+  sym (append-nil past),
+  λ go t more. ap (λ i. answered_by host (go None w i) more)
+      (omega arith),
+)
 
-pub not_begun : (o : Option Form) (w : State) (s : ℕ) → w.locals ≡ [] → EndsBefore (form_evaluated o) w s Storage w s
-not_begun o w s e = (0, omega arith, λ go q. form_quiet o go w e q)
+pub not_begun : (host : Host) (o : Option Form) (w : State) (s : ℕ) (past : List ℤ) → w.locals ≡ [] → EndsBefore host (form_evaluated o) w s
+    past Storage w s past
+not_begun host o w s past e = (
+  0,
+  [],
+  omega arith,
+  sym (append-nil past),
+  λ go q. quiet_answered host (form_evaluated o go w 0) w 0
+      (form_quiet o go w e q),
+)
 
-module _ (f : Form) (n : ℕ) (w u : State) (s k : ℕ) where
+module _ (host : Host) (f : Form) (n : ℕ) (w u : State) (s k : ℕ) (past past' : List ℤ) where
   -- in this room
-  ended : (stop : Stop) → u.locals ≡ [] → Answers (evaluation (room_below w) f) w s (Err stop) u k → EndsBefore (form_evaluated (Some f)) w s stop u k
-  ended (Refused c) e h = λ go. ap (λ o. then_do o (λ v. go (Some v))) h
-  ended Storage e h = (h.0, h.1, λ go q. then_quiet (evaluation (room_below w) f w h.0) (λ v. go (Some v)) u h.2 (λ v. q (Some v)))
+  ended : (stop : Stop) → AnswersWith host (evaluation (room_below w) f) w s past (Err stop) u k past'
+      → EndsBefore host (form_evaluated (Some f)) w s past stop u k past'
+  ended (Refused c) h = (h.0, h.1, λ go. stopped_then host (evaluation (room_below w) f w s) (λ v. go (Some v)) h.0 c u k h.2)
+  ended Storage h = (
+    h.2,
+    h.0,
+    h.3,
+    h.1,
+    λ go q. leaves_then host (evaluation (room_below w) f w h.2) (λ v. go (Some v)) h.0 u h.4
+        (λ v. q (Some v)),
+  )
 
-  pub form_stops : (stop : Stop) → n ≡ room_below w → u.locals ≡ [] → Answers (evaluation n f) w s (Err stop) u k → EndsBefore (form_evaluated (Some f)) w s stop u k
-  form_stops stop r e h = ended stop e (subst (λ m. Answers (evaluation m f) w s (Err stop) u k) r h)
+  pub form_stops : (stop : Stop) → n ≡ room_below w → AnswersWith host (evaluation n f) w s past (Err stop) u k past'
+      → EndsBefore host (form_evaluated (Some f)) w s past stop u k past'
+  form_stops stop r h = ended stop (subst (λ m. AnswersWith host (evaluation m f) w s past (Err stop) u k past') r h)
 
-  pub form_gives : (v : Value) → n ≡ room_below w → Takes (evaluation n f) w s (Ok v) u k → GoesOn (form_evaluated (Some f)) w s (Some (value_of v)) u k
+  pub form_gives : (v : Value) → n ≡ room_below w → TakesWith host (evaluation n f) w s past (Ok v) u k past'
+      → GoesOn host (form_evaluated (Some f)) w s past (Some (value_of v)) u k past'
   form_gives v r h =
-      let g : Takes (evaluation (room_below w) f) w s (Ok v) u k = subst (λ m. Takes (evaluation m f) w s (Ok v) u k) r h in
-      (g.0, g.1, λ go t. ap (λ o. then_do o (λ x. go (Some x))) (g.2 t))
+      let g : TakesWith host (evaluation (room_below w) f) w s past (Ok v) u k past' =
+      subst (λ m. TakesWith host (evaluation m f) w s past (Ok v) u k past') r h in (
+        g.0,
+        g.1,
+        g.2,
+        g.3,
+        λ go t more. answered_then host (evaluation (room_below w) f w (g.0 + t)) (λ x. go (Some x)) g.1 more (value_of v) u t (g.4 t),
+      )
 
 -- ---- one after another
 
 -- The first of them are evaluated.
-abbrev pub Comes : List (Option Form) → State → ℕ → List (Option Form) → List (Option Val) → State → ℕ → Type 0
-Comes cs w s rest vs u k =
-    (taken : ℕ) × (s ≡ taken + k) × ((go : List (Option Val) → Run) (t : ℕ) → forms_evaluated cs [] go w (taken + t) ≡ forms_evaluated rest vs go u t)
+abbrev pub Comes : Host → List (Option Form) → State → ℕ → List ℤ → List (Option Form) → List (Option Val) → State → ℕ → List ℤ → Type 0
+Comes host cs w s past rest vs u k past' =
+    (taken : ℕ) × (used : List ℤ) × (s ≡ taken + k) × (past' ≡ past ++ used)
+    × ((go : List (Option Val) → Run) (t : ℕ) (more : List ℤ)
+    → answered_by host (forms_evaluated cs [] go w (taken + t)) (used ++ more) ≡ answered_by host (forms_evaluated rest vs go u t) more)
 
-pub none_yet : (cs : List (Option Form)) (w : State) (s : ℕ) → Comes cs w s cs [] w s
-none_yet cs w s = (0, omega arith, λ go t. ap (λ i. forms_evaluated cs [] go w i) (omega arith))
+pub none_yet : (host : Host) (cs : List (Option Form)) (w : State) (s : ℕ) (past : List ℤ) → Comes host cs w s past cs [] w s past
+none_yet host cs w s past = (
+  0,
+  [],
+  omega arith,
+  sym (append-nil past),
+  λ go t more. ap
+      (λ i. answered_by host (forms_evaluated cs [] go w i) more) (omega arith),
+)
 
-module _ (all : List (Option Form)) (w0 w u : State) (c : Option Form) (cs : List (Option Form)) (vs : List (Option Val)) (s0 s k : ℕ) where
-  pub one_more : (v : Option Val) → Comes all w0 s0 (c ∷ cs) vs w s → GoesOn (form_evaluated c) w s v u k → Comes all w0 s0 cs (vs ++ v ∷ []) u k
+-- answers that came after others
+later : (past past1 past2 first second : List ℤ) → past1 ≡ past ++ first → past2 ≡ past1 ++ second → past2 ≡ past ++ (first ++ second)
+later past past1 past2 first second e h = h ∙ ap (λ xs. xs ++ second) e ∙ append_assoc past first second
+
+module _ (host : Host) (all : List (Option Form)) (w0 w u : State) (c : Option Form) (cs : List (Option Form)) (vs : List (Option Val))
+    (s0 s k : ℕ) (past0 past past' : List ℤ) where
+  pub one_more : (v : Option Val) → Comes host all w0 s0 past0 (c ∷ cs) vs w s past → GoesOn host (form_evaluated c) w s past v u k past'
+      → Comes host all w0 s0 past0 cs (vs ++ v ∷ []) u k past'
   one_more v h g = (
     h.0 + g.0,
-    h.1 ∙ ap (λ i. h.0 + i) g.1 ∙ sym (add_assoc h.0 g.0 k),
-    λ go t. ap (λ i. forms_evaluated all [] go w0 i) (add_assoc h.0 g.0 t) ∙ h.2 go (g.0 + t) ∙ g.2 (λ x. forms_evaluated cs (vs ++ x ∷ []) go) t,
+    h.1 ++ g.1,
+    h.2 ∙ ap (λ i. h.0 + i) g.2 ∙ sym (add_assoc h.0 g.0 k),
+    later past0 past past' h.1 g.1 h.3 g.3,
+    λ go t more.
+        ap (λ i. answered_by host (forms_evaluated all [] go w0 i) (h.1 ++ g.1 ++ more)) (add_assoc h.0 g.0 t)
+        ∙ ap (answered_by host (forms_evaluated all [] go w0 (h.0 + (g.0 + t)))) (append_assoc h.1 g.1 more)
+        ∙ h.4 go (g.0 + t) (g.1 ++ more) ∙ g.4 (λ x. forms_evaluated cs (vs ++ x ∷ []) go) t more,
   )
 
-  pub one_stops : (stop : Stop) → u.locals ≡ [] → Comes all w0 s0 (c ∷ cs) vs w s → EndsBefore (form_evaluated c) w s stop u k
-      → EndsBefore (forms_evaluated all []) w0 s0 stop u k
-  one_stops (Refused d) e h g = λ go. ap (λ i. forms_evaluated all [] go w0 i) h.1 ∙ h.2 go s ∙ g (λ x. forms_evaluated cs (vs ++ x ∷ []) go)
+  pub one_stops : (stop : Stop) → u.locals ≡ [] → Comes host all w0 s0 past0 (c ∷ cs) vs w s past → EndsBefore host (form_evaluated c) w s
+      past stop u k past'
+      → EndsBefore host (forms_evaluated all []) w0 s0 past0 stop u k past'
+  one_stops (Refused d) e h g = (
+    h.1 ++ g.0,
+    later past0 past past' h.1 g.0 h.3 g.1,
+    λ go. ap (λ i. answered_by host (forms_evaluated all [] go w0 i) (h.1 ++ g.0)) h.2 ∙ h.4 go s g.0
+        ∙ g.2 (λ x. forms_evaluated cs (vs ++ x ∷ []) go),
+  )
   one_stops Storage e h g = (
     h.0 + g.0,
-    h.1 ∙ ap (λ i. h.0 + i) g.1 ∙ sym (add_assoc h.0 g.0 k),
+    h.1 ++ g.1,
+    h.2 ∙ ap (λ i. h.0 + i) g.2 ∙ sym (add_assoc h.0 g.0 k),
+    later past0 past past' h.1 g.1 h.3 g.3,
     λ go q.
-        subst (λ o. leaves o u 0) (sym (ap (λ i. forms_evaluated all [] go w0 i) (omega arith) ∙ h.2 go g.0))
-        (g.2 (λ x. forms_evaluated cs (vs ++ x ∷ []) go) (λ x. forms_quiet cs (vs ++ x ∷ []) go u e q)),
+        let y : leaves_by host (forms_evaluated (c ∷ cs) vs go w g.0) g.1 u 0 = g.4 (λ x. forms_evaluated cs (vs ++ x ∷ []) go)
+        (λ x. forms_quiet cs (vs ++ x ∷ []) go u e q) in
+        (y.0, h.4 go g.0 g.1 ∙ y.1, y.2),
   )
 
 -- memory ran out between two of them
-pub between : (all cs : List (Option Form)) (vs : List (Option Val)) (w0 w : State) (s0 s : ℕ) → w.locals ≡ [] → Comes all w0 s0 cs vs w s → EndsBefore (forms_evaluated all []) w0 s0 Storage w s
-between all cs vs w0 w s0 s e h = (
+pub between : (host : Host) (all cs : List (Option Form)) (vs : List (Option Val)) (w0 w : State) (s0 s : ℕ) (past0 past : List ℤ)
+    → w.locals ≡ [] → Comes host all w0 s0 past0 cs vs w s past
+    → EndsBefore host (forms_evaluated all []) w0 s0 past0 Storage w s past
+between host all cs vs w0 w s0 s past0 past e h = (
   h.0,
   h.1,
+  h.2,
+  h.3,
   λ go q.
-      subst (λ o. leaves o w 0) (sym (ap (λ i. forms_evaluated all [] go w0 i) (omega arith) ∙ h.2 go 0))
-      (forms_quiet cs vs go w e q),
+      let y : leaves_by host (forms_evaluated cs vs go w 0) [] w 0 = quiet_answered host (forms_evaluated cs vs go w 0) w 0
+      (forms_quiet cs vs go w e q) in (
+        y.0,
+        ap (answered_by host (forms_evaluated all [] go w0 h.0)) (sym (append-nil h.1))
+            ∙ ap (λ i. answered_by host (forms_evaluated all [] go w0 i) (h.1 ++ [])) (sym (add-zero h.0))
+            ∙ h.4 go 0 [] ∙ y.1,
+        y.2,
+      ),
 )
+
+-- none of them is left
+pub all_evaluated : (host : Host) (all rest : List (Option Form)) (vs : List (Option Val)) (w0 u : State) (s0 k : ℕ) (past0 past : List ℤ)
+    → length rest ≡ 0
+    → Comes host all w0 s0 past0 rest vs u k past → GoesOn host (forms_evaluated all []) w0 s0 past0 vs u k past
+all_evaluated host all [] vs w0 u s0 k past0 past e h = h
+all_evaluated host all (c ∷ cs) vs w0 u s0 k past0 past e h = absurd (omega arith)
 
 -- ---- and then what is made with them
 
-module _ (cs : List (Option Form)) (made : List (Option Val) → Run) (w u : State) (s k : ℕ) where
-  pub forms_stop : (stop : Stop) → ((vs : List (Option Val)) → leaves (made vs u 0) u 0) → EndsBefore (forms_evaluated cs []) w s stop u k → Answers (forms_evaluated cs [] made) w s (Err stop) u k
-  forms_stop (Refused c) q h = h made
-  forms_stop Storage q h = (h.0, h.1, h.2 made q)
+module _ (host : Host) (cs : List (Option Form)) (made : List (Option Val) → Run) (w u : State) (s k : ℕ) (past past' : List ℤ) where
+  pub forms_stop : (stop : Stop) → ((vs : List (Option Val)) → leaves (made vs u 0) u 0) → EndsBefore host (forms_evaluated cs []) w s past
+      stop u k past'
+      → AnswersWith host (forms_evaluated cs [] made) w s past (Err stop) u k past'
+  forms_stop (Refused c) q h = (h.0, h.1, h.2 made)
+  forms_stop Storage q h = (h.1, h.3, h.0, h.2, h.4 made q)
 
-  pub forms_go_on : (vs : List (Option Val)) (r : Result Value Stop) (x : State) (j : ℕ) → GoesOn (forms_evaluated cs []) w s vs u k → Answers (made vs) u k r x j
-      → Answers (forms_evaluated cs [] made) w s r x j
-  forms_go_on vs (Ok v) x j h a = ap (λ i. forms_evaluated cs [] made w i) h.1 ∙ h.2 made k ∙ a
-  forms_go_on vs (Err (Refused c)) x j h a = ap (λ i. forms_evaluated cs [] made w i) h.1 ∙ h.2 made k ∙ a
-  forms_go_on vs (Err Storage) x j h a = (
-    h.0 + a.0,
-    h.1 ∙ ap (λ i. h.0 + i) a.1 ∙ sym (add_assoc h.0 a.0 j),
-    subst (λ o. leaves o x 0) (sym (h.2 made a.0)) a.2,
-  )
+  made_then : (vs : List (Option Val)) (t : ℕ) → (h : GoesOn host (forms_evaluated cs []) w s past vs u k past')
+      → answered_by host (forms_evaluated cs [] made w (h.0 + t)) h.1 ≡ answered_by host (made vs u t) []
+  made_then vs t h = ap (answered_by host (forms_evaluated cs [] made w (h.0 + t))) (sym (append-nil h.1)) ∙ h.4 made t []
+
+  pub forms_go_on : (vs : List (Option Val)) (r : Result Value Stop) (x : State) (j : ℕ) → GoesOn host (forms_evaluated cs []) w s past vs u
+      k past' → Answers (made vs) u k r x j
+      → AnswersWith host (forms_evaluated cs [] made) w s past r x j past'
+  forms_go_on vs (Ok v) x j h a =
+      (h.1, h.3, ap (λ i. answered_by host (forms_evaluated cs [] made w i) h.1) h.2 ∙ made_then vs k h ∙ ap (λ o. answered_by host o []) a)
+  forms_go_on vs (Err (Refused c)) x j h a =
+      (h.1, h.3, ap (λ i. answered_by host (forms_evaluated cs [] made w i) h.1) h.2 ∙ made_then vs k h ∙ ap (λ o. answered_by host o []) a)
+  forms_go_on vs (Err Storage) x j h a =
+      let y : leaves_by host (made vs u a.0) [] x 0 = quiet_answered host (made vs u a.0) x 0 a.2 in (
+        h.1,
+        h.3,
+        h.0 + a.0,
+        h.2 ∙ ap (λ i. h.0 + i) a.1 ∙ sym (add_assoc h.0 a.0 j),
+        (y.0, made_then vs a.0 h ∙ y.1, y.2),
+      )

@@ -1,42 +1,57 @@
 -- An evaluation, and then a change.
-use Rattle.std.proofs.Common.{◌≡◌, ℕ, zero, suc, ◌+◌, Result, Ok, Err, ap, sym, ◌∙◌, subst, add_assoc}
+use Rattle.std.proofs.Common.{◌≡◌, ℕ, ◌+◌, List, [], Result, Ok, Err, refl, ap, sym, ◌∙◌, add_assoc, append-nil}
+use Rattle.std.specs.Prelude.{ℤ}
 use Rattle.lisp_data.specs.Value.{Val}
 use Rattle.lisp_data.specs.ValueView.{value_of}
 use Rattle.lisp_data.specs.declared.value.Value.{Value}
 use Rattle.clos_machine.specs.clos_world.World.{State}
 use Rattle.clos_machine.specs.clos_world.declared.condition.Stop.{Stop}
 use Rattle.clos_machine.specs.clos_world.declared.condition.Stop.TheVariants.{Refused, Storage}
-use Rattle.clos_machine.specs.Machine.{Answers, Takes}
-use Rattle.clos_machine.specs.clos_meaning.Outcome.{Noted, Out, Gave, Stopped, Run, then_do, step_then, leaves}
+use Rattle.clos_machine.specs.Machine.{Answers, AnswersWith, TakesWith, leaves_by}
+use Rattle.clos_machine.specs.clos_meaning.Host.{Host, answered_by}
+use Rattle.clos_machine.specs.clos_meaning.Outcome.{Run, then_do, step_then}
+use Rattle.clos_machine.proofs.Answering.{answered_then, leaves_then, stopped_then}
+use Rattle.clos_machine.proofs.Runs.{quiet_answered}
 
--- with no step left the change is not made
-stays : (o : Out) (go : Val → Run) (u : State) → leaves o u 0 → leaves (then_do o (λ v. step_then (go v))) u 0
-stays (Stopped c w k) go u h = h
-stays (Noted n o) go u h = stays o go u h
-stays (Gave v w zero) go u h = h
-stays (Gave v w (suc k)) go u h = absurd (cc h.1)
+module _ (host : Host) (run : Run) (go : Val → Run) (w : State) (s : ℕ) (past : List ℤ) where
+  -- the run, and then the change that the value leads to, which takes a step
+  abbrev whole : Run
+  whole x j = then_do (run x j) (λ v. step_then (go v))
 
--- the evaluation stops
-pub stopped_before : (run : Run) (go : Val → Run) (w : State) (s : ℕ) (stop : Stop) (u : State) (k : ℕ) → Answers run w s (Err stop) u k
-    → Answers (λ x j. then_do (run x j) (λ v. step_then (go v))) w s (Err stop) u k
-stopped_before run go w s (Refused c) u k h = ap (λ o. then_do o (λ v. step_then (go v))) h
-stopped_before run go w s Storage u k h = (h.0, h.1, stays (run w h.0) go u h.2)
+  -- the evaluation stops
+  pub stopped_before : (stop : Stop) (u : State) (k : ℕ) (past' : List ℤ) → AnswersWith host run w s past (Err stop) u k past'
+      → AnswersWith host whole w s past (Err stop) u k past'
+  stopped_before (Refused c) u k past' h = (h.0, h.1, stopped_then host (run w s) (λ v. step_then (go v)) h.0 c u k h.2)
+  stopped_before Storage u k past' h = (
+    h.0,
+    h.1,
+    h.2,
+    h.3,
+    leaves_then host (run w h.2) (λ v. step_then (go v)) h.0 u h.4
+        (λ v. (refl, refl)),
+  )
 
--- it gives a value, after which the change is made or not
-pub changed_after : (run : Run) (go : Val → Run) (w : State) (s : ℕ) (v : Value) (u : State) (k : ℕ) (r : Result Value Stop) (x : State) (j : ℕ)
-    → Takes run w s (Ok v) u k → Answers (step_then (go (value_of v))) u k r x j → Answers (λ y i. then_do (run y i) (λ z. step_then (go z))) w s r x j
-changed_after run go w s v u k (Ok y) x j h a =
-    ap (λ i. then_do (run w i) (λ z. step_then (go z))) h.1 ∙ ap (λ o. then_do o (λ z. step_then (go z))) (h.2 k) ∙ a
-changed_after run go w s v u k (Err (Refused c)) x j h a =
-    ap (λ i. then_do (run w i) (λ z. step_then (go z))) h.1 ∙ ap (λ o. then_do o (λ z. step_then (go z))) (h.2 k) ∙ a
-changed_after run go w s v u k (Err Storage) x j h a = (
-  h.0 + a.0,
-  h.1 ∙ ap (λ i. h.0 + i) a.1 ∙ sym (add_assoc h.0 a.0 j),
-  subst (λ o. leaves o x 0) (sym (ap (λ o. then_do o (λ z. step_then (go z))) (h.2 a.0))) a.2,
-)
+  -- it gives a value: with its steps and answers, and then without more
+  goes_on : (v : Value) (u : State) (k t : ℕ) (past' : List ℤ) → (h : TakesWith host run w s past (Ok v) u k past')
+      → answered_by host (whole w (h.0 + t)) h.1 ≡ answered_by host (step_then (go (value_of v)) u t) []
+  goes_on v u k t past' h =
+      ap (answered_by host (whole w (h.0 + t))) (sym (append-nil h.1)) ∙ answered_then host (run w (h.0 + t)) (λ z. step_then (go z)) h.1 []
+      (value_of v) u t (h.4 t)
 
--- a run that does the same from there
-pub answers_same : (run run' : Run) (w : State) (s : ℕ) (r : Result Value Stop) (x : State) (j : ℕ) → ((i : ℕ) → run w i ≡ run' w i) → Answers run w s r x j → Answers run' w s r x j
-answers_same run run' w s (Ok v) x j e a = sym (e s) ∙ a
-answers_same run run' w s (Err (Refused c)) x j e a = sym (e s) ∙ a
-answers_same run run' w s (Err Storage) x j e a = (a.0, a.1, subst (λ o. leaves o x 0) (e a.0) a.2)
+  -- the change is made or not
+  pub changed_after : (v : Value) (u : State) (k : ℕ) (past' : List ℤ) (r : Result Value Stop) (x : State) (j : ℕ)
+      → TakesWith host run w s past (Ok v) u k past' → Answers (step_then (go (value_of v))) u k r x j → AnswersWith host whole w s past r
+      x j past'
+  changed_after v u k past' (Ok y) x j h a =
+      (h.1, h.3, ap (λ i. answered_by host (whole w i) h.1) h.2 ∙ goes_on v u k k past' h ∙ ap (λ o. answered_by host o []) a)
+  changed_after v u k past' (Err (Refused c)) x j h a =
+      (h.1, h.3, ap (λ i. answered_by host (whole w i) h.1) h.2 ∙ goes_on v u k k past' h ∙ ap (λ o. answered_by host o []) a)
+  changed_after v u k past' (Err Storage) x j h a =
+      let y : leaves_by host (step_then (go (value_of v)) u a.0) [] x 0 = quiet_answered host (step_then (go (value_of v)) u a.0) x 0
+      a.2 in (
+        h.1,
+        h.3,
+        h.0 + a.0,
+        h.2 ∙ ap (λ i. h.0 + i) a.1 ∙ sym (add_assoc h.0 a.0 j),
+        (y.0, goes_on v u k a.0 past' h ∙ y.1, y.2),
+      )

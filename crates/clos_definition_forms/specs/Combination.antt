@@ -1,7 +1,6 @@
 -- What a define-method-combination does (HyperSpec 7.7).
 use Rattle.std.specs.Prelude.{[], if◌then◌else◌}
 use Rattle.clos_forms.specs.Quotation.{name_value}
-use Rattle.clos_machine.specs.clos_world.World.{State}
 use Rattle.clos_machine.specs.clos_world.clos_comb.Table.{has_room, is_predefined, name_of, with_combination}
 use Rattle.clos_machine.specs.clos_world.clos_comb.clos_combination.declared.combination.CombinationDefinition.{CombinationDefinition}
 use Rattle.clos_machine.specs.clos_world.declared.condition.ConditionKind.TheVariants.{ProgramError, TableLimit}

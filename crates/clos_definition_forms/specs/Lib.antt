@@ -7,3 +7,5 @@ pub use Rattle.clos_machine.specs as clos_machine
 pub use Rattle.clos_machine.specs.clos_world as clos_world
 pub use Rattle.clos_definition.specs as clos_definition
 pub use Rattle.clos_machine.specs.clos_world.clos_generic as clos_generic
+pub use Rattle.clos_eval.specs as clos_eval
+pub use Rattle.clos_eval.specs.clos_native as clos_native

@@ -44,9 +44,13 @@ abbrev pub new_value : Name → Option Form → Run
 new_value name None w k = step_then (declared name) w k
 new_value name (Some f) w k = given_value name f w k
 
+-- a variable is there, or the table has room for one more
+abbrev pub admits : State → Name → Bool
+admits w name = is_global w.globals name || nat_lt (length w.globals) w.limits.globals
+
 -- a new variable needs room in the table; a defvar that leaves the value evaluates no form
 abbrev pub variable_defined : VariableDefinition → Run
 variable_defined d w k =
-    if is_global w.globals d.name || nat_lt (length w.globals) w.limits.globals
+    if admits w d.name
     then (if keeps_value w d.definer d.name then step_then (named d.name) w k else new_value d.name d.form w k)
     else stopped TableLimit [] w k

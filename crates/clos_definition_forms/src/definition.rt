@@ -10,6 +10,7 @@ ghost use Rattle.clos_definition.specs.Generic.{eql_forms};
 ghost use Rattle.clos_definition.specs.Method.{eql_form};
 ghost use Rattle.clos_definition.specs.Removal.{with_removed};
 ghost use Rattle.clos_machine.specs.Machine.{Answers};
+ghost use Rattle.clos_eval.specs.Host.{AnswersBy};
 ghost use Rattle.clos_definition_forms.specs.Definition.{class_made, define_class, define_generic, define_method, generic_made, method_made, remove_method, takes_effect, value_at, values_removed};
 ghost use Rattle.clos_definition_forms.specs.Forms.{forms_evaluated};
 
@@ -19,6 +20,7 @@ use clos_definition::{
     Effect, check_class, check_generic, check_method, find_removable, generic_forms, make,
     make_class, method_forms, number_of, prepare_class, prepare_generic, prepare_method, remove,
 };
+use clos_eval::Natives;
 use clos_forms::{Form, FunctionName};
 use clos_machine::{ConditionKind, Stop, World, plain};
 use clos_store::Slot;
@@ -28,36 +30,44 @@ use std::alloc::{AllocError, Global};
 
 /// Defines a method, which takes the place of one with the same qualifiers and specializers.
 #[tactic(auto, using(crate::proofs::Defining::method_refused, crate::proofs::Defining::method_evaluated))]
-pub fn defmethod(
+pub fn defmethod<N: Natives>(
     alloc: Global,
     world: &mut World,
+    natives: &N,
+    answers: &mut Vec<i64>,
     name: FunctionName,
     definition: MethodDefinition,
     steps: &mut u64,
 ) -> Result<Value, Stop>
-    ensures { Answers (define_method name definition) (seen world.old) steps.old result (seen world.new) steps.new }
+    ensures { AnswersBy (N.host natives.now) (define_method name definition) world.old steps.old answers.old result world.new steps.new
+        answers.new }
 {
     match check_method(alloc, world, &name, &definition) {
         Err(stop) => Err(stop),
-        Ok(()) => define_checked_method(alloc, world, name, definition, steps),
+        Ok(()) => {
+            define_checked_method(alloc, world, natives, answers, name, definition, steps)
+        },
     }
 }
 
 /// Evaluates the forms of the specializers of a method, and then makes it.
 #[tactic(auto, using(crate::proofs::Defining::method_not_begun, crate::proofs::Defining::method_forms_stop, crate::proofs::Defining::method_forms_go_on))]
-fn define_checked_method(
+fn define_checked_method<N: Natives>(
     alloc: Global,
     world: &mut World,
+    natives: &N,
+    answers: &mut Vec<i64>,
     name: FunctionName,
     definition: MethodDefinition,
     steps: &mut u64,
 ) -> Result<Value, Stop>
-    ensures { Answers (forms_evaluated (map eql_form definition.specializers) [] (method_made name definition)) (seen world.old) steps.old result (seen world.new) steps.new }
+    ensures { AnswersBy (N.host natives.now) (forms_evaluated (map eql_form definition.specializers) [] (method_made name definition))
+        world.old steps.old answers.old result world.new steps.new answers.new }
 {
     let Ok(forms) = method_forms(alloc, &definition) else {
         return Err(Stop::Storage);
     };
-    match evaluate_forms(alloc, world, &forms, steps) {
+    match evaluate_forms(alloc, world, natives, answers, &forms, steps) {
         Err(stop) => Err(stop),
         Ok(values) => make_method(alloc, world, name, definition, &values, steps),
     }
@@ -84,34 +94,40 @@ fn make_method(
 
 /// Defines a generic function, or defines it again.
 #[tactic(auto, using(crate::proofs::Defining::generic_refused, crate::proofs::Defining::generic_evaluated))]
-pub fn defgeneric(
+pub fn defgeneric<N: Natives>(
     alloc: Global,
     world: &mut World,
+    natives: &N,
+    answers: &mut Vec<i64>,
     definition: GenericDefinition,
     steps: &mut u64,
 ) -> Result<Value, Stop>
-    ensures { Answers (define_generic definition) (seen world.old) steps.old result (seen world.new) steps.new }
+    ensures { AnswersBy (N.host natives.now) (define_generic definition) world.old steps.old answers.old result world.new steps.new
+        answers.new }
 {
     match check_generic(alloc, world, &definition) {
         Err(stop) => Err(stop),
-        Ok(()) => define_checked_generic(alloc, world, definition, steps),
+        Ok(()) => define_checked_generic(alloc, world, natives, answers, definition, steps),
     }
 }
 
 /// Evaluates the forms of the specializers of its methods, and then makes it.
 #[tactic(auto, using(crate::proofs::Defining::generic_not_begun, crate::proofs::Defining::generic_forms_stop, crate::proofs::Defining::generic_forms_go_on))]
-fn define_checked_generic(
+fn define_checked_generic<N: Natives>(
     alloc: Global,
     world: &mut World,
+    natives: &N,
+    answers: &mut Vec<i64>,
     definition: GenericDefinition,
     steps: &mut u64,
 ) -> Result<Value, Stop>
-    ensures { Answers (forms_evaluated (eql_forms definition.methods) [] (generic_made definition)) (seen world.old) steps.old result (seen world.new) steps.new }
+    ensures { AnswersBy (N.host natives.now) (forms_evaluated (eql_forms definition.methods) [] (generic_made definition))
+        world.old steps.old answers.old result world.new steps.new answers.new }
 {
     let Ok(forms) = generic_forms(alloc, &definition) else {
         return Err(Stop::Storage);
     };
-    match evaluate_forms(alloc, world, &forms, steps) {
+    match evaluate_forms(alloc, world, natives, answers, &forms, steps) {
         Err(stop) => Err(stop),
         Ok(values) => make_generic(alloc, world, definition, &values, steps),
     }
@@ -157,37 +173,51 @@ fn take_effect(
 /// Defines a class, or defines it again, with the methods of its accessors. Some of its direct superclasses may not be defined
 /// yet.
 #[tactic(auto, using(crate::proofs::Defining::class_refused, crate::proofs::Defining::class_evaluated))]
-pub fn defclass(
+pub fn defclass<N: Natives>(
     alloc: Global,
     world: &mut World,
+    natives: &N,
+    answers: &mut Vec<i64>,
     definition: &ClassDefinition,
     steps: &mut u64,
 ) -> Result<Value, Stop>
-    ensures { Answers (define_class definition.now) (seen world.old) steps.old result (seen world.new) steps.new }
+    ensures { AnswersBy (N.host natives.now) (define_class definition.now) world.old steps.old answers.old result world.new steps.new
+        answers.new }
 {
     match check_class(alloc, world, definition) {
         Err(stop) => Err(stop),
         Ok(reserved) => {
-            define_checked_class(alloc, world, definition, reserved.cells.as_slice(), steps)
+            define_checked_class(
+                alloc,
+                world,
+                natives,
+                answers,
+                definition,
+                reserved.cells.as_slice(),
+                steps,
+            )
         }
     }
 }
 
 /// Evaluates the initforms of the new cells of a class, and then makes it.
 #[tactic(auto, using(crate::proofs::Defining::class_not_begun, crate::proofs::Defining::class_forms_stop, crate::proofs::Defining::class_forms_go_on))]
-fn define_checked_class(
+fn define_checked_class<N: Natives>(
     alloc: Global,
     world: &mut World,
+    natives: &N,
+    answers: &mut Vec<i64>,
     definition: &ClassDefinition,
     cells: &[NewCell],
     steps: &mut u64,
 ) -> Result<Value, Stop>
-    ensures { Answers (forms_evaluated (initforms cells.now) [] (class_made definition.now)) (seen world.old) steps.old result (seen world.new) steps.new }
+    ensures { AnswersBy (N.host natives.now) (forms_evaluated (initforms cells.now) [] (class_made definition.now))
+        world.old steps.old answers.old result world.new steps.new answers.new }
 {
     let Ok(forms) = initforms(alloc, cells) else {
         return Err(Stop::Storage);
     };
-    match evaluate_forms(alloc, world, &forms, steps) {
+    match evaluate_forms(alloc, world, natives, answers, &forms, steps) {
         Err(stop) => Err(stop),
         Ok(values) => make_checked_class(alloc, world, definition, values, steps),
     }
@@ -260,19 +290,22 @@ fn make_prepared_class(
 
 /// Takes a method out of a function, after both forms are evaluated.
 #[tactic(auto, using(crate::proofs::Defining::removal_forms_stop))]
-pub fn remove_method(
+pub fn remove_method<N: Natives>(
     alloc: Global,
     world: &mut World,
+    natives: &N,
+    answers: &mut Vec<i64>,
     function: Form,
     method: Form,
     steps: &mut u64,
 ) -> Result<Value, Stop>
-    ensures { Answers (remove_method function method) (seen world.old) steps.old result (seen world.new) steps.new }
+    ensures { AnswersBy (N.host natives.now) (remove_method function method) world.old steps.old answers.old result world.new steps.new
+        answers.new }
 {
     let Ok(forms) = both(alloc, function, method) else {
         return Err(Stop::Storage);
     };
-    match evaluate_forms(alloc, world, &forms, steps) {
+    match evaluate_forms(alloc, world, natives, answers, &forms, steps) {
         Err(stop) => Err(stop),
         Ok(values) => remove_evaluated(alloc, world, &values, steps),
     }

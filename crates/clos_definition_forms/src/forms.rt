@@ -4,7 +4,7 @@ ghost use Rattle.std.specs.Prelude.{◌≡◌, [], IfOk, IfErr};
 ghost use Rattle.clos_machine.specs.clos_world.World.{seen};
 ghost use Rattle.clos_definition_forms.specs.Forms.{EndsBefore, GoesOn, form_evaluated, forms_evaluated};
 
-use clos_eval::evaluate;
+use clos_eval::{Natives, evaluate};
 use clos_forms::Form;
 use clos_machine::{Stop, World};
 use clos_store::Slot;
@@ -12,19 +12,23 @@ use std::alloc::Global;
 
 /// Evaluates these forms, one after another. Where there is none, there is no value.
 #[tactic(auto, using(crate::proofs::Evaluated::none_yet, crate::proofs::Evaluated::one_more, crate::proofs::Evaluated::one_stops, crate::proofs::Evaluated::between))]
-pub fn evaluate_forms(
+pub fn evaluate_forms<N: Natives>(
     alloc: Global,
     world: &mut World,
+    natives: &N,
+    answers: &mut Vec<i64>,
     forms: &[Option<Form>],
     steps: &mut u64,
 ) -> Result<Vec<Slot>, Stop>
-    ensures values { IfOk result (λ r. GoesOn (forms_evaluated forms.now []) (seen world.old) steps.old r.items (seen world.new) steps.new) }
-    ensures stop { IfErr result (λ e. EndsBefore (forms_evaluated forms.now []) (seen world.old) steps.old e (seen world.new) steps.new) }
+    ensures values { IfOk result (λ r. GoesOn (N.host natives.now) (forms_evaluated forms.now [])
+        (seen world.old) steps.old answers.old.items r.items (seen world.new) steps.new answers.new.items) }
+    ensures stop { IfErr result (λ e. EndsBefore (N.host natives.now) (forms_evaluated forms.now [])
+        (seen world.old) steps.old answers.old.items e (seen world.new) steps.new answers.new.items) }
 {
     let mut values = Vec::new(alloc);
     let mut left = forms;
     while let Some((form, others)) = left.split_first() {
-        let value = evaluate_form(alloc, world, form, steps)?;
+        let value = evaluate_form(alloc, world, natives, answers, form, steps)?;
         values.push(value)?;
         left = others;
     }
@@ -33,14 +37,18 @@ pub fn evaluate_forms(
 
 /// Evaluates a form, where there is one.
 #[tactic(auto, using(crate::proofs::Evaluated::no_form, crate::proofs::Evaluated::not_begun, crate::proofs::Evaluated::form_stops, crate::proofs::Evaluated::form_gives))]
-fn evaluate_form(
+fn evaluate_form<N: Natives>(
     alloc: Global,
     world: &mut World,
+    natives: &N,
+    answers: &mut Vec<i64>,
     form: &Option<Form>,
     steps: &mut u64,
 ) -> Result<Slot, Stop>
-    ensures value { IfOk result (λ r. GoesOn (form_evaluated form.now) (seen world.old) steps.old r (seen world.new) steps.new) }
-    ensures stop { IfErr result (λ e. EndsBefore (form_evaluated form.now) (seen world.old) steps.old e (seen world.new) steps.new) }
+    ensures value { IfOk result (λ r. GoesOn (N.host natives.now) (form_evaluated form.now)
+        (seen world.old) steps.old answers.old.items r (seen world.new) steps.new answers.new.items) }
+    ensures stop { IfErr result (λ e. EndsBefore (N.host natives.now) (form_evaluated form.now)
+        (seen world.old) steps.old answers.old.items e (seen world.new) steps.new answers.new.items) }
 {
     let Some(form) = form else {
         return Ok(Slot::new(None));
@@ -49,6 +57,6 @@ fn evaluate_form(
         return Err(Stop::Storage);
     };
     let room = world.limits.depth.min(4_000).saturating_sub(1);
-    let value = evaluate(alloc, world, form, room, steps)?;
+    let value = evaluate(alloc, world, natives, answers, form, room, steps)?;
     Ok(Slot::new(Some(value)))
 }

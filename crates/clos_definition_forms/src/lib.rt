@@ -7,7 +7,7 @@ mod forms;
 mod function;
 mod variable;
 
-pub use clos_eval::evaluate;
+pub use clos_eval::{Native, Natives, Relation, evaluate};
 pub use clos_machine::{Condition, ConditionKind, Limits, Stop, Values, World, plain};
 pub use combination::define_combination;
 pub use definition::{defclass, defgeneric, defmethod, remove_method};

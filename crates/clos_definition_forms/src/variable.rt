@@ -5,11 +5,12 @@ ghost use Rattle.lisp_data.specs.ValueView.{value_of};
 ghost use Rattle.clos_forms.specs.Quotation.{name_value};
 ghost use Rattle.clos_machine.specs.clos_world.World.{State, seen};
 ghost use Rattle.clos_machine.specs.Machine.{Answers};
+ghost use Rattle.clos_eval.specs.Host.{AnswersBy};
 ghost use Rattle.clos_machine.specs.clos_meaning.Meaning.{evaluation};
-ghost use Rattle.clos_machine.specs.clos_meaning.Outcome.{Run, Gave, step_then, then_do};
-ghost use Rattle.clos_definition_forms.specs.Variable.{variable_defined, keeps_value, declared, given_value, value_given, room_below};
+ghost use Rattle.clos_machine.specs.clos_meaning.Outcome.{step_then};
+ghost use Rattle.clos_definition_forms.specs.Variable.{admits, variable_defined, keeps_value, declared, given_value, named, value_given};
 
-use clos_eval::evaluate;
+use clos_eval::{Natives, evaluate};
 use clos_forms::{Form, value_named};
 use clos_machine::{ConditionKind, Stop, World, plain};
 use clos_syntax::{Definer, VariableDefinition};
@@ -17,20 +18,24 @@ use lisp_data::{Name, Value};
 use std::alloc::Global;
 
 /// Defines a global variable.
-pub fn define_variable(
+#[tactic(auto, using(crate::proofs::Variables::keeps, crate::proofs::Variables::declares, crate::proofs::Variables::gives))]
+pub fn define_variable<N: Natives>(
     alloc: Global,
     world: &mut World,
+    natives: &N,
+    answers: &mut Vec<i64>,
     definition: VariableDefinition,
     steps: &mut u64,
 ) -> Result<Value, Stop>
-    ensures { Answers (variable_defined definition) (seen world.old) steps.old result (seen world.new) steps.new }
+    ensures { AnswersBy (N.host natives.now) (variable_defined definition) world.old steps.old answers.old result world.new steps.new
+        answers.new }
 {
     let VariableDefinition {
         definer,
         name,
         form,
     } = definition;
-    if !world.globals.has(&name) && world.globals.len() as u64 >= world.limits.globals {
+    if !admits(world, &name) {
         return Err(Stop::Refused(plain(alloc, ConditionKind::TableLimit)));
     }
     if keeps_value(world, definer, &name) {
@@ -38,8 +43,15 @@ pub fn define_variable(
     }
     match form {
         None => declare(alloc, world, name, steps),
-        Some(form) => give_value(alloc, world, name, form, steps),
+        Some(form) => give_value(alloc, world, natives, answers, name, form, steps),
     }
+}
+
+/// Whether the variable is there, or the table has room for one more.
+fn admits(world: &World, name: &Name) -> bool
+    ensures { result ≡ admits (seen world.now) name.now }
+{
+    world.globals.has(name) || (world.globals.len() as u64) < world.limits.globals
 }
 
 /// Whether a `defvar` finds a value, which stays.
@@ -54,7 +66,7 @@ fn keeps_value(world: &World, definer: Definer, name: &Name) -> bool
 
 /// Nothing changes, but a step is taken.
 fn keep_value(alloc: Global, world: &mut World, name: &Name, steps: &mut u64) -> Result<Value, Stop>
-    ensures { Answers (step_then (λ w k. Gave (name_value name.now) w k)) (seen world.old) steps.old result (seen world.new) steps.new }
+    ensures { Answers (step_then (named name.now)) (seen world.old) steps.old result (seen world.new) steps.new }
 {
     let _ = world;
     if *steps == 0 {
@@ -84,18 +96,21 @@ fn declare(alloc: Global, world: &mut World, name: Name, steps: &mut u64) -> Res
 
 /// The variable gets the value of the form.
 #[tactic(auto, using(crate::proofs::Evaluations::stopped_before, crate::proofs::Evaluations::changed_after))]
-fn give_value(
+fn give_value<N: Natives>(
     alloc: Global,
     world: &mut World,
+    natives: &N,
+    answers: &mut Vec<i64>,
     name: Name,
     form: Form,
     steps: &mut u64,
 ) -> Result<Value, Stop>
-    ensures { Answers (given_value name form) (seen world.old) steps.old result (seen world.new) steps.new }
+    ensures { AnswersBy (N.host natives.now) (given_value name form) world.old steps.old answers.old result world.new steps.new
+        answers.new }
 {
     let room = world.limits.depth.min(4_000);
     let below = room.saturating_sub(1);
-    match evaluate(alloc, world, form, below, steps) {
+    match evaluate(alloc, world, natives, answers, form, below, steps) {
         Ok(value) => set_value(alloc, world, name, value, steps),
         Err(stop) => Err(stop),
     }

@@ -1,2 +1,4 @@
 pub mod Calling
 pub mod Looping
+pub mod Asking
+pub mod Stored

@@ -45,6 +45,7 @@ fn apply(
         Callee::MakeInstance => make_instance(alloc, machine, world, values, steps),
         Callee::ChangeClass => change_class(alloc, machine, world, values, steps),
         Callee::FindMethod => call_find_method(alloc, machine, world, &values),
+        Callee::NativeCall => Ok(Doing::Native(values)),
         Callee::ClassFunction(function) => {
             call_class_function(alloc, machine, world, function, &values)
         }

@@ -1,11 +1,14 @@
 //! Evaluation: the machine takes one turn after another, up to the value of the whole.
 ghost use Rattle.clos_machine.specs.clos_world.World.{seen};
-ghost use Rattle.clos_machine.specs.Machine.{Answers, Takes};
+ghost use Rattle.clos_machine.specs.Machine.{TakesWith};
 ghost use Rattle.clos_machine.specs.clos_meaning.Meaning.{evaluation};
+ghost use Rattle.clos_eval.specs.Host.{AnswersBy};
 
 use crate::actions::{act, perform};
 use crate::forms::begin_form;
 use crate::frames::give;
+use crate::host::Natives;
+use crate::natives::call_native;
 use clos_calls::generic_calls::invoke;
 use clos_control::arguments::collect_values;
 use clos_control::binding::turn;
@@ -16,17 +19,21 @@ use clos_machine::{Arguments, Context, Stop, Values, World};
 use lisp_data::Value;
 use std::alloc::Global;
 
-/// Evaluates a form with this much room for depth. Steps fall by those taken. Where memory is refused, the world is
-/// that after the steps taken.
-pub fn evaluate(
+/// Evaluates a form with this much room for depth. Steps fall by those taken, and the answers of the host's functions that
+/// were called come after those that are there. Where memory is refused, the world is that after the steps taken.
+pub fn evaluate<N: Natives>(
     alloc: Global,
     world: &mut World,
+    natives: &N,
+    answers: &mut Vec<i64>,
     form: Form,
     room: u64,
     steps: &mut u64,
 ) -> Result<Value, Stop>
-    ensures answer { Answers (evaluation room form) (seen world.old) steps.old result (seen world.new) steps.new }
-    ensures taken { Takes (evaluation room form) (seen world.old) steps.old result (seen world.new) steps.new }
+    ensures answer { AnswersBy (N.host natives.now) (evaluation room form) world.old steps.old answers.old result world.new steps.new
+        answers.new }
+    ensures taken { TakesWith (N.host natives.now) (evaluation room form)
+        (seen world.old) steps.old answers.old.items result (seen world.new) steps.new answers.new.items }
 {
     let Ok(arguments) = Arguments::new(alloc, Values::new(alloc)) else {
         return Err(Stop::Storage);
@@ -55,6 +62,9 @@ pub fn evaluate(
             }
             Doing::Turn(repetition, counter) => {
                 turn(alloc, &mut machine, world, repetition, counter, steps)
+            }
+            Doing::Native(values) => {
+                call_native(alloc, &machine, natives, answers, &values, steps)
             }
             Doing::Give(value) => match machine.levels.pop() {
                 None => return Ok(value),

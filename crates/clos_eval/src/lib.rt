@@ -5,6 +5,10 @@ mod actions;
 pub mod eval;
 mod forms;
 mod frames;
+mod host;
+mod natives;
 
 pub use clos_machine::{Stop, World};
+pub use clos_native::{Native, Relation};
 pub use eval::evaluate;
+pub use host::Natives;

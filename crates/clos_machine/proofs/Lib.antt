@@ -2,5 +2,6 @@ pub mod Lists
 pub mod Turns
 pub mod Quiet
 pub mod Runs
+pub mod Answering
 pub mod Updates
 pub use Rattle.clos_meaning.proofs as clos_meaning

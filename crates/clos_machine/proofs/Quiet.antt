@@ -28,7 +28,7 @@ use Rattle.clos_machine.specs.declared.machine.BuiltIn.TheVariants.{Reader, Writ
 use Rattle.clos_machine.specs.declared.machine.Control.{Control}
 use Rattle.clos_machine.specs.declared.machine.Doing.{Doing}
 use Rattle.clos_machine.specs.declared.machine.Control.TheVariants.{Progn, Prog1, If, When, Unless, And, Or}
-use Rattle.clos_machine.specs.declared.machine.Doing.TheVariants.{Start, Act, Invoke, Perform, Give}
+use Rattle.clos_machine.specs.declared.machine.Doing.TheVariants.{Start, Act, Invoke, Perform, Native, Give}
 use Rattle.clos_machine.specs.declared.machine.Doing.TheVariants as doing
 use Rattle.clos_machine.specs.declared.machine.Frame.{Frame}
 use Rattle.clos_machine.specs.declared.machine.Frame.TheVariants.{Rest, Keep, Clause, Collect, Body, Bind, Scope, InOrder, Aside, Count, Turn, Setq, Setf, Changed, Default, Filled, Updated, Truth, Slots}
@@ -39,7 +39,7 @@ use Rattle.clos_machine.specs.declared.machine.Visit as visiting
 use Rattle.clos_machine.specs.declared.machine.Visit.TheVariants as visit
 use Rattle.clos_machine.specs.declared.machine.Level.{Level}
 use Rattle.clos_machine.specs.declared.machine.Machine.{Machine}
-use Rattle.clos_meaning.proofs.Kept.{Keeps, Kept, allocate_kept, amount_kept, and_kept, applied_kept, aside_kept, binding_kept, branch_kept, changed_from_kept, changed_place_kept, changed_to_kept, checked_kept, choice_kept, clauses_kept, collect_kept, defaulted_kept, fill_kept, filled_with_kept, invoked_kept, keeping_kept, meaning_kept, name_changed_kept, name_set_kept, next_given_kept, or_kept, order_kept, parameters_kept, read_kept, reader_kept, reinitialize_instance_kept, repeated_kept, restored, sequence_kept, set_kept, setf_kept, setq_kept, slot_answer_kept, slot_put_kept, slots_filled_kept, still, system_kept, then_kept, turns_kept, where_false_kept, where_true_kept, within_kept, within_slots_kept, writer_kept}
+use Rattle.clos_meaning.proofs.Kept.{Keeps, Kept, allocate_kept, amount_kept, and_kept, applied_kept, aside_kept, binding_kept, branch_kept, changed_from_kept, changed_place_kept, changed_to_kept, checked_kept, choice_kept, clauses_kept, collect_kept, defaulted_kept, fill_kept, filled_with_kept, invoked_kept, keeping_kept, meaning_kept, name_changed_kept, name_set_kept, native_kept, next_given_kept, or_kept, order_kept, parameters_kept, read_kept, reader_kept, reinitialize_instance_kept, repeated_kept, restored, sequence_kept, set_kept, setf_kept, setq_kept, slot_answer_kept, slot_put_kept, slots_filled_kept, still, system_kept, then_kept, turns_kept, where_false_kept, where_true_kept, within_kept, within_slots_kept, writer_kept}
 
 module _ (ev : Eval) (h : Keeps ev) where
   -- ---- points of return
@@ -152,6 +152,7 @@ run_kept n env (Act action vs) w k = acted_kept (meaning n) (meaning_kept n) env
 run_kept n env (Invoke f vs) w k = invoked_kept (meaning n) (meaning_kept n) f vs w k
 run_kept n env (Perform b vs) w k = performed_kept (meaning n) (meaning_kept n) env b vs w k
 run_kept n env (doing.Turn l counter) w k = turns_kept (meaning n) (meaning_kept n) env (loop_of l) counter.0 counter.1 w k
+run_kept n env (Native vs) w k = native_kept vs w k
 run_kept n env (Give v) w k = still w k
 
 -- with no step left, what comes next and all that waits change nothing

@@ -1,6 +1,6 @@
 -- How the turns of the machine make a run.
-use Rattle.std.proofs.Common.{◌≡◌, true, false, map, Option, Some, None, ℕ, zero, suc, ◌+◌, ◌-◌, ◌<◌, ◌≤◌, List, [], ◌∷◌, Result, Ok, Err, length, refl, ap, sym, subst, ◌∙◌, add_assoc, add-zero, arith}
-use Rattle.std.specs.Prelude.{ℤ, pos, if◌then◌else◌}
+use Rattle.std.proofs.Common.{◌≡◌, true, false, map, Option, Some, None, ℕ, zero, suc, ◌+◌, ◌-◌, ◌<◌, ◌≤◌, List, [], ◌∷◌, ◌++◌, Result, Ok, Err, length, refl, ap, sym, subst, ◌∙◌, add_assoc, add-zero, append_assoc, append-nil, arith}
+use Rattle.std.specs.Prelude.{ℤ, pos, option_map, if◌then◌else◌}
 use Rattle.lisp_data.specs.Value.{Val, nil, list}
 use Rattle.lisp_data.specs.ValueView.{value_of}
 use Rattle.lisp_data.specs.declared.value.Value.{Value}
@@ -23,11 +23,12 @@ use Rattle.clos_meaning.specs.clos_world.declared.condition.Stop.{Stop}
 use Rattle.clos_meaning.specs.clos_world.declared.condition.Stop.TheVariants.{Refused, Storage}
 use Rattle.clos_machine.specs.Fault.{Signals}
 use Rattle.clos_meaning.specs.Fault.{answered}
-use Rattle.clos_machine.specs.Machine.{at, resume, inside, denote, given_to, Leads, Turns, Becomes, Changes, Answers, Reached}
+use Rattle.clos_meaning.specs.Host.{Host, answered_by}
+use Rattle.clos_machine.specs.Machine.{at, resume, inside, denote, given_to, leaves_by, AnswersWith, Asks, Leads, Turns, Becomes, Changes, Reached}
 use Rattle.clos_meaning.specs.Meaning.{closed, meaning, body}
 use Rattle.clos_meaning.specs.Control.{sequence}
 use Rattle.clos_meaning.specs.Variables.{Loop, body_of, counted, found_value, variable_value, leaving, result_value, turns}
-use Rattle.clos_meaning.specs.Outcome.{leaves, Gave, Stopped, Run, Eval, then_do, step_then, stopped}
+use Rattle.clos_meaning.specs.Outcome.{leaves, ends_in, Asked, Gave, Given, Looked, Noted, Out, Signalled, Stopped, Run, Eval, then_do, step_then, stopped}
 use Rattle.clos_meaning.specs.Output.{written, output_of, line_ended}
 use Rattle.clos_meaning.specs.declared.arguments.Context.{Context}
 use Rattle.clos_forms.specs.clos_names.declared.callee.Output.{Output}
@@ -43,7 +44,7 @@ use Rattle.clos_meaning.specs.Parameters.{fits, sources}
 use Rattle.clos_machine.proofs.Turns.{stopped_through, leads_same}
 use Rattle.clos_meaning.proofs.Quiet.{no_step}
 
-one_more : (t : ℕ) → 1 + t ≡ suc t
+pub one_more : (t : ℕ) → 1 + t ≡ suc t
 one_more t = omega arith
 
 -- a handler that takes no step makes a turn
@@ -147,28 +148,69 @@ pub start_begins_at : (ls : List Level) (n : ℕ) (env : Context) (f : Form) (w 
 start_begins_at ls n env f w t h =
     start_begins ls n env f w (1 + t) h (omega arith) ∙ ap (λ k. closed (resume ls env (body (meaning (n - 1)) env f w k))) (omega arith)
 
+-- ---- what was answered
+
+-- where nothing was asked
+pub quiet_answered : (host : Host) (o : Out) (w : State) (s : ℕ) → leaves o w s → leaves_by host o [] w s
+quiet_answered host (Gave v u j) w s h = (Given v u j, refl, h)
+quiet_answered host (Stopped c u j) w s h = (Signalled c u j, refl, h)
+quiet_answered host (Noted n o) w s h = quiet_answered host o w s h
+quiet_answered host (Looked name more) w s h =
+    quiet_answered host (more (option_map (λ f. f.takes) (host name))) w s (h (option_map (λ f. f.takes) (host name)))
+quiet_answered host (Asked name xs more) w s h = absurd h
+
+-- a turn in which nothing was asked
+pub turns_ask : (host : Host) (run : Run) (w : State) (s : ℕ) (past : List ℤ) (r : Result Doing Stop) (m : Machine) (w' : State) (s' : ℕ)
+    → Turns run w s r m w' s' → Asks host run w s past r m w' s' past
+turns_ask host run w s past (Ok d) m w' s' h = (h.0, [], h.1, sym (append-nil past), λ t more. ap (λ o. answered_by host o more) (h.2 t))
+turns_ask host run w s past (Err (Refused c)) m w' s' h = (refl, ap (λ o. answered_by host o []) h)
+turns_ask host run w s past (Err Storage) m w' s' h = (refl, h.0, h.1)
+
 -- ---- a run
 
-pub reached_on : (run : Run) (w0 : State) (s0 : ℕ) (den : Run) (w : State) (s : ℕ) (d : Doing) (m : Machine) (w' : State) (s' : ℕ)
-    → Reached run w0 s0 den w s → Turns den w s (Ok d) m w' s' → Reached run w0 s0 (denote m d) w' s'
-reached_on run w0 s0 den w s d m w' s' r e = record {
+pub reached_on : (host : Host) (run : Run) (w0 : State) (s0 : ℕ) (past0 : List ℤ) (den : Run) (w : State) (s : ℕ) (past : List ℤ)
+    (d : Doing) (m : Machine) (w' : State) (s' : ℕ) (past' : List ℤ)
+    → Reached host run w0 s0 past0 den w s past → Asks host den w s past (Ok d) m w' s' past' → Reached host run w0 s0 past0 (denote m d) w'
+    s' past'
+reached_on host run w0 s0 past0 den w s past d m w' s' past' r e = record {
   taken = r.taken + e.0;
-  steps = r.steps ∙ ap (λ k. r.taken + k) e.1 ∙ sym (add_assoc r.taken e.0 s');
-  same = λ t. e.2 t ∙ r.same (e.0 + t) ∙ ap (run w0) (sym (add_assoc r.taken e.0 t));
+  used = r.used ++ e.1;
+  steps = r.steps ∙ ap (λ k. r.taken + k) e.2 ∙ sym (add_assoc r.taken e.0 s');
+  answers = e.3 ∙ ap (λ xs. xs ++ e.1) r.answers ∙ append_assoc past0 r.used e.1;
+  same = λ t more. e.4 t more ∙ r.same (e.0 + t) (e.1 ++ more)
+      ∙ ap (λ k. answered_by host (run w0 k) (r.used ++ (e.1 ++ more))) (sym (add_assoc r.taken e.0 t))
+      ∙ ap (λ xs. answered_by host (run w0 (r.taken + e.0 + t)) xs) (sym (append_assoc r.used e.1 more));
 }
 
-pub reached_same : (run : Run) (w0 : State) (s0 : ℕ) (den den' : Run) (w : State) (s : ℕ) → ((t : ℕ) → den' w t ≡ den w t)
-    → Reached run w0 s0 den w s → Reached run w0 s0 den' w s
-reached_same run w0 s0 den den' w s h r = record { taken = r.taken; steps = r.steps; same = λ t. h t ∙ r.same t }
+-- what the run comes to is what is left comes to, where no more answers come
+pub reached_now : (host : Host) (run : Run) (w0 : State) (s0 : ℕ) (past0 : List ℤ) (den : Run) (w : State) (s : ℕ) (past : List ℤ)
+    → (r : Reached host run w0 s0 past0 den w s past)
+    → (t : ℕ) → answered_by host (run w0 (r.taken + t)) r.used ≡ answered_by host (den w t) []
+reached_now host run w0 s0 past0 den w s past r t = ap (λ xs. answered_by host (run w0 (r.taken + t)) xs) (sym (append-nil r.used))
+    ∙ sym (r.same t [])
 
-pub ended : (run : Run) (w0 : State) (s0 : ℕ) (den : Run) (w : State) (s : ℕ) (stop : Stop) (m : Machine) (w' : State) (s' : ℕ)
-    → leaves (den w 0) (unbound w) 0 → Reached run w0 s0 den w s → Turns den w s (Err stop) m w' s' → Answers run w0 s0 (Err stop) (unbound w') s'
-ended run w0 s0 den w s (Refused c) m w' s' q r e = ap (run w0) r.steps ∙ sym (r.same s) ∙ e
-ended run w0 s0 den w s Storage m w' s' q r e = (
-  r.taken,
-  r.steps ∙ ap (λ k. r.taken + k) (sym e.1),
-  subst (λ u. leaves (run w0 r.taken) u 0) (sym e.0) (subst (λ o. leaves o (unbound w) 0) (r.same 0 ∙ ap (run w0) (add-zero r.taken)) q),
+pub ended : (host : Host) (run : Run) (w0 : State) (s0 : ℕ) (past0 : List ℤ) (den : Run) (w : State) (s : ℕ) (past : List ℤ) (stop : Stop)
+    (m : Machine) (w' : State) (s' : ℕ) (past' : List ℤ)
+    → leaves (den w 0) (unbound w) 0 → Reached host run w0 s0 past0 den w s past → Asks host den w s past (Err stop) m w' s' past'
+    → AnswersWith host run w0 s0 past0 (Err stop) (unbound w') s' past'
+ended host run w0 s0 past0 den w s past (Refused c) m w' s' past' q r e = (
+  r.used,
+  e.0 ∙ r.answers,
+  ap (λ k. answered_by host (run w0 k) r.used) r.steps ∙ reached_now host run w0 s0 past0 den w s past r
+      s ∙ e.1,
 )
+ended host run w0 s0 past0 den w s past Storage m w' s' past' q r e =
+    let x : leaves_by host (den w 0) [] (unbound w) 0 = quiet_answered host (den w 0) (unbound w) 0 q in (
+      r.used,
+      e.0 ∙ r.answers,
+      r.taken,
+      r.steps ∙ ap (λ k. r.taken + k) (sym e.2),
+      (
+        x.0,
+        ap (λ k. answered_by host (run w0 k) r.used) (sym (add-zero r.taken)) ∙ reached_now host run w0 s0 past0 den w s past r 0 ∙ x.1,
+        subst (λ u. ends_in x.0 u 0) (sym e.1) x.2,
+      ),
+    )
 
 -- the top level takes the value
 pub popped : (m : Machine) (l : Level) (ls : List Level) (value : Value) (w : State) (t : ℕ) → m.levels ≡ l ∷ ls

@@ -1,5 +1,7 @@
 -- Outcomes through the levels of the machine.
 use Rattle.std.proofs.Common.{◌≡◌, ℕ, ◌<◌, ◌≤◌, arith, Result, Ok, Err, List, [], ◌∷◌, Option, Some, None, refl, ap, sym, subst, ◌∙◌}
+use Rattle.std.specs.Prelude.{ℤ}
+use Rattle.lisp_data.specs.Name.{Name}
 use Rattle.lisp_data.specs.Value.{Val}
 use Rattle.clos_forms.specs.Form.{Forms, nil, cons}
 use Rattle.clos_meaning.specs.clos_world.World.{State, Local, bound_as, unbound}
@@ -12,7 +14,7 @@ use Rattle.clos_meaning.specs.Calls.{method_run}
 use Rattle.clos_meaning.specs.Control.{sequence, while_true, until_true}
 use Rattle.clos_machine.specs.Machine.{after, at, below, resume, inside, Grows, Leads, Shrinks, going}
 use Rattle.clos_meaning.specs.Meaning.{closed, meaning}
-use Rattle.clos_meaning.specs.Outcome.{Note, Noted, Out, Run, Eval, Gave, Stopped, then_do, gave}
+use Rattle.clos_meaning.specs.Outcome.{Note, Noted, Looked, Asked, Out, Run, Eval, Gave, Stopped, then_do, gave}
 use Rattle.clos_meaning.specs.declared.arguments.Context.{Context}
 use Rattle.clos_machine.specs.declared.machine.Control.TheVariants.{Progn, And, Or}
 use Rattle.clos_machine.specs.declared.machine.Doing.{Doing}
@@ -29,11 +31,33 @@ pub noted_through : (ls : List Level) (env : Context) (n : Note) (o : Out) → r
 noted_through [] env n o = refl
 noted_through (l ∷ ls) env n o = noted_through ls (below env l.frame) n (then_do o (after (meaning l.room) env l.frame))
 
+-- and what waits for the host's answer
+pub looked_through : (ls : List Level) (env : Context) (name : Name) (more : Option ℕ → Out) → resume ls env (Looked name more) ≡ Looked
+    name (λ n. resume ls env (more n))
+looked_through [] env name more = refl
+looked_through (l ∷ ls) env name more = looked_through ls (below env l.frame) name
+    (λ n. then_do (more n) (after (meaning l.room) env l.frame))
+
+pub asked_through : (ls : List Level) (env : Context) (name : Name) (xs : List ℤ) (more : ℤ → Out)
+    → resume ls env (Asked name xs more) ≡ Asked name xs (λ x. resume ls env (more x))
+asked_through [] env name xs more = refl
+asked_through (l ∷ ls) env name xs more = asked_through ls (below env l.frame) name xs
+    (λ x. then_do (more x) (after (meaning l.room) env l.frame))
+
+-- what comes of each answer the same way is the same
+pub looked_same : (name : Name) (f g : Option ℕ → Out) → ((n : Option ℕ) → f n ≡ g n) → Looked name f ≡ Looked name g
+looked_same name f g h = λ i. Looked name (λ n. h n i)
+
+pub asked_same : (name : Name) (xs : List ℤ) (f g : ℤ → Out) → ((x : ℤ) → f x ≡ g x) → Asked name xs f ≡ Asked name xs g
+asked_same name xs f g h = λ i. Asked name xs (λ x. h x i)
+
 -- what follows what follows
 pub then_then : (o : Out) (f g : Val → Run) → then_do (then_do o f) g ≡ then_do o (λ v w s. then_do (f v w s) g)
 then_then (Gave v w s) f g = refl
 then_then (Stopped c w s) f g = refl
 then_then (Noted n o) f g = ap (Noted n) (then_then o f g)
+then_then (Looked name more) f g = looked_same name _ _ (λ n. then_then (more n) f g)
+then_then (Asked name xs more) f g = asked_same name xs _ _ (λ x. then_then (more x) f g)
 
 pub noted_closed : (ls : List Level) (env : Context) (n : Note) (o : Out) → closed (resume ls env (Noted n o)) ≡ closed (resume ls env o)
 noted_closed ls env n o = ap closed (noted_through ls env n o)
@@ -43,11 +67,19 @@ abbrev pub bare : Out → Out
 bare (Gave v w s) = Gave v w s
 bare (Stopped c w s) = Stopped c w s
 bare (Noted n o) = bare o
+bare (Looked name more) = Looked name (λ n. bare (more n))
+bare (Asked name xs more) = Asked name xs (λ x. bare (more x))
 
 pub bare_through : (ls : List Level) (env : Context) (o : Out) → closed (resume ls env o) ≡ closed (resume ls env (bare o))
 bare_through ls env (Gave v w s) = refl
 bare_through ls env (Stopped c w s) = refl
 bare_through ls env (Noted n o) = noted_closed ls env n o ∙ bare_through ls env o
+bare_through ls env (Looked name more) =
+    ap closed (looked_through ls env name more) ∙ looked_same name _ _ (λ n. bare_through ls env (more n))
+    ∙ sym (ap closed (looked_through ls env name (λ n. bare (more n))))
+bare_through ls env (Asked name xs more) =
+    ap closed (asked_through ls env name xs more) ∙ asked_same name xs _ _ (λ x. bare_through ls env (more x))
+    ∙ sym (ap closed (asked_through ls env name xs (λ x. bare (more x))))
 
 pub bare_same : (ls : List Level) (env : Context) (o o' : Out) → bare o ≡ bare o' → closed (resume ls env o) ≡ closed (resume ls env o')
 bare_same ls env o o' e = bare_through ls env o ∙ ap (λ x. closed (resume ls env x)) e ∙ sym (bare_through ls env o')
@@ -57,6 +89,8 @@ pub then_gave : (o : Out) → then_do o gave ≡ o
 then_gave (Gave v w s) = refl
 then_gave (Stopped c w s) = refl
 then_gave (Noted n o) = ap (Noted n) (then_gave o)
+then_gave (Looked name more) = looked_same name _ _ (λ n. then_gave (more n))
+then_gave (Asked name xs more) = asked_same name xs _ _ (λ x. then_gave (more x))
 
 -- there is no such method
 pub no_method : (m : Machine) (ev : Eval) (env : Context) (o : Option Method) (c : Condition) (w : State) (t : ℕ) → None ≡ o → c ≡ record { kind = ProgramError; items = [] }

@@ -1,6 +1,6 @@
 -- Instances that are updated before they are looked at.
-use Rattle.std.proofs.Common.{◌≡◌, ℕ, zero, suc, ◌+◌, ◌-◌, List, [], ◌∷◌, Bool, true, false, map, Option, Some, None, Result, Ok, Err, arith, refl, ap, sym, subst, ◌∙◌, true≢false}
-use Rattle.std.specs.Prelude.{IsSome, option_map, if◌then◌else◌}
+use Rattle.std.proofs.Common.{◌≡◌, ℕ, suc, ◌+◌, List, [], ◌∷◌, Option, Some, None, Result, Ok, Err, arith, refl, ap, sym, subst, ◌∙◌, true≢false}
+use Rattle.std.specs.Prelude.{IsSome}
 use Rattle.lisp_data.specs.Name.{Name}
 use Rattle.lisp_data.specs.Value.{Val}
 use Rattle.lisp_data.specs.ValueView.{value_of}
@@ -14,22 +14,22 @@ use Rattle.clos_meaning.specs.clos_world.clos_class.Slots.{Layout}
 use Rattle.clos_meaning.specs.clos_world.clos_store.Store.{Object, slot_names}
 use Rattle.clos_meaning.specs.clos_world.clos_store.Store as store
 use Rattle.clos_meaning.specs.clos_world.clos_store.Objects.{due_for}
-use Rattle.clos_meaning.specs.clos_world.clos_store.Update.{added, bound, lost, with_update}
-use Rattle.clos_meaning.specs.clos_world.clos_store.UpdateView.{TellsOf, values_of}
+use Rattle.clos_meaning.specs.clos_world.clos_store.Update.{bound, lost, with_update}
+use Rattle.clos_meaning.specs.clos_world.clos_store.UpdateView.{TellsOf}
 use Rattle.clos_meaning.specs.clos_world.clos_store.declared.update.Discarded.{Discarded}
-use Rattle.clos_meaning.specs.clos_world.World.{State, class_of_instance, unbound}
+use Rattle.clos_meaning.specs.clos_world.World.{State}
 use Rattle.clos_meaning.specs.clos_world.declared.condition.Condition.{Condition}
 use Rattle.clos_meaning.specs.clos_world.declared.condition.ConditionKind.TheVariants.{StepLimit}
 use Rattle.clos_meaning.specs.clos_world.declared.condition.Stop.{Stop}
 use Rattle.clos_meaning.specs.clos_world.declared.condition.Stop.TheVariants.{Refused, Storage}
 use Rattle.clos_meaning.specs.clos_world.clos_method.declared.system.SystemFunction.TheVariants.{UpdateInstanceForRedefinedClass}
 use Rattle.clos_meaning.specs.ClassFunctions.{Answer, Tells, in_words_of_conditions}
-use Rattle.clos_meaning.specs.Meaning.{closed, meaning}
-use Rattle.clos_meaning.specs.Outcome.{Eval, Run, Stopped, step_then, stopped}
-use Rattle.clos_meaning.specs.Updating.{arguments_of, due, listed, names_listed, properties, restructured, told, told_if, told_of, updated, updated_if, updated_with}
+use Rattle.clos_meaning.specs.Meaning.{meaning}
+use Rattle.clos_meaning.specs.Outcome.{Eval, Run, Stopped}
+use Rattle.clos_meaning.specs.Updating.{arguments_of, due, listed, names_listed, properties, restructured, told, told_if, updated, updated_if, updated_with}
 use Rattle.clos_meaning.specs.declared.arguments.Context.{Context}
 use Rattle.clos_machine.specs.Fault.{Signals}
-use Rattle.clos_machine.specs.Machine.{Turns, at, denote, here, inside, resume, visited}
+use Rattle.clos_machine.specs.Machine.{Turns, at, denote, here, inside, visited}
 use Rattle.clos_machine.specs.Updating.{TellsArguments, TellsValues}
 use Rattle.clos_machine.specs.declared.machine.Doing.{Doing}
 use Rattle.clos_machine.specs.declared.machine.Doing.TheVariants.{Invoke}

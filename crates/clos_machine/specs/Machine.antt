@@ -1,5 +1,5 @@
 -- What a state of the machine stands for: the rest of the definition.
-use Rattle.std.specs.Prelude.{◌≡◌, ℕ, suc, ◌+◌, ◌*◌, ◌≤◌, ◌<◌, List, [], ◌∷◌, ◌++◌, Result, Ok, Err, Option, Some, None, drop, option_map, slice_get, true, if◌then◌else◌}
+use Rattle.std.specs.Prelude.{◌≡◌, ℕ, suc, ℤ, ◌+◌, ◌*◌, ◌≤◌, ◌<◌, List, [], ◌∷◌, ◌++◌, Result, Ok, Err, Option, Some, None, drop, option_map, slice_get, true, if◌then◌else◌}
 use Rattle.lisp_data.specs.Name.{Name}
 use Rattle.lisp_data.specs.Value.{Val, instance, list, nil}
 use Rattle.lisp_data.specs.ValueView.{value_of}
@@ -28,11 +28,13 @@ use Rattle.clos_meaning.specs.Bodies.{restoring, parameters_run}
 use Rattle.clos_meaning.specs.Control.{and_then, branch_by, clauses, first_then, keeping, or_then, sequence, tested, where_false, where_true}
 use Rattle.clos_meaning.specs.Filling.{Subject, fill, filled_with}
 use Rattle.clos_meaning.specs.GenericCalls.{invoked}
+use Rattle.clos_meaning.specs.Host.{Host, answered_by}
 use Rattle.clos_meaning.specs.Initialization.{allocate, checked, defaulted}
 use Rattle.clos_meaning.specs.Functions.{Access, call_access, called, place_read, place_set, slot_access}
 use Rattle.clos_meaning.specs.Meaning.{changed_from, changed_place, collect, setq, setf, meaning, closed, name_changed_by, place_changed_by, place_set_to}
+use Rattle.clos_meaning.specs.Natives.{native_called}
 use Rattle.clos_meaning.specs.NextMethods.{next_with}
-use Rattle.clos_meaning.specs.Outcome.{Out, Gave, Stopped, Run, Eval, then_do, step_then, gave, is_true, leaves, stopped}
+use Rattle.clos_meaning.specs.Outcome.{End, Out, Gave, Given, Signalled, Stopped, Run, Eval, then_do, step_then, ends_in, gave, is_true, leaves, stopped}
 use Rattle.clos_meaning.specs.Parameters.{Sources, argument, refused, init}
 use Rattle.clos_forms.specs.clos_names.declared.callee.SlotFunction.TheVariants.{SlotValue, SlotBoundp}
 use Rattle.clos_meaning.specs.ChangeClass.{changed_to}
@@ -48,7 +50,7 @@ use Rattle.clos_machine.specs.declared.machine.BuiltIn.TheVariants.{Reader, Writ
 use Rattle.clos_machine.specs.declared.machine.Control.{Control}
 use Rattle.clos_machine.specs.declared.machine.Control.TheVariants.{Progn, Prog1, If, When, Unless, And, Or}
 use Rattle.clos_machine.specs.declared.machine.Doing.{Doing}
-use Rattle.clos_machine.specs.declared.machine.Doing.TheVariants.{Start, Act, Invoke, Perform, Give}
+use Rattle.clos_machine.specs.declared.machine.Doing.TheVariants.{Start, Act, Invoke, Perform, Native, Give}
 use Rattle.clos_machine.specs.declared.machine.Doing.TheVariants as doing
 use Rattle.clos_machine.specs.declared.machine.Filling.{Filling}
 use Rattle.clos_machine.specs.declared.machine.Frame.{Frame}
@@ -225,6 +227,7 @@ doing_run room env (doing.Collect action forms values) w s = collect (meaning ro
 doing_run room env (Act action values) w s = acted (meaning room) env action values w s
 doing_run room env (Invoke f values) w s = invoked (meaning room) f values w s
 doing_run room env (Perform b arguments) w s = performed (meaning room) env b arguments w s
+doing_run room env (Native values) w s = native_called values w s
 doing_run room env (doing.Turn l counter) w s = turns (meaning room) env (loop_of l) counter.0 counter.1 w s
 doing_run room env (Give value) w s = Gave (value_of value) w s
 
@@ -281,10 +284,37 @@ Answers run w s (Ok v) w' s' = run w s ≡ Gave (value_of v) w' s'
 Answers run w s (Err (Refused c)) w' s' = run w s ≡ Stopped c w' s'
 Answers run w s (Err Storage) w' s' = (k : ℕ) × (s ≡ k + s') × leaves (run w k) w' 0
 
--- The run takes as many steps, whatever is left after them.
-abbrev pub Takes : Run → State → ℕ → Result Value Stop → State → ℕ → Type 0
-Takes run w s (Ok v) w' s' = (k : ℕ) × (s ≡ k + s') × ((t : ℕ) → run w (k + t) ≡ Gave (value_of v) w' t)
-Takes run w s (Err e) w' s' = Unit {0}
+-- ---- where functions that the host stored may have been called: their answers come after those of earlier calls
+
+-- A turn in which one may have answered.
+abbrev pub Asks : Host → Run → State → ℕ → List ℤ → Result Doing Stop → Machine → State → ℕ → List ℤ → Type 0
+Asks host run w s past (Ok d) m w' s' past' =
+    (k : ℕ) × (used : List ℤ) × (s ≡ k + s') × (past' ≡ past ++ used)
+    × ((t : ℕ) (more : List ℤ) → answered_by host (denote m d w' t) more ≡ answered_by host (run w (k + t)) (used ++ more))
+Asks host run w s past (Err (Refused c)) m w' s' past' = (past' ≡ past)
+    × (answered_by host (run w s) [] ≡ Some (Signalled c (unbound w') s'))
+Asks host run w s past (Err Storage) m w' s' past' = (past' ≡ past) × (unbound w' ≡ unbound w) × (s' ≡ s)
+
+-- where an outcome leaves the state and the steps, with these answers
+abbrev pub leaves_by : Host → Out → List ℤ → State → ℕ → Type 0
+leaves_by host o used w s = (e : End) × (answered_by host o used ≡ Some e) × ends_in e w s
+
+-- The answer is the run's with the answers that came; where memory was refused, the state is that of the run with the steps taken
+-- as its budget.
+abbrev pub AnswersWith : Host → Run → State → ℕ → List ℤ → Result Value Stop → State → ℕ → List ℤ → Type 0
+AnswersWith host run w s past (Ok v) w' s' past' = (used : List ℤ) × (past' ≡ past ++ used)
+    × (answered_by host (run w s) used ≡ Some (Given (value_of v) w' s'))
+AnswersWith host run w s past (Err (Refused c)) w' s' past' = (used : List ℤ) × (past' ≡ past ++ used)
+    × (answered_by host (run w s) used ≡ Some (Signalled c w' s'))
+AnswersWith host run w s past (Err Storage) w' s' past' = (used : List ℤ) × (past' ≡ past ++ used) × (k : ℕ) × (s ≡ k + s')
+    × leaves_by host (run w k) used w' 0
+
+-- The run takes as many steps and answers, whatever is left after them.
+abbrev pub TakesWith : Host → Run → State → ℕ → List ℤ → Result Value Stop → State → ℕ → List ℤ → Type 0
+TakesWith host run w s past (Ok v) w' s' past' =
+    (k : ℕ) × (used : List ℤ) × (s ≡ k + s') × (past' ≡ past ++ used)
+    × ((t : ℕ) → answered_by host (run w (k + t)) used ≡ Some (Given (value_of v) w' t))
+TakesWith host run w s past (Err e) w' s' past' = Unit {0}
 
 -- ---- What is left to do has a weight, and each turn makes it less
 
@@ -315,6 +345,10 @@ invoke_weight = 3
 -- what a call of a generic function adds at most
 abbrev pub call_growth : ℕ
 call_growth = 2
+
+-- a call of a function that the host stored, which comes of an action
+abbrev pub native_weight : ℕ
+native_weight = 7
 
 -- the next turn of a loop
 abbrev pub turn_weight : ℕ
@@ -400,6 +434,7 @@ given (Act action values) = action_weight action
 given (Invoke f values) = invoke_weight
 given (Perform b arguments) = perform_weight
 given (doing.Turn l counter) = turn_weight
+given (Native values) = native_weight
 given (Give value) = value_weight
 
 abbrev pub weight : ℕ → Machine → Doing → ℕ
@@ -458,11 +493,14 @@ Skips x (Ok next) ls bs = x ≡ Some (ls, with_next next bs)
 Skips x (Err (Refused c)) ls bs = (x ≡ None) × (c ≡ record { kind = Unsupported; items = [] })
 Skips x (Err Storage) ls bs = Unit {0}
 
--- The run has come to here: after some steps it goes on as `rest` does from here.
-pub record Reached (run : Run) (w0 : State) (s0 : ℕ) (rest : Run) (w : State) (s : ℕ) : Type 0 where
+-- The run has come to here: after some steps and answers it goes on as `rest` does from here.
+pub record Reached (host : Host) (run : Run) (w0 : State) (s0 : ℕ) (past0 : List ℤ) (rest : Run) (w : State) (s : ℕ)
+    (past : List ℤ) : Type 0 where
   pub taken : ℕ
+  pub used : List ℤ
   pub steps : s0 ≡ taken + s
-  pub same : (t : ℕ) → rest w t ≡ run w0 (taken + t)
+  pub answers : past ≡ past0 ++ used
+  pub same : (t : ℕ) (more : List ℤ) → answered_by host (rest w t) more ≡ answered_by host (run w0 (taken + t)) (used ++ more)
 
 -- the value of a form of this operator that is a constant, or a variable that has one
 abbrev pub at_once : State → Operator → Option Val

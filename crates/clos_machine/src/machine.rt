@@ -124,6 +124,8 @@ pub enum Doing {
     Perform(BuiltIn, Arguments),
     /// The next turn of a loop, or its end.
     Turn(Repetition, Counter),
+    /// A function that the host stored is called: the first value names it, the others are its arguments.
+    Native(Values),
     /// The value goes to the top level.
     Give(Value),
 }

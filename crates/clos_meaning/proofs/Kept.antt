@@ -1,6 +1,6 @@
 -- What an evaluation keeps: all that is defined, and where no step is left all but variables.
 use Rattle.std.proofs.Common.{◌≡◌, subst, ℕ, zero, suc, List, [], ◌∷◌, ◌++◌, map, Option, Some, None, Result, Ok, Err, Bool, true, false, length, ◌+◌, slice_get, refl, ◌∙◌}
-use Rattle.std.specs.Prelude.{codes, pos, is_some, if◌then◌else◌}
+use Rattle.std.specs.Prelude.{codes, pos, is_some, ℤ, ◌==◌, if◌then◌else◌}
 use Rattle.lisp_data.specs.Name.{Name}
 use Rattle.lisp_data.specs.Print.{Called, by_symbol, by_setf}
 use Rattle.lisp_data.specs.Value.{Val}
@@ -41,9 +41,10 @@ use Rattle.clos_world.specs.declared.functions.Function.{Function}
 use Rattle.clos_meaning.specs.Accessors.{read_by, read_of, written_by, written_of}
 use Rattle.clos_meaning.specs.Assignment.{stored, stored_globally, stored_only, made_of, changed_only, global_set}
 use Rattle.clos_forms.specs.clos_names.Callee.{callee_of}
-use Rattle.clos_meaning.specs.ClassFunctions.{Answer, class_answer, comes_to}
+use Rattle.clos_meaning.specs.ClassFunctions.{Answer, class_answer, comes_to, symbol_in}
 use Rattle.clos_meaning.specs.Bodies.{restoring, parameters_run, body_run}
 use Rattle.clos_meaning.specs.Calls.{called_defined, called_setter, called_setter_by, called_function, keys_are_even, method_run, method_body_run, method_called, made_run}
+use Rattle.clos_meaning.specs.Natives.{answer_given, integers_given, integers_in, native_called, native_found, native_named}
 use Rattle.clos_meaning.specs.NextMethods.{next_with, next_by, next_called, next_given, next_in, next_run, none_next}
 use Rattle.clos_meaning.specs.FindMethod.{method_answer}
 use Rattle.clos_meaning.specs.Dispatch.{Dispatch}
@@ -69,7 +70,7 @@ use Rattle.clos_world.specs.clos_store.Update.{with_change, with_update}
 use Rattle.clos_world.specs.Class.{effective, layout}
 use Rattle.clos_meaning.specs.ChangeClass.{change_called, changed_by_layout, changed_if, changed_of, changed_to, class_changed, different_called, if_there}
 use Rattle.clos_meaning.specs.Updating.{due, names_listed, restructured, told, updated, updated_if, updated_with}
-use Rattle.clos_meaning.specs.Outcome.{leaves, Noted, Out, Gave, Stopped, Run, Eval, then_do, step_then, gave, stopped, is_true}
+use Rattle.clos_meaning.specs.Outcome.{leaves, Noted, Looked, Asked, Out, Gave, Stopped, Run, Eval, then_do, step_then, gave, stopped, is_true}
 use Rattle.clos_meaning.specs.Output.{output_of, text_by, written, line_ended}
 use Rattle.clos_meaning.specs.Parameters.{Sources, argument, refused, init, are_even, are_pairs, fits, sources}
 use Rattle.clos_meaning.specs.Variables.{Loop, found_value, variable_value, inner, leaving, init_form, within, binding, in_order, together, aside, name_in, counted, body_of, result_value, turns, turns_in, repeated}
@@ -78,7 +79,7 @@ use Rattle.clos_meaning.specs.declared.arguments.Context.{Context}
 use Rattle.clos_meaning.proofs.Quiet.{Quiet}
 use Rattle.clos_meaning.specs.declared.arguments.Running.{Running}
 use Rattle.clos_forms.specs.clos_names.declared.callee.Callee.{Callee}
-use Rattle.clos_forms.specs.clos_names.declared.callee.Callee.TheVariants.{Output, Terpri, Primitive, MakeInstance, ChangeClass, FindMethod, ClassFunction, SlotFunction, Defined}
+use Rattle.clos_forms.specs.clos_names.declared.callee.Callee.TheVariants.{Output, Terpri, Primitive, MakeInstance, ChangeClass, FindMethod, NativeCall, ClassFunction, SlotFunction, Defined}
 use Rattle.clos_forms.specs.clos_names.declared.callee.Output as output
 
 pub same : (w : State) → Same w w
@@ -92,6 +93,8 @@ abbrev pub SameAfter : State → Out → Type 0
 SameAfter w (Gave v u k) = Same w u
 SameAfter w (Stopped c u k) = Same w u
 SameAfter w (Noted n o) = SameAfter w o
+SameAfter w (Looked name more) = (n : Option ℕ) → SameAfter w (more n)
+SameAfter w (Asked name xs more) = (x : ℤ) → SameAfter w (more x)
 
 -- An outcome from this state with so many steps: it defines nothing, and where no step is left it changes no more than variables.
 abbrev pub Kept : State → ℕ → Out → Type 0
@@ -108,15 +111,21 @@ shifted : (w u : State) (o : Out) → Same w u → SameAfter u o → SameAfter w
 shifted w u (Gave v t k) h g = same_then w u t h g
 shifted w u (Stopped c t k) h g = same_then w u t h g
 shifted w u (Noted n o) h g = shifted w u o h g
+shifted w u (Looked name more) h g = λ n. shifted w u (more n) h (g n)
+shifted w u (Asked name xs more) h g = λ x. shifted w u (more x) h (g x)
 
 then_same : (w : State) (o : Out) (go : Val → Run) → SameAfter w o → ((v : Val) (u : State) (j : ℕ) → Kept u j (go v u j)) → SameAfter w (then_do o go)
 then_same w (Gave v u j) go h g = shifted w u (go v u j) h (g v u j).0
 then_same w (Stopped c u j) go h g = h
 then_same w (Noted n o) go h g = then_same w o go h g
+then_same w (Looked name more) go h g = λ n. then_same w (more n) go (h n) g
+then_same w (Asked name xs more) go h g = λ x. then_same w (more x) go (h x) g
 
 then_quiet : (w : State) (o : Out) (go : Val → Run) → Quiet o w → ((v : Val) (u : State) (j : ℕ) → Kept u j (go v u j)) → Quiet (then_do o go) w
 then_quiet w (Stopped c u j) go h g = h
 then_quiet w (Noted n o) go h g = then_quiet w o go h g
+then_quiet w (Looked name more) go h g = λ n. then_quiet w (more n) go (h n) g
+then_quiet w (Asked name xs more) go h g = absurd h
 then_quiet w (Gave v u j) go h g = subst (λ x. leaves (closed (go v u j)) x 0) h.0 ((g v u j).1 h.1)
 
 -- what follows a value
@@ -138,11 +147,15 @@ same_restored : (l : List Local) (w : State) (o : Out) → SameAfter w o → Sam
 same_restored l w (Gave v u j) h = h
 same_restored l w (Stopped c u j) h = h
 same_restored l w (Noted n o) h = same_restored l w o h
+same_restored l w (Looked name more) h = λ n. same_restored l w (more n) (h n)
+same_restored l w (Asked name xs more) h = λ x. same_restored l w (more x) (h x)
 
 quiet_restored : (l : List Local) (w : State) (o : Out) → Quiet o w → Quiet (then_do o (restoring l)) w
 quiet_restored l w (Gave v u j) h = h
 quiet_restored l w (Stopped c u j) h = h
 quiet_restored l w (Noted n o) h = quiet_restored l w o h
+quiet_restored l w (Looked name more) h = λ n. quiet_restored l w (more n) (h n)
+quiet_restored l w (Asked name xs more) h = absurd h
 
 pub restored : (l : List Local) (w : State) (k : ℕ) (o : Out) → Kept w k o → Kept w k (then_do o (restoring l))
 restored l w k o h = (same_restored l w o h.0, λ e. quiet_restored l w o (h.1 e))
@@ -151,11 +164,15 @@ same_left : (m : ℕ) (w : State) (o : Out) → SameAfter w o → SameAfter w (t
 same_left m w (Gave v u j) h = h
 same_left m w (Stopped c u j) h = h
 same_left m w (Noted n o) h = same_left m w o h
+same_left m w (Looked name more) h = λ n. same_left m w (more n) (h n)
+same_left m w (Asked name xs more) h = λ x. same_left m w (more x) (h x)
 
 quiet_left : (m : ℕ) (w : State) (o : Out) → Quiet o w → Quiet (then_do o (leaving m)) w
 quiet_left m w (Gave v u j) h = h
 quiet_left m w (Stopped c u j) h = h
 quiet_left m w (Noted n o) h = quiet_left m w o h
+quiet_left m w (Looked name more) h = λ n. quiet_left m w (more n) (h n)
+quiet_left m w (Asked name xs more) h = absurd h
 
 left_kept : (m : ℕ) (w : State) (k : ℕ) (o : Out) → Kept w k o → Kept w k (then_do o (leaving m))
 left_kept m w k o h = (same_left m w o h.0, λ e. quiet_left m w o (h.1 e))
@@ -176,6 +193,25 @@ stored_kept_then f slot rest g v w k =
 pub filled_with_kept : (f : Subject) (slot : EffectiveSlot) (rest : Run) → ((u : State) (j : ℕ) → Kept u j (rest u j)) → (v : Val) (w : State) (k : ℕ) → Kept w k (filled_with f slot rest v w k)
 filled_with_kept f slot rest g v w k =
     choice_kept (is_the_class f.class (class_of_instance w f.instance)) w k (filled f slot rest v w k) _ (stored_kept_then f slot rest g v w k) (still w k)
+
+-- ---- calls of functions that the host stored
+
+integers_kept : (name : Name) (r : Result (List ℤ) Val) (w : State) (k : ℕ) → Kept w k (integers_given name r w k)
+integers_kept name (Err v) w k = still w k
+integers_kept name (Ok xs) w k = step_kept (answer_given name xs) w k (λ j x. same w)
+
+found_kept : (name : Name) (vs : List Val) (n : Option ℕ) (w : State) (k : ℕ) → Kept w k (native_found name vs n w k)
+found_kept name vs None w k = still w k
+found_kept name vs (Some n) w k = choice_kept (length vs == n) w k (integers_given name (integers_in vs) w k) _
+    (integers_kept name (integers_in vs) w k) (still w k)
+
+named_kept : (v : Val) (name : Option Name) (vs : List Val) (w : State) (k : ℕ) → Kept w k (native_named v name vs w k)
+named_kept v None vs w k = still w k
+named_kept v (Some name) vs w k = (λ n. (found_kept name vs n w k).0, λ e n. (found_kept name vs n w k).1 e)
+
+pub native_kept : (vs : List Val) (w : State) (k : ℕ) → Kept w k (native_called vs w k)
+native_kept [] w k = still w k
+native_kept (v ∷ vs) w k = named_kept v (symbol_in v) vs w k
 
 output_kept : (o : output.Output) (x : Option Val) (w : State) (k : ℕ) → Kept w k (output_of o x w k)
 output_kept o None w k = still w k
@@ -553,6 +589,7 @@ module _ (ev : Eval) (h : Keeps ev) where
   applied_kept env MakeInstance name vs w k = instance_kept vs w k
   applied_kept env ChangeClass name vs w k = change_called_kept vs w k
   applied_kept env FindMethod name vs w k = comes_kept (method_answer w.classes w.generics vs) w k
+  applied_kept env NativeCall name vs w k = native_kept vs w k
   applied_kept env (SlotFunction f) name vs w k = slot_called_kept env f vs w k
   applied_kept env (ClassFunction f) name vs w k = comes_kept (class_answer f w.classes (class_of w) vs) w k
   applied_kept env Defined name vs w k = function_kept name vs (named w.generics (Symbol name)) w k
@@ -906,6 +943,8 @@ closed_same : (w : State) (o : Out) → SameAfter w o → SameAfter w (closed o)
 closed_same w (Gave v u k) h = h
 closed_same w (Stopped c u k) h = h
 closed_same w (Noted n o) h = closed_same w o h
+closed_same w (Looked name more) h = λ n. closed_same w (more n) (h n)
+closed_same w (Asked name xs more) h = λ x. closed_same w (more x) (h x)
 
 -- a form by itself
 pub evaluation_kept : (room : ℕ) (f : Form) (w : State) (k : ℕ) → SameAfter w (evaluation room f w k)

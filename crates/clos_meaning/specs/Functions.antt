@@ -14,12 +14,13 @@ use Rattle.clos_meaning.specs.ClassFunctions.{class_answer, comes_to}
 use Rattle.clos_meaning.specs.Fault.{answered}
 use Rattle.clos_meaning.specs.FindMethod.{method_answer}
 use Rattle.clos_meaning.specs.Initialization.{instance_made}
+use Rattle.clos_meaning.specs.Natives.{native_called}
 use Rattle.clos_meaning.specs.Outcome.{Run, Eval}
 use Rattle.clos_meaning.specs.Output.{output_of, line_ended}
 use Rattle.clos_meaning.specs.Slots.{slot_called, slot_set}
 use Rattle.clos_meaning.specs.declared.arguments.Context.{Context}
 use Rattle.clos_forms.specs.clos_names.declared.callee.Callee.{Callee}
-use Rattle.clos_forms.specs.clos_names.declared.callee.Callee.TheVariants.{Output, Terpri, Primitive, MakeInstance, ChangeClass, FindMethod, ClassFunction, SlotFunction, Defined}
+use Rattle.clos_forms.specs.clos_names.declared.callee.Callee.TheVariants.{Output, Terpri, Primitive, MakeInstance, ChangeClass, FindMethod, NativeCall, ClassFunction, SlotFunction, Defined}
 use Rattle.clos_forms.specs.clos_names.declared.callee.SlotFunction.TheVariants.{SlotValue}
 
 -- what the function does with the values of its arguments; a defined one is found by its name
@@ -30,6 +31,7 @@ applied ev env (Primitive p) name vs w s = answered (answer p vs) w s
 applied ev env MakeInstance name vs w s = instance_made ev vs w s
 applied ev env ChangeClass name vs w s = change_called ev vs w s
 applied ev env FindMethod name vs w s = comes_to (method_answer w.classes w.generics vs) w s
+applied ev env NativeCall name vs w s = native_called vs w s
 applied ev env (ClassFunction f) name vs w s = comes_to (class_answer f w.classes (class_of w) vs) w s
 applied ev env (SlotFunction f) name vs w s = slot_called ev env f vs w s
 applied ev env Defined name vs w s = called_function ev name vs (named w.generics (Symbol name)) w s

@@ -2,7 +2,7 @@
 --   (defclass a () ()) (defclass b (a) ())
 --   (defmethod g :around ((x b)) (princ "1") (prog1 (call-next-method) (princ "9"))) and so on,
 -- and the call is (princ (g (make-instance 'b))).
-use Rattle.std.specs.Prelude.{◌≡◌, ℕ, false, true, List, [], ◌∷◌, ◌++◌, None, codes, map, refl}
+use Rattle.std.specs.Prelude.{◌≡◌, ℕ, false, true, List, [], ◌∷◌, ◌++◌, None, codes, map, refl, Option, Some, option_map}
 use Rattle.lisp_data.specs.Name.{Name}
 use Rattle.lisp_data.specs.Print.{on_class}
 use Rattle.lisp_data.specs.Value.{Val, symbol, string}
@@ -26,7 +26,8 @@ use Rattle.clos_world.specs.clos_method.declared.method.MethodBody.TheVariants.{
 use Rattle.clos_world.specs.clos_method.declared.origin.Origin.TheVariants.{Defmethod}
 use Rattle.clos_world.specs.clos_method.declared.shape.Shape.{Shape}
 use Rattle.clos_meaning.specs.Meaning.{evaluation}
-use Rattle.clos_meaning.specs.Outcome.{Out, Gave, Stopped, Noted, stopped}
+use Rattle.clos_meaning.specs.Host.{answered_by}
+use Rattle.clos_meaning.specs.Outcome.{End, Given, Out, Signalled}
 
 abbrev name : List ℕ → Name
 name text = record { text = text; keyword = false }
@@ -122,14 +123,19 @@ defined = record (initial standard) {
 
 -- ---- the call
 
--- what stands written after it
-abbrev writes : Out → List ℕ
-writes (Gave v w s) = w.written
-writes (Stopped c w s) = w.written
-writes (Noted n o) = writes o
+-- what it ends with; it calls no function that the host stored
+abbrev ends : Out → Option End
+ends o = answered_by (λ name. None) o []
 
-called_in_order : writes (evaluation 20 (call (codes "PRINC") (alone (call (codes "G") (alone (call (codes "MAKE-INSTANCE") (alone (quoted (codes "B")))))))) defined 200)
-    ≡ codes "12345a6789(B A)"
+-- what stands written then
+abbrev written_in : End → List ℕ
+written_in (Given v w s) = w.written
+written_in (Signalled c w s) = w.written
+
+called_in_order : option_map written_in
+    (ends (evaluation 20 (call (codes "PRINC")
+    (alone (call (codes "G") (alone (call (codes "MAKE-INSTANCE") (alone (quoted (codes "B")))))))) defined 200))
+    ≡ Some (codes "12345a6789(B A)")
 called_in_order = refl
 
 -- ---- (make-instance 'b): a step each for the form, the name, the instance, and the effective methods of initialize-instance and
@@ -138,14 +144,12 @@ called_in_order = refl
 abbrev made : Form
 made = call (codes "MAKE-INSTANCE") (alone (quoted (codes "B")))
 
--- the value, after its notes
-abbrev bare : Out → Out
-bare (Gave v w s) = Gave v w s
-bare (Stopped c w s) = Stopped c w s
-bare (Noted n o) = bare o
-
-instance_is_made : bare (evaluation 20 made defined 5) ≡ Gave (value.instance 1) (record defined { store = with_instance (allocated b (record { locals = []; shared = [] })) defined.store }) 0
+instance_is_made : ends (evaluation 20 made defined 5) ≡ Some
+    (Given (value.instance 1) (record defined { store = with_instance (allocated b (record { locals = []; shared = [] })) defined.store })
+    0)
 instance_is_made = refl
 
-is_cut_in_between : bare (evaluation 20 made defined 4) ≡ stopped StepLimit [] (record defined { store = with_instance (allocated b (record { locals = []; shared = [] })) defined.store }) 0
+is_cut_in_between : ends (evaluation 20 made defined 4)
+    ≡ Some (Signalled (record { kind = StepLimit; items = [] })
+    (record defined { store = with_instance (allocated b (record { locals = []; shared = [] })) defined.store }) 0)
 is_cut_in_between = refl

@@ -22,6 +22,8 @@ pub mod SystemMethods
 pub mod Calls
 pub mod NextMethods
 pub mod FindMethod
+pub mod Natives
+pub mod Host
 pub mod Functions
 pub mod SlotNames
 pub mod Meaning

@@ -27,7 +27,7 @@ use Rattle.clos_meaning.specs.NextMethods.{has_next, next_called, next_with}
 use Rattle.clos_meaning.specs.Control.{and_then, branch_by, clauses, first_then, keeping, or_then, sequence, where_false, where_true}
 use Rattle.clos_meaning.specs.Fault.{answered}
 use Rattle.clos_meaning.specs.Functions.{Access, call_access, called, place_read, place_set, slot_access}
-use Rattle.clos_meaning.specs.Outcome.{Out, Gave, Stopped, Noted, Run, Eval, then_do, step_then, gave, stopped}
+use Rattle.clos_meaning.specs.Outcome.{Out, Gave, Stopped, Noted, Looked, Asked, Run, Eval, then_do, step_then, gave, stopped}
 use Rattle.clos_meaning.specs.SlotNames.{name_read, name_stored, place_denoted, with_slots}
 use Rattle.clos_meaning.specs.Variables.{in_order, aside, dotimes}
 use Rattle.clos_meaning.specs.declared.arguments.Context.{Context}
@@ -194,6 +194,8 @@ abbrev pub closed : Out → Out
 closed (Gave v w s) = Gave v (unbound w) s
 closed (Stopped c w s) = Stopped c (unbound w) s
 closed (Noted n o) = closed o
+closed (Looked name more) = Looked name (λ n. closed (more n))
+closed (Asked name xs more) = Asked name xs (λ x. closed (more x))
 
 -- A form that is evaluated by itself begins with no variables and leaves none.
 abbrev pub evaluation : ℕ → Form → Run

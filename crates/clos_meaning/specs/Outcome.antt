@@ -1,5 +1,6 @@
 -- What an evaluation comes to: a value or a condition, the state after, and the steps left.
-use Rattle.std.specs.Prelude.{◌≡◌, ℕ, zero, suc, Bool, true, false, List, []}
+use Rattle.std.specs.Prelude.{◌≡◌, ℕ, zero, suc, ℤ, Bool, true, false, List, [], Option}
+use Rattle.lisp_data.specs.Name.{Name}
 use Rattle.lisp_data.specs.Value.{Val, list, nil}
 use Rattle.clos_forms.specs.Form.{Form}
 use Rattle.clos_world.specs.World.{State}
@@ -13,11 +14,19 @@ use Rattle.clos_meaning.specs.declared.arguments.Context.{Context}
 pub data Note : Type 0 where
   used : Pair → Note
 
--- the value or the condition, the state after, and the steps left; or that something was noted first
+-- the value or the condition, the state after, and the steps left; or that something was noted first; or, where the host has
+-- to answer before it goes on, what comes of each answer
 pub data Out : Type 0 where
   Gave : Val → State → ℕ → Out
   Stopped : Condition → State → ℕ → Out
   Noted : Note → Out → Out
+  Looked : Name → (Option ℕ → Out) → Out  -- how many integers does the stored function of this name take, if there is one?
+  Asked : Name → List ℤ → (ℤ → Out) → Out  -- what does that function answer to these?
+
+-- what it ends with, where it waits for nothing any more
+pub data End : Type 0 where
+  Given : Val → State → ℕ → End
+  Signalled : Condition → State → ℕ → End
 
 -- from a state, with some steps left
 abbrev pub Run : Type 0
@@ -32,6 +41,8 @@ abbrev pub then_do : Out → (Val → Run) → Out
 then_do (Gave v w s) go = go v w s
 then_do (Stopped c w s) go = Stopped c w s
 then_do (Noted n o) go = Noted n (then_do o go)
+then_do (Looked name more) go = Looked name (λ n. then_do (more n) go)
+then_do (Asked name xs more) go = Asked name xs (λ x. then_do (more x) go)
 
 -- a value at once: the state stays, and no step is taken
 abbrev pub gave : Val → Run
@@ -51,8 +62,15 @@ abbrev pub is_true : Val → Bool
 is_true (list nil) = false
 is_true v = true
 
--- where an outcome leaves the state and the steps
+-- where an outcome leaves the state and the steps; one that waits for an answer to a call leaves them nowhere
 abbrev pub leaves : Out → State → ℕ → Type 0
 leaves (Gave v w s) w' s' = (w ≡ w') × (s ≡ s')
 leaves (Stopped c w s) w' s' = (w ≡ w') × (s ≡ s')
 leaves (Noted n o) w' s' = leaves o w' s'
+leaves (Looked name more) w' s' = (n : Option ℕ) → leaves (more n) w' s'
+leaves (Asked name xs more) w' s' = ⊥
+
+-- the same of what it ends with
+abbrev pub ends_in : End → State → ℕ → Type 0
+ends_in (Given v w s) w' s' = (w ≡ w') × (s ≡ s')
+ends_in (Signalled c w s) w' s' = (w ≡ w') × (s ≡ s')

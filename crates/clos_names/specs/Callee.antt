@@ -5,7 +5,7 @@ use Rattle.lisp_prims.specs.Primitive.{primitive_of}
 use Rattle.lisp_prims.specs.declared.primitive.Primitive as of_values
 use Rattle.clos_names.specs.Names.{is_called}
 use Rattle.clos_names.specs.declared.callee.Callee.{Callee}
-use Rattle.clos_names.specs.declared.callee.Callee.TheVariants.{Output, Terpri, Primitive, MakeInstance, ChangeClass, FindMethod, ClassFunction, SlotFunction, Defined}
+use Rattle.clos_names.specs.declared.callee.Callee.TheVariants.{Output, Terpri, Primitive, MakeInstance, ChangeClass, FindMethod, NativeCall, ClassFunction, SlotFunction, Defined}
 use Rattle.clos_names.specs.declared.callee.ClassFunction as of_classes
 use Rattle.clos_names.specs.declared.callee.ClassFunction.TheVariants.{ClassOf, ClassName, ClassPrecedenceList, FindClass, Typep}
 use Rattle.clos_names.specs.declared.callee.SlotFunction as of_slots
@@ -56,4 +56,5 @@ callee_of name =
     else if is_called (codes "MAKE-INSTANCE") name then MakeInstance
     else if is_called (codes "CHANGE-CLASS") name then ChangeClass
     else if is_called (codes "FIND-METHOD") name then FindMethod
+    else if is_called (codes "NATIVE-CALL") name then NativeCall
     else class_function (class_function_of name) (slot_function (slot_function_of name) name)

@@ -57,6 +57,8 @@ pub enum Callee {
     MakeInstance,
     ChangeClass,
     FindMethod,
+    /// The function `native-call`, which calls a function that the host stored.
+    NativeCall,
     /// A function of classes.
     ClassFunction(ClassFunction),
     /// A function of slots.
@@ -89,6 +91,9 @@ pub(crate) fn callee_named(name: &Name) -> Callee
     }
     if is_the(name, "FIND-METHOD") {
         return Callee::FindMethod;
+    }
+    if is_the(name, "NATIVE-CALL") {
+        return Callee::NativeCall;
     }
     match class_function_named(name) {
         Some(function) => Callee::ClassFunction(function),

@@ -1,2 +1,3 @@
 pub mod inner
 pub mod Relation
+pub mod Stored

@@ -1,10 +1,10 @@
 //! Functions that a host stores, and programs call by name.
 #![tactic(auto)]
 
+mod lookup;
 mod native;
 mod relation;
-mod stored;
 
+pub use lookup::find;
 pub use native::{Boxed, Native};
 pub use relation::Relation;
-pub use stored::Stored;

@@ -4,7 +4,6 @@ ghost use Rattle.clos_native.specs.inner.Facts.{meets_is_fact};
 ghost use Rattle.clos_native.specs.Relation.{IsFor, Meets};
 
 use crate::relation::Relation;
-use crate::stored::Stored;
 use lisp_data::Name;
 
 /// What answers to so many integers.
@@ -36,24 +35,26 @@ impl Native {
             function,
         }
     }
-}
 
-impl Stored for Native {
-    ghost named = { λ it. it.name };
-
-    ghost takes = { λ it. it.arity };
-
-    ghost relation = { λ it. it.relation };
-
-    fn name(&self) -> &Name {
+    /// The name by which programs call it.
+    pub fn name(&self) -> &Name
+        ensures { result.now ≡ self.now.name }
+    {
         &self.name
     }
 
-    fn arity(&self) -> usize {
+    /// How many integers it takes.
+    pub fn arity(&self) -> usize
+        ensures { result ≡ self.now.arity }
+    {
         self.arity
     }
 
-    fn call(&self, arguments: &[i64]) -> i64 {
+    /// Its answer to these integers, as many as it takes.
+    pub fn call(&self, arguments: &[i64]) -> i64
+        requires { length arguments.now ≡ self.now.arity }
+        ensures { Meets self.now.relation arguments.now result }
+    {
         (self.function)(arguments)
     }
 }

@@ -2,7 +2,8 @@
 use Rattle.std.specs.Prelude.{◌≡◌, ◌⊎◌, ℕ, nat_lt, ◌||◌, List, [], ◌∷◌, Bool, true, false, Option, codes, if◌then◌else◌}
 use Rattle.std.specs.Str.{bytes_eq}
 use Rattle.std.specs.Io.KnownBytes.{Keeps}
-use Rattle.clos_system.specs.clos_world.World.{State}
+use Rattle.clos_system.specs.clos_session.Session.{Standing}
+use Rattle.clos_system.specs.clos_session.clos_machine.clos_meaning.Host.{Host}
 use Rattle.clos_system.specs.Transcript.{Finishes, OverText, RunFaults}
 use Rattle.clos_system.specs.declared.transcript.RunFault.{RunFault}
 use Rattle.clos_system.specs.declared.transcript.Summary.{Summary}
@@ -29,18 +30,18 @@ abbrev pub fault_status : ℕ
 fault_status = 3
 
 -- A run came to the end of its text. What the output holds has grown by the transcript.
-abbrev pub Ran : Bool → Option (List ℕ) → State → State → Option (List ℕ) → Option (List ℕ) → Bool → Type 0
-Ran echo known start end old new told =
-    (n : Summary) × (told ≡ is_told n) × OverText known (λ text. Finishes echo text start end old new n)
+abbrev pub Ran : Host → Bool → Option (List ℕ) → Standing → Standing → Option (List ℕ) → Option (List ℕ) → Bool → Type 0
+Ran host echo known start end old new told =
+    (n : Summary) × (told ≡ is_told n) × OverText known (λ text. Finishes host echo text start end old new n)
 
 -- A run ended with a fault.
-abbrev pub Failed : Bool → Option (List ℕ) → State → State → Option (List ℕ) → Option (List ℕ) → Type 0
-Failed echo known start end old new = (e : RunFault) × RunFaults echo known start end old new e
+abbrev pub Failed : Host → Bool → Option (List ℕ) → Standing → Standing → Option (List ℕ) → Option (List ℕ) → Type 0
+Failed host echo known start end old new = (e : RunFault) × RunFaults host echo known start end old new e
 
 -- The input was run and the output flushed, which changes nothing of what it holds. The status tells whether a condition or
 -- storage line was written, or that the run or the flush failed.
-abbrev pub RunsInput : Bool → Option (List ℕ) → State → State → Option (List ℕ) → Option (List ℕ) → ℕ → Type 0
-RunsInput echo known start end old new status =
+abbrev pub RunsInput : Host → Bool → Option (List ℕ) → Standing → Standing → Option (List ℕ) → Option (List ℕ) → ℕ → Type 0
+RunsInput host echo known start end old new status =
     (written : Option (List ℕ)) × Keeps written new
-    × (((told : Bool) × Ran echo known start end old written told × ((status ≡ status_of told) ⊎ (status ≡ fault_status)))
-    ⊎ ((status ≡ fault_status) × Failed echo known start end old written))
+    × (((told : Bool) × Ran host echo known start end old written told × ((status ≡ status_of told) ⊎ (status ≡ fault_status)))
+    ⊎ ((status ≡ fault_status) × Failed host echo known start end old written))

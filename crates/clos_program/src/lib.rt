@@ -2,10 +2,12 @@
 #![tactic(auto)]
 
 mod fault;
+pub mod natives;
 mod running;
 
-pub use clos_system::{Limits, Session};
+pub use clos_system::{Limits, Native, Relation, Session};
 pub use fault::{Fault, report};
+pub use natives::{affine, low};
 pub use running::{
     STATUS_CONDITION, STATUS_DONE, STATUS_FAULT, STATUS_USAGE, limits, program, reads_input,
 };

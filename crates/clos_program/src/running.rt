@@ -3,12 +3,12 @@ ghost use Rattle.std.specs.Prelude.{◌≡◌, ◌⊎◌, ◌||◌, IfOk, IfErr,
 ghost use Rattle.std.specs.List.{list_any};
 ghost use Rattle.std.specs.Io.KnownBytes.{Keeps};
 ghost use Rattle.clos_system.specs.clos_world.Limits.{standard};
-ghost use Rattle.clos_system.specs.clos_session.Session.{state_of};
+ghost use Rattle.clos_system.specs.clos_session.Session.{standing_of};
 ghost use Rattle.clos_program.specs.Program.{Failed, Ran, RunsInput, fault_status, is_input, is_input_alone, status_of};
 
 use crate::fault::{Fault, report};
 use clos_command_line::Settings;
-use clos_system::{Limits, Session, run};
+use clos_system::{Limits, Natives, Session, run};
 use std::alloc::Global;
 use std::fs::{File, Files};
 use std::io::{Read, Write};
@@ -73,16 +73,18 @@ pub fn limits(settings: &Settings<'_>) -> Limits
 }
 
 /// Runs one text, and says whether a condition or storage line was written.
-fn run_text<'a, I: Read, O: Write>(
+fn run_text<'a, N: Natives, I: Read, O: Write>(
     alloc: Global,
-    session: &mut Session,
+    session: &mut Session<N>,
     name: &'a str,
     input: &mut I,
     output: &mut O,
     echo: bool,
 ) -> Result<bool, Fault<'a>>
-    ensures finishes { IfOk result (Ran echo (I.remaining input.old) (state_of session.old) (state_of session.new) (O.contents output.old) (O.contents output.new)) }
-    ensures fails { IfErr result (λ _. Failed echo (I.remaining input.old) (state_of session.old) (state_of session.new) (O.contents output.old) (O.contents output.new)) }
+    ensures finishes { IfOk result (Ran (N.host session.old.natives) echo (I.remaining input.old) (standing_of session.old)
+        (standing_of session.new) (O.contents output.old) (O.contents output.new)) }
+    ensures fails { IfErr result (λ _. Failed (N.host session.old.natives) echo (I.remaining input.old) (standing_of session.old)
+        (standing_of session.new) (O.contents output.old) (O.contents output.new)) }
 {
     match run(alloc, session, input, output, echo) {
         Ok(summary) => Ok(summary.conditions > 0 || summary.storages > 0),
@@ -91,10 +93,10 @@ fn run_text<'a, I: Read, O: Write>(
 }
 
 /// Runs the file of this name, or the input where the name stands for it.
-fn run_named<'a, R: Files, I: Read, O: Write>(
+fn run_named<'a, N: Natives, R: Files, I: Read, O: Write>(
     rt: &R,
     alloc: Global,
-    session: &mut Session,
+    session: &mut Session<N>,
     name: &'a str,
     input: &mut I,
     output: &mut O,
@@ -111,10 +113,10 @@ fn run_named<'a, R: Files, I: Read, O: Write>(
 
 /// Runs the files in order, each with a flush of the output after it, and says whether a condition or storage line was
 /// written.
-fn run_files<'a, R: Files, I: Read, O: Write>(
+fn run_files<'a, N: Natives, R: Files, I: Read, O: Write>(
     rt: &R,
     alloc: Global,
-    session: &mut Session,
+    session: &mut Session<N>,
     settings: &Settings<'a>,
     input: &mut I,
     output: &mut O,
@@ -153,10 +155,10 @@ fn finish<O: Write, E: Write>(ran: Result<bool, Fault<'_>>, output: &mut O, erro
 /// Runs the files of the settings in order in the session, or the input where there are none; the name `-` stands for the
 /// input. The output is flushed after each, and before a fault is told, in one line on `errors`, which ends the program. The
 /// answer is the exit status.
-pub fn program<R: Files, I: Read, O: Write, E: Write>(
+pub fn program<N: Natives, R: Files, I: Read, O: Write, E: Write>(
     rt: &R,
     alloc: Global,
-    session: &mut Session,
+    session: &mut Session<N>,
     settings: &Settings<'_>,
     input: &mut I,
     output: &mut O,
@@ -164,7 +166,8 @@ pub fn program<R: Files, I: Read, O: Write, E: Write>(
 ) -> u8
     ensures status { (result ≡ STATUS_DONE) ⊎ (result ≡ STATUS_CONDITION) ⊎ (result ≡ STATUS_FAULT) }
     ensures input { is_input_alone (map (λ f. f.now) settings.now.files.items) ≡ true
-        → RunsInput settings.now.echo (I.remaining input.old) (state_of session.old) (state_of session.new)
+        → RunsInput (N.host session.old.natives) settings.now.echo (I.remaining input.old) (standing_of session.old)
+        (standing_of session.new)
         (O.contents output.old) (O.contents output.new) result }
 {
     if is_input_alone(settings.files.as_slice()) {

@@ -1,6 +1,6 @@
 -- A definition that is refused defines nothing, and neither does any other form.
 use Rattle.std.proofs.Common.{ℕ, zero, suc, List, [], ◌∷◌, ◌++◌, Option, Some, None, Result, Ok, Err, Bool, true, false, length, map, subst}
-use Rattle.std.specs.Prelude.{⊤, nat_lt, ◌||◌, is_some, if◌then◌else◌}
+use Rattle.std.specs.Prelude.{⊤, ℤ, option_map, ◌||◌, is_some, if◌then◌else◌}
 use Rattle.lisp_data.specs.Datum.{Dat}
 use Rattle.lisp_data.specs.Name.{Name}
 use Rattle.lisp_data.specs.Value.{Val, class, generic, method}
@@ -26,8 +26,9 @@ use Rattle.clos_definition_forms.specs.clos_definition.Class.{cells_needed, clas
 use Rattle.clos_definition_forms.specs.clos_definition.Generic.{eql_forms, generic_refusal, with_defined_generic}
 use Rattle.clos_definition_forms.specs.clos_definition.Method.{eql_form, method_refusal, with_defined_method}
 use Rattle.clos_definition_forms.specs.clos_definition.Removal.{removable, with_removed}
+use Rattle.clos_definition_forms.specs.clos_machine.clos_meaning.Host.{Host, answered_by, may_answer}
 use Rattle.clos_definition_forms.specs.clos_machine.clos_meaning.Meaning.{evaluation}
-use Rattle.clos_definition_forms.specs.clos_machine.clos_meaning.Outcome.{Noted, Out, Gave, Stopped, Run, then_do, step_then, stopped}
+use Rattle.clos_definition_forms.specs.clos_machine.clos_meaning.Outcome.{Asked, End, Given, Looked, Noted, Out, Gave, Signalled, Stopped, Run, then_do, step_then, stopped}
 use Rattle.clos_definition_forms.proofs.clos_machine.clos_meaning.Kept.{same, same_then, SameAfter, evaluation_kept}
 use Rattle.clos_definition_forms.specs.Definition.{class_made, define_class, define_generic, define_method, generic_made, method_made, remove_method, removed_if, takes_effect, unless, value_at, values_removed}
 use Rattle.clos_session.specs.Definitions.{DefinesNothing}
@@ -37,10 +38,9 @@ use Rattle.clos_definition_forms.specs.clos_world.clos_comb.Table as combination
 use Rattle.clos_definition_forms.specs.clos_world.clos_comb.Table.{is_predefined, name_of}
 use Rattle.clos_definition_forms.specs.clos_world.clos_comb.clos_combination.declared.combination.CombinationDefinition.{CombinationDefinition}
 use Rattle.clos_definition_forms.specs.Function.{has_room, function_defined, setter_defined, define_function}
-use Rattle.clos_session.specs.Served.{is_served_top}
 use Rattle.clos_session.specs.Session.{Replies}
 use Rattle.clos_session.specs.Step.{checked, performed, room_of, step}
-use Rattle.clos_definition_forms.specs.Variable.{room_below, keeps_value, named as defined_name, declared, value_given, new_value, variable_defined}
+use Rattle.clos_definition_forms.specs.Variable.{admits, room_below, keeps_value, named as defined_name, declared, value_given, new_value, variable_defined}
 use Rattle.clos_session.specs.declared.session.Reply.{Reply}
 use Rattle.clos_session.specs.declared.session.Reply.TheVariants.{Value, Condition as a_condition, Storage}
 
@@ -50,16 +50,22 @@ abbrev Refuses : State → Out → Type 0
 Refuses w (Gave v u k) = ⊤
 Refuses w (Stopped c u k) = Same w u
 Refuses w (Noted n o) = Refuses w o
+Refuses w (Looked name more) = (n : Option ℕ) → Refuses w (more n)
+Refuses w (Asked name xs more) = (x : ℤ) → Refuses w (more x)
 
 kept_refuses : (w : State) (o : Out) → SameAfter w o → Refuses w o
 kept_refuses w (Gave v u k) h = tt
 kept_refuses w (Stopped c u k) h = h
 kept_refuses w (Noted n o) h = kept_refuses w o h
+kept_refuses w (Looked name more) h = λ n. kept_refuses w (more n) (h n)
+kept_refuses w (Asked name xs more) h = λ x. kept_refuses w (more x) (h x)
 
 shifted_refuses : (w u : State) (o : Out) → Same w u → Refuses u o → Refuses w o
 shifted_refuses w u (Gave v t k) h g = tt
 shifted_refuses w u (Stopped c t k) h g = same_then w u t h g
 shifted_refuses w u (Noted n o) h g = shifted_refuses w u o h g
+shifted_refuses w u (Looked name more) h g = λ n. shifted_refuses w u (more n) h (g n)
+shifted_refuses w u (Asked name xs more) h g = λ x. shifted_refuses w u (more x) h (g x)
 
 choice_refuses : (b : Bool) (w : State) (x y : Out) → Refuses w x → Refuses w y → Refuses w (if b then x else y)
 choice_refuses true w x y h g = h
@@ -79,6 +85,8 @@ unless_refuses (Some c) go w k h = same w
 then_refuses : (w : State) (o : Out) (go : Val → Run) → SameAfter w o → ((v : Val) (u : State) (j : ℕ) → Refuses u (go v u j)) → Refuses w (then_do o go)
 then_refuses w (Stopped c u k) go h g = h
 then_refuses w (Noted n o) go h g = then_refuses w o go h g
+then_refuses w (Looked name more) go h g = λ n. then_refuses w (more n) go (h n) g
+then_refuses w (Asked name xs more) go h g = λ x. then_refuses w (more x) go (h x) g
 then_refuses w (Gave v u k) go h g = shifted_refuses w u (go v u k) h (g v u k)
 
 form_refuses : (o : Option Form) (go : Option Val → Run) (w : State) (k : ℕ) → ((v : Option Val) (u : State) (j : ℕ) → Refuses u (go v u j)) → Refuses w (form_evaluated o go w k)
@@ -145,6 +153,8 @@ combination_refuses d w k =
 then_step_refuses : (w : State) (o : Out) (go : Val → Run) → SameAfter w o → ((v : Val) (u : State) (j : ℕ) → Refuses u (go v u j)) → Refuses w (then_do o (λ v. step_then (go v)))
 then_step_refuses w (Stopped c u k) go h g = h
 then_step_refuses w (Noted n o) go h g = then_step_refuses w o go h g
+then_step_refuses w (Looked name more) go h g = λ n. then_step_refuses w (more n) go (h n) g
+then_step_refuses w (Asked name xs more) go h g = λ x. then_step_refuses w (more x) go (h x) g
 then_step_refuses w (Gave v u zero) go h g = h
 then_step_refuses w (Gave v u (suc k)) go h g = shifted_refuses w u (go v u k) h (g v u k)
 
@@ -155,7 +165,7 @@ value_refuses name (Some f) w k =
 
 variable_refuses : (d : VariableDefinition) (w : State) (k : ℕ) → Refuses w (variable_defined d w k)
 variable_refuses d w k =
-    choice_refuses (is_global w.globals d.name || nat_lt (length w.globals) w.limits.globals) w _ (stopped TableLimit [] w k)
+    choice_refuses (admits w d.name) w _ (stopped TableLimit [] w k)
     (choice_refuses (keeps_value w d.definer d.name) w (step_then (defined_name d.name) w k) (new_value d.name d.form w k)
     (step_refuses (defined_name d.name) w k (λ j. tt)) (value_refuses d.name d.form w k)) (same w)
 
@@ -176,13 +186,37 @@ performed_refuses (Expr f) w k = kept_refuses w (evaluation (room_of w) f w k) (
 
 checked_refuses : (o : Option Top) (w : State) (k : ℕ) → Refuses w (checked o w k)
 checked_refuses None w k = same w
-checked_refuses (Some top) w k = choice_refuses (is_served_top top) w (performed top w k) _ (performed_refuses top w k) (same w)
+checked_refuses (Some top) w k = performed_refuses top w k
 
 step_refused : (d : Dat) (w : State) (k : ℕ) → Refuses w (step d w k)
 step_refused d w k = checked_refuses (top_of d) w k
 
+-- where it ends with a condition
+abbrev ends_refused : State → Option End → Type 0
+ends_refused w None = ⊤
+ends_refused w (Some (Given v u k)) = ⊤
+ends_refused w (Some (Signalled c u k)) = Same w u
+
+if_permitted : (w : State) (b : Bool) (o : Option End) → ends_refused w o → ends_refused w (if b then o else None)
+if_permitted w true o h = h
+if_permitted w false o h = tt
+
+answered_refused : (host : Host) (w : State) (o : Out) (xs : List ℤ) → Refuses w o → ends_refused w (answered_by host o xs)
+answered_refused host w (Gave v u k) [] h = tt
+answered_refused host w (Gave v u k) (x ∷ xs) h = tt
+answered_refused host w (Stopped c u k) [] h = h
+answered_refused host w (Stopped c u k) (x ∷ xs) h = tt
+answered_refused host w (Noted n o) xs h = answered_refused host w o xs h
+answered_refused host w (Looked name more) xs h = answered_refused host w (more (option_map (λ f. f.takes) (host name))) xs
+    (h (option_map (λ f. f.takes) (host name)))
+answered_refused host w (Asked name ys more) [] h = tt
+answered_refused host w (Asked name ys more) (x ∷ xs) h =
+    if_permitted w (may_answer (host name) ys x) (answered_by host (more x) xs) (answered_refused host w (more x) xs (h x))
+
 -- what a session replies
-pub defines_nothing : (d : Dat) (s : ℕ) (w u : State) (r : Reply) → Replies (step d) s w r u → DefinesNothing r w u
-defines_nothing d s w u (Value v) h = tt
-defines_nothing d s w u (a_condition number items) h = subst (Refuses w) h.3 (step_refused d w s)
-defines_nothing d s w u (Storage k) h = tt
+pub defines_nothing : (host : Host) (d : Dat) (s : ℕ) (w u : State) (past past' : List ℤ) (r : Reply) → Replies host (step d) s w past r u
+    past' → DefinesNothing r w u
+defines_nothing host d s w u past past' (Value v) h = tt
+defines_nothing host d s w u past past' (a_condition number items) h =
+    subst (ends_refused w) h.5 (answered_refused host w (step d w s) h.2 (step_refused d w s))
+defines_nothing host d s w u past past' (Storage k) h = tt

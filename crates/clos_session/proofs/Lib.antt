@@ -1,3 +1,3 @@
 pub mod StepQuiet
+pub mod Asking
 pub mod Definitions
-pub mod Serving

@@ -1,6 +1,6 @@
 -- With no step left a top-level form changes nothing.
-use Rattle.std.proofs.Common.{◌≡◌, ◌≤◌, ◌-◌, arith, subst, ℕ, zero, suc, [], Option, Some, None, Err, Bool, true, false, length, refl}
-use Rattle.std.specs.Prelude.{nat_lt, ◌||◌, is_some, if◌then◌else◌}
+use Rattle.std.proofs.Common.{◌≡◌, ◌-◌, arith, subst, ℕ, zero, suc, List, [], Option, Some, None, Err, Bool, true, false, refl}
+use Rattle.std.specs.Prelude.{ℤ, ◌||◌, is_some, if◌then◌else◌}
 use Rattle.lisp_data.specs.Name.{Name}
 use Rattle.lisp_data.specs.Datum.{Dat}
 use Rattle.lisp_data.specs.Value.{Val}
@@ -13,21 +13,22 @@ use Rattle.clos_top.specs.declared.top.Top.{Top}
 use Rattle.clos_top.specs.declared.top.Top.TheVariants.{DefClass, DefGeneric, DefMethod, DefCombination, Defun, DefVar, RemoveMethod, AddDependent, RemoveDependent, InPackage, Expr}
 use Rattle.clos_top.specs.clos_syntax.declared.variable.VariableDefinition.{VariableDefinition}
 use Rattle.clos_definition_forms.specs.clos_world.Functions.{function_in}
-use Rattle.clos_definition_forms.specs.clos_world.Globals.{is_global}
 use Rattle.clos_definition_forms.specs.clos_world.World.{State, seen}
 use Rattle.clos_definition_forms.specs.clos_world.declared.condition.Stop.{Stop}
 use Rattle.clos_definition_forms.specs.clos_world.declared.condition.Stop.TheVariants.{Refused, Storage}
 use Rattle.clos_definition_forms.specs.clos_world.declared.functions.Function.{Function}
 use Rattle.clos_definition_forms.specs.clos_world.declared.world.World.{World}
 use Rattle.clos_definition_forms.specs.clos_machine.clos_meaning.Contexts.{known}
-use Rattle.clos_definition_forms.specs.clos_machine.Machine.{Answers}
+use Rattle.clos_definition_forms.specs.clos_machine.Machine.{AnswersWith, leaves_by}
+use Rattle.clos_definition_forms.specs.clos_machine.clos_meaning.Host.{Host}
 use Rattle.clos_definition_forms.specs.clos_machine.clos_meaning.Meaning.{evaluation}
-use Rattle.clos_definition_forms.specs.clos_machine.clos_meaning.Outcome.{Noted, Out, Gave, Stopped, Run, then_do, step_then, leaves}
+use Rattle.clos_definition_forms.specs.clos_machine.clos_meaning.Outcome.{Asked, Looked, Noted, Out, Gave, Stopped, Run, then_do, step_then, leaves}
 use Rattle.clos_definition_forms.proofs.clos_machine.clos_meaning.Quiet.{evaluation_quiet}
 use Rattle.clos_definition_forms.specs.Function.{has_room, define_function}
-use Rattle.clos_session.specs.Served.{is_served_top}
+use Rattle.clos_session.specs.Session.{Replies}
+use Rattle.clos_session.specs.declared.session.Reply.TheVariants.{Storage as stored_after}
 use Rattle.clos_session.specs.Step.{checked, performed, room_of, step}
-use Rattle.clos_definition_forms.specs.Variable.{room_below, keeps_value, value_given, new_value, variable_defined}
+use Rattle.clos_definition_forms.specs.Variable.{admits, room_below, keeps_value, value_given, new_value, variable_defined}
 use Rattle.clos_definition_forms.proofs.Quiet.{define_class_quiet, define_combination_quiet, define_generic_quiet, define_method_quiet, remove_method_quiet}
 
 either : (b : Bool) (x y : Out) (w : State) → leaves x w 0 → leaves y w 0 → leaves (if b then x else y) w 0
@@ -46,6 +47,8 @@ function_quiet (Setf name) f w =
 then_step_quiet : (o : Out) (go : Val → Run) (w : State) → leaves o w 0 → leaves (then_do o (λ v. step_then (go v))) w 0
 then_step_quiet (Stopped c u k) go w h = h
 then_step_quiet (Noted n o) go w h = then_step_quiet o go w h
+then_step_quiet (Looked name more) go w h = λ n. then_step_quiet (more n) go w (h n)
+then_step_quiet (Asked name xs more) go w h = absurd h
 then_step_quiet (Gave v u zero) go w h = h
 then_step_quiet (Gave v u (suc k)) go w h = absurd (cc h.1)
 
@@ -57,7 +60,7 @@ value_quiet name (Some f) w =
 
 variable_quiet : (d : VariableDefinition) (w : World) → leaves (variable_defined d (seen w) 0) (seen w) 0
 variable_quiet d w =
-    either (is_global (seen w).globals d.name || nat_lt (length (seen w).globals) (seen w).limits.globals) _ _ (seen w)
+    either (admits (seen w) d.name) _ _ (seen w)
     (either (keeps_value (seen w) d.definer d.name) _ _ (seen w) (refl, refl) (value_quiet d.name d.form w)) (refl, refl)
 
 performed_quiet : (top : Top) (w : World) → leaves (performed top (seen w) 0) (seen w) 0
@@ -75,13 +78,15 @@ performed_quiet (Expr f) w = evaluation_quiet (room_of (seen w)) (known []) f (s
 
 pub checked_quiet : (o : Option Top) (w : World) → leaves (checked o (seen w) 0) (seen w) 0
 checked_quiet None w = (refl, refl)
-checked_quiet (Some top) w = either (is_served_top top) (performed top (seen w) 0) _ (seen w) (performed_quiet top w) (refl, refl)
+checked_quiet (Some top) w = performed_quiet top w
 
 pub step_quiet : (d : Dat) (w : World) → leaves (step d (seen w) 0) (seen w) 0
 step_quiet d w = checked_quiet (top_of d) w
 
 -- where memory was refused, the steps taken are those that are gone
-pub stored : (run : Run) (w w' : State) (s s' : ℕ) (stop : Stop) → stop ≡ Storage → Answers run w s (Err stop) w' s'
-    → (s - s' ≤ s) × leaves (run w (s - s')) w' 0
-stored run w w' s s' Storage h e = (omega arith, subst (λ k. leaves (run w k) w' 0) (omega (arith, e.1)) e.2)
-stored run w w' s s' (Refused c) h e = absurd (cc h)
+pub stored : (host : Host) (run : Run) (w w' : State) (s s' : ℕ) (past past' : List ℤ) (stop : Stop) → stop ≡ Storage
+    → AnswersWith host run w s past (Err stop) w' s' past'
+    → Replies host run s w past (stored_after (s - s')) w' past'
+stored host run w w' s s' past past' Storage h e =
+    (e.0, omega arith, e.1, subst (λ k. leaves_by host (run w k) e.0 w' 0) (omega (arith, e.3)) e.4)
+stored host run w w' s s' past past' (Refused c) h e = absurd (cc h)

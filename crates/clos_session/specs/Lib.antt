@@ -1,6 +1,7 @@
-pub mod Served
 pub mod Step
 pub mod Session
 pub mod Definitions
 pub use Rattle.clos_definition_forms.specs.clos_machine as clos_machine
 pub use Rattle.clos_definition_forms.specs.clos_world as clos_world
+pub use Rattle.clos_definition_forms.specs.clos_eval as clos_eval
+pub use Rattle.clos_definition_forms.specs.clos_native as clos_native

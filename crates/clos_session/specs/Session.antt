@@ -1,8 +1,10 @@
 -- The replies of a session.
-use Rattle.std.specs.Prelude.{◌≡◌, ℕ, ◌≤◌}
+use Rattle.std.specs.Prelude.{◌≡◌, ℕ, ℤ, ◌≤◌, List, ◌++◌, Some}
 use Rattle.lisp_data.specs.ValueView.{value_of}
 use Rattle.clos_definition_forms.specs.clos_world.World.{State, seen}
-use Rattle.clos_definition_forms.specs.clos_machine.clos_meaning.Outcome.{Run, Gave, Stopped, leaves}
+use Rattle.clos_definition_forms.specs.clos_machine.Machine.{leaves_by}
+use Rattle.clos_definition_forms.specs.clos_machine.clos_meaning.Host.{Host, answered_by}
+use Rattle.clos_definition_forms.specs.clos_machine.clos_meaning.Outcome.{Run, Given, Signalled}
 use Rattle.clos_definition_forms.specs.clos_world.Condition.{number_of}
 use Rattle.clos_definition_forms.specs.clos_world.declared.condition.ConditionKind.{ConditionKind}
 use Rattle.clos_session.specs.declared.session.Session.{Session}
@@ -10,17 +12,31 @@ use Rattle.clos_session.specs.declared.session.Reply.{Reply}
 use Rattle.clos_session.specs.declared.session.Reply.TheVariants.{Value, Condition, Storage}
 
 -- the state of a session
-abbrev pub state_of : Session → State
+abbrev pub state_of : {N : Type 0} → Session N → State
 state_of s = seen s.world
 
+-- what the host's functions answered in it, in order
+abbrev pub answers_of : {N : Type 0} → Session N → List ℤ
+answers_of s = s.answers.items
+
+-- both of them
+pub record Standing : Type 0 where
+  pub state : State
+  pub answers : List ℤ
+
+abbrev pub standing_of : {N : Type 0} → Session N → Standing
+standing_of s = record { state = state_of s; answers = answers_of s }
+
 -- how many effective methods were worked out in it
-abbrev pub built_of : Session → ℕ
+abbrev pub built_of : {N : Type 0} → Session N → ℕ
 built_of s = s.world.meter
 
--- It is the value or the condition of the run within so many steps, and the state is the one after.
+-- It is the value or the condition of the run within so many steps, with the answers that came, and the state is the one after.
 -- Where memory was refused, the state is the one after as many steps as are told.
-abbrev pub Replies : Run → ℕ → State → Reply → State → Type 0
-Replies run s w (Value v) w' = (t : ℕ) × (run w s ≡ Gave (value_of v) w' t)
-Replies run s w (Condition number items) w' =
-    (kind : ConditionKind) × (t : ℕ) × (number ≡ number_of kind) × (run w s ≡ Stopped (record { kind = kind; items = items }) w' t)
-Replies run s w (Storage k) w' = (k ≤ s) × leaves (run w k) w' 0
+abbrev pub Replies : Host → Run → ℕ → State → List ℤ → Reply → State → List ℤ → Type 0
+Replies host run s w past (Value v) w' past' = (t : ℕ) × (used : List ℤ) × (past' ≡ past ++ used)
+    × (answered_by host (run w s) used ≡ Some (Given (value_of v) w' t))
+Replies host run s w past (Condition number items) w' past' =
+    (kind : ConditionKind) × (t : ℕ) × (used : List ℤ) × (number ≡ number_of kind) × (past' ≡ past ++ used)
+    × (answered_by host (run w s) used ≡ Some (Signalled (record { kind = kind; items = items }) w' t))
+Replies host run s w past (Storage k) w' past' = (used : List ℤ) × (k ≤ s) × (past' ≡ past ++ used) × leaves_by host (run w k) used w' 0

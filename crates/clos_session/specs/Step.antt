@@ -1,5 +1,5 @@
 -- What a top-level form does (HyperSpec 3.1.2.1).
-use Rattle.std.specs.Prelude.{ℕ, min, [], Option, Some, None, if◌then◌else◌}
+use Rattle.std.specs.Prelude.{ℕ, min, [], Option, Some, None}
 use Rattle.lisp_data.specs.Datum.{Dat}
 use Rattle.lisp_data.specs.Value.{list, nil}
 use Rattle.clos_top.specs.Top.{top_of}
@@ -12,14 +12,13 @@ use Rattle.clos_definition_forms.specs.clos_machine.clos_meaning.Outcome.{Gave, 
 use Rattle.clos_definition_forms.specs.Combination.{define_combination}
 use Rattle.clos_definition_forms.specs.Definition.{define_class, define_generic, define_method, remove_method}
 use Rattle.clos_definition_forms.specs.Function.{define_function}
-use Rattle.clos_session.specs.Served.{is_served_top}
 use Rattle.clos_definition_forms.specs.Variable.{variable_defined}
 
 -- how deep its forms may nest
 abbrev pub room_of : State → ℕ
 room_of w = min w.limits.depth 4_000
 
--- by the kind of the form; in-package does nothing, and gives NIL
+-- by the kind of the form; in-package does nothing, and gives NIL; dependents are not served yet
 abbrev pub performed : Top → Run
 performed (DefClass d) w k = define_class d w k
 performed (DefGeneric d) w k = define_generic d w k
@@ -36,7 +35,7 @@ performed (Expr f) w k = evaluation (room_of w) f w k
 -- a datum that is no form of the language is refused first
 abbrev pub checked : Option Top → Run
 checked None w k = stopped ProgramError [] w k
-checked (Some top) w k = if is_served_top top then performed top w k else stopped Unsupported [] w k
+checked (Some top) w k = performed top w k
 
 -- the step of a top-level form: the value or the condition, and the state after
 abbrev pub step : Dat → Run

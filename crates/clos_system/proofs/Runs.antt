@@ -1,31 +1,49 @@
 -- How the loop over the forms of a text makes a run, and what is told of a form.
-use Rattle.std.proofs.Common.{◌≡◌, ℕ, ◌+◌, ◌-◌, ◌<◌, ◌≤◌, ◌==◌, suc, get_or, append-nil, List, [], ◌∷◌, ◌++◌, Option, Some, None, Result, Ok, Err, Bool, length, drop, refl, ap, sym, subst, ◌∙◌, arith, append_assoc, inl}
+use Rattle.std.proofs.Common.{◌≡◌, ℕ, ◌+◌, ◌-◌, ◌<◌, ◌≤◌, ◌==◌, suc, get_or, append-nil, List, [], ◌∷◌, ◌++◌, Option, Some, None, Result, Ok, Err, Bool, length, drop, refl, ap, sym, subst, ◌∙◌, arith, append_assoc, inl, inr}
+use Rattle.std.specs.Prelude.{ℤ, IfErr, IfSome}
 use Rattle.std.specs.Io.KnownBytes.{Appends}
 use Rattle.lisp_data.specs.Datum.{Dat}
+use Rattle.lisp_data.specs.ValueView.{value_of}
 use Rattle.lisp_data.specs.declared.value.Value.{Value}
 use Rattle.lisp_reader.specs.Answers.{Next}
 use Rattle.clos_session.specs.clos_world.World.{State}
-use Rattle.clos_session.specs.clos_machine.Machine.{Answers}
+use Rattle.clos_session.specs.Session.{Standing}
+use Rattle.clos_session.specs.clos_machine.Machine.{AnswersWith}
+use Rattle.clos_session.specs.clos_machine.clos_meaning.Host.{Host}
+use Rattle.clos_session.specs.clos_machine.clos_meaning.Outcome.{Given, Signalled}
 use Rattle.clos_session.specs.Step.{step}
-use Rattle.clos_system.specs.Transcript.{Ran, performs, cuts, told, told_for, counted, counted_for, state_after, ends_line, Stands, Performs, FailsAfter, Faults, RunFaults, SourceFails}
+use Rattle.clos_system.specs.Transcript.{Ran, performs, cuts, told_for, counted_for, standing_after, ends_line, Stands, Performed, Performs, FailsAfter, Faults, RunFaults, SourceFails}
 use Rattle.clos_session.specs.clos_world.declared.condition.Stop.{Stop}
 use Rattle.clos_session.specs.clos_world.declared.condition.Stop.TheVariants.{Refused, Storage}
 use Rattle.clos_system.specs.declared.transcript.Summary.{Summary}
 use Rattle.clos_system.specs.declared.transcript.RunFault.{RunFault}
 use Rattle.clos_system.specs.declared.transcript.RunFault.TheVariants.{Read, TooLong, Reader, Write, Memory}
 
+-- with these answers after those that there were
+comes_to : (host : Host) (echo : Bool) (text : List ℕ) (start w w' : Standing) (used : List ℤ) (x : State) (at : ℕ) (out : List ℕ)
+    (n : Summary) → w'.state ≡ x → w'.answers ≡ w.answers ++ used
+    → Ran host echo text start (standing_after w used x) at out n → Ran host echo text start w' at out n
+comes_to host echo text start w w' used x at out n e h r =
+    subst (λ past. Ran host echo text start (record { state = w'.state; answers = past }) at out n) (sym h)
+    (subst (λ y. Ran host echo text start (record { state = y; answers = w.answers ++ used }) at out n) (sym e) r)
+
 -- the run goes on by a form
-pub ran_on : (echo : Bool) (text : List ℕ) (start w : State) (at : ℕ) (out : List ℕ) (n : Summary) (d : Dat) (next : ℕ) (answer : Result Value Stop) (w' : State) (left : ℕ)
-    → Ran echo text start w at out n → Next (drop at text) d (drop next text) → Answers (step d) w w.limits.steps answer w' left
-    → Ran echo text start w' next (told_for echo w w' answer (w.limits.steps - left) out) (counted_for answer n)
-ran_on echo text start w at out n d next (Ok v) w' left r h e =
-    subst (λ o. Ran echo text start (state_after o) next (told echo w o out) (counted o n)) e (performs w at out n d next r h)
-ran_on echo text start w at out n d next (Err (Refused c)) w' left r h e =
-    subst (λ o. Ran echo text start (state_after o) next (told echo w o out) (counted o n)) e (performs w at out n d next r h)
-ran_on echo text start w at out n d next (Err Storage) w' left r h e =
-    let taken : w.limits.steps - left ≡ e.0 = omega (arith, e.1) in
-    subst (λ k. Ran echo text start w' next (told_for echo w w' (Err Storage) k out) (counted_for (Err Storage) n)) (sym taken)
-    (cuts w at out n d next e.0 w' r h (omega (arith, e.1)) e.2)
+pub ran_on : (host : Host) (echo : Bool) (text : List ℕ) (start w : Standing) (at : ℕ) (out : List ℕ) (n : Summary) (d : Dat) (next : ℕ)
+    (answer : Result Value Stop) (w' : Standing) (left : ℕ)
+    → Ran host echo text start w at out n → Next (drop at text) d (drop next text) → AnswersWith host (step d) w.state w.state.limits.steps
+    w.answers answer w'.state left w'.answers
+    → Ran host echo text start w' next (told_for echo w.state w'.state answer (w.state.limits.steps - left) out) (counted_for answer n)
+ran_on host echo text start w at out n d next (Ok v) w' left r h a =
+    comes_to host echo text start w w' a.0 w'.state next _ _ refl a.1 (performs w at out n d next a.0 (Given (value_of v) w'.state left)
+    r h a.2)
+ran_on host echo text start w at out n d next (Err (Refused c)) w' left r h a =
+    comes_to host echo text start w w' a.0 w'.state next _ _ refl a.1 (performs w at out n d next a.0 (Signalled c w'.state left) r h a.2)
+ran_on host echo text start w at out n d next (Err Storage) w' left r h a =
+    let taken : w.state.limits.steps - left ≡ a.2 = omega (arith, a.3) in
+    subst (λ k. Ran host echo text start w' next (told_for echo w.state w'.state (Err Storage) k out) (counted_for (Err Storage) n))
+    (sym taken)
+    (comes_to host echo text start w w' a.0 w'.state next _ _ refl a.1 (cuts w at out n d next a.2 a.0 w'.state r h
+    (omega (arith, a.3)) a.4))
 
 -- nothing was written
 pub nothing_more : (out xs : List ℕ) → length xs ≡ 0 → ends_line (out ++ xs) ≡ ends_line out
@@ -61,16 +79,21 @@ appends_none None = tt
 appends_none (Some u) = sym (append-nil u)
 
 -- the loop goes on by a form
-pub stands_on : (echo : Bool) (text : List ℕ) (start w w' : State) (a b c : Option (List ℕ)) (at next : ℕ) (n n' : Summary) (fresh fresh' : Bool) (d : Dat)
-    → Stands echo text start w a b at n fresh → Next (drop at text) d (drop next text) → at < next → next ≤ length text
-    → Performs echo d w w' b c n n' fresh fresh' → n'.conditions ≤ n'.forms → n'.storages ≤ n'.forms → n'.forms ≡ n.forms + 1
-    → Stands echo text start w' a c next n' fresh'
-stands_on echo text start w w' a b c at next n n' fresh fresh' d s h lt le p x y z =
-    let more : Ran echo text start w' next (s.come.out ++ p.piece) n' =
-    subst (λ m. Ran echo text start w' next (s.come.out ++ p.piece) m) (sym p.counts)
-    (subst (λ o. Ran echo text start w' next o (counted_for p.answer n)) (sym (p.tells s.come.out s.line))
-    (ran_on echo text start w at s.come.out n d next p.answer w' p.left s.come.ran h p.answers)) in
+pub stands_on : (host now next_host : Host) (echo : Bool) (text : List ℕ) (start w w' : Standing) (a b c : Option (List ℕ)) (at next : ℕ)
+    (n n' : Summary) (fresh fresh' : Bool) (d : Dat)
+    → Stands host now echo text start w a b at n fresh → next_host ≡ now → Next (drop at text) d (drop next text) → at < next
+    → next ≤ length text
+    → Performs now echo d w w' b c n n' fresh fresh' → n'.conditions ≤ n'.forms → n'.storages ≤ n'.forms → n'.forms ≡ n.forms + 1
+    → Stands host next_host echo text start w' a c next n' fresh'
+stands_on host now next_host echo text start w w' a b c at next n n' fresh fresh' d s q h lt le p x y z =
+    let answers : AnswersWith host (step d) w.state w.state.limits.steps w.answers p.answer w'.state p.left w'.answers =
+    subst (λ o. AnswersWith o (step d) w.state w.state.limits.steps w.answers p.answer w'.state p.left w'.answers) s.stays p.answers in
+    let more : Ran host echo text start w' next (s.come.out ++ p.piece) n' =
+    subst (λ m. Ran host echo text start w' next (s.come.out ++ p.piece) m) (sym p.counts)
+    (subst (λ o. Ran host echo text start w' next o (counted_for p.answer n)) (sym (p.tells s.come.out s.line))
+    (ran_on host echo text start w at s.come.out n d next p.answer w' p.left s.come.ran h answers)) in
     record {
+      stays = q ∙ s.stays;
       come = record { out = s.come.out ++ p.piece; ran = more; appends = appends_more a b c s.come.out p.piece s.come.appends p.appends };
       within = le;
       line = p.line s.come.out s.line;
@@ -80,28 +103,55 @@ stands_on echo text start w w' a b c at next n n' fresh fresh' d s h lt le p x y
     }
 
 -- a form was performed, and then memory or the writer failed
-pub fails_after : (echo : Bool) (text : List ℕ) (start w w' : State) (a b c : Option (List ℕ)) (at next : ℕ) (n : Summary) (fresh : Bool) (d : Dat) (e : RunFault)
-    → Stands echo text start w a b at n fresh → Next (drop at text) d (drop next text) → FailsAfter d w w' e → Faults echo text start w' a c e
-fails_after echo text start w w' a b c at next n fresh d Write s h p = (
-  next,
-  counted_for p.answer n,
-  told_for echo w w' p.answer (w.limits.steps - p.left) s.come.out,
-  ran_on echo text start w at s.come.out n d next p.answer w' p.left s.come.ran h p.answers,
-)
-fails_after echo text start w w' a b c at next n fresh d Memory s h p = (
-  next,
-  counted_for p.answer n,
-  told_for echo w w' p.answer (w.limits.steps - p.left) s.come.out,
-  ran_on echo text start w at s.come.out n d next p.answer w' p.left s.come.ran h p.answers,
-)
-fails_after echo text start w w' a b c at next n fresh d Read s h p = absurd p
-fails_after echo text start w w' a b c at next n fresh d TooLong s h p = absurd p
-fails_after echo text start w w' a b c at next n fresh d (Reader f) s h p = absurd p
+module _ (host now : Host) (echo : Bool) (text : List ℕ) (start w w' : Standing) (a b c : Option (List ℕ)) (at next : ℕ) (n : Summary)
+    (fresh : Bool) (d : Dat) where
+  ran_after : (s : Stands host now echo text start w a b at n fresh) → Next (drop at text) d (drop next text) → (p : Performed now d w w')
+      → Ran host echo text start w' next (told_for echo w.state w'.state p.answer (w.state.limits.steps - p.left) s.come.out)
+      (counted_for p.answer n)
+  ran_after s h p =
+      ran_on host echo text start w at s.come.out n d next p.answer w' p.left s.come.ran h
+      (subst (λ o. AnswersWith o (step d) w.state w.state.limits.steps w.answers p.answer w'.state p.left w'.answers) s.stays p.answers)
+
+  pub fails_after : (e : RunFault) → Stands host now echo text start w a b at n fresh → Next (drop at text) d (drop next text)
+      → FailsAfter now d w w' e → Faults host echo text start w' a c e
+  fails_after Write s h p = (
+    next,
+    counted_for p.answer n,
+    told_for echo w.state w'.state p.answer (w.state.limits.steps - p.left)
+        s.come.out,
+    ran_after s h p,
+  )
+  fails_after Memory s h p = (
+    next,
+    counted_for p.answer n,
+    told_for echo w.state w'.state p.answer (w.state.limits.steps - p.left)
+        s.come.out,
+    ran_after s h p,
+  )
+  fails_after Read s h p = absurd p
+  fails_after TooLong s h p = absurd p
+  fails_after (Reader f) s h p = absurd p
 
 -- the source could not be had, and no form ran
-pub source_fails : (echo : Bool) (known : Option (List ℕ)) (s : State) (new : Option (List ℕ)) (e : RunFault) → SourceFails known e → RunFaults echo known s s new new e
-source_fails echo known s new Read h = (refl, refl)
-source_fails echo known s new TooLong h = (refl, refl, h)
-source_fails echo known s new (Reader f) h = absurd h
-source_fails echo known s new Write h = absurd h
-source_fails echo known s new Memory h = inl (refl, refl)
+pub source_fails : (host : Host) (echo : Bool) (known : Option (List ℕ)) (s : Standing) (new : Option (List ℕ)) (e : RunFault)
+    → SourceFails known e → RunFaults host echo known s s new new e
+source_fails host echo known s new Read h = (refl, refl)
+source_fails host echo known s new TooLong h = (refl, refl, h)
+source_fails host echo known s new (Reader f) h = absurd h
+source_fails host echo known s new Write h = absurd h
+source_fails host echo known s new Memory h = inl (refl, refl)
+
+-- the text was had, and its run ended with a fault
+pub text_faults : (host : Host) (echo : Bool) (known : Option (List ℕ)) (text source : List ℕ) (start end : Standing)
+    (old new : Option (List ℕ)) (r : Result Summary RunFault) → text ≡ source
+    → length source ≤ 16_777_216 → IfSome known (λ had. source ≡ had) → IfErr r (Faults host echo text start end old new)
+    → IfErr r (RunFaults host echo known start end old new)
+text_faults host echo known text source start end old new (Ok n) q l h f = tt
+text_faults host echo known text source start end old new (Err Read) q l h f = absurd f
+text_faults host echo known text source start end old new (Err TooLong) q l h f = absurd f
+text_faults host echo known text source start end old new (Err (Reader e)) q l h f =
+    (source, l, h, subst (λ t. Faults host echo t start end old new (Reader e)) q f)
+text_faults host echo known text source start end old new (Err Write) q l h f =
+    (source, l, h, subst (λ t. Faults host echo t start end old new Write) q f)
+text_faults host echo known text source start end old new (Err Memory) q l h f =
+    inr (source, l, h, subst (λ t. Faults host echo t start end old new Memory) q f)

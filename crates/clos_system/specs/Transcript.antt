@@ -1,5 +1,5 @@
 -- Runs of whole texts, and their transcripts.
-use Rattle.std.specs.Prelude.{◌≡◌, ◌⊎◌, ℕ, ◌+◌, ◌-◌, ◌<◌, ◌≤◌, ◌==◌, List, [], ◌∷◌, ◌++◌, Bool, true, codes, Option, Result, Ok, Err, IfSome, IsSome, if◌then◌else◌, length, drop}
+use Rattle.std.specs.Prelude.{◌≡◌, ◌⊎◌, ℕ, ◌+◌, ◌-◌, ◌<◌, ◌≤◌, ◌==◌, List, [], ◌∷◌, ◌++◌, Bool, true, codes, ℤ, Option, Some, Result, Ok, Err, IfSome, IsSome, if◌then◌else◌, length, drop}
 use Rattle.std.specs.List.{flat_map}
 use Rattle.std.specs.Fmt.{decimal}
 use Rattle.std.specs.Io.KnownBytes.{Appends}
@@ -12,8 +12,10 @@ use Rattle.lisp_reader.specs.Fault.{OnFault, offset_of}
 use Rattle.lisp_reader.specs.Gaps.{Gaps}
 use Rattle.clos_session.specs.clos_world.Condition.{number_of, condition_name}
 use Rattle.clos_session.specs.clos_world.World.{State, names_of}
-use Rattle.clos_session.specs.clos_machine.clos_meaning.Outcome.{Out, Gave, Noted, Stopped, leaves}
-use Rattle.clos_session.specs.clos_machine.Machine.{Answers}
+use Rattle.clos_session.specs.Session.{Standing}
+use Rattle.clos_session.specs.clos_machine.clos_meaning.Host.{Host, answered_by}
+use Rattle.clos_session.specs.clos_machine.clos_meaning.Outcome.{End, Given, Signalled}
+use Rattle.clos_session.specs.clos_machine.Machine.{AnswersWith, leaves_by}
 use Rattle.clos_session.specs.Step.{step}
 use Rattle.clos_session.specs.clos_world.declared.condition.Condition.{Condition}
 use Rattle.clos_session.specs.clos_world.declared.condition.Stop.{Stop}
@@ -42,11 +44,10 @@ abbrev pub with_written : State → State → List ℕ → List ℕ
 with_written w w' out = out ++ drop (length w.written) w'.written
 
 -- what stands written after a form: what it wrote, and on a fresh line its condition or, where values are told, its value
-abbrev pub told : Bool → State → Out → List ℕ → List ℕ
-told echo w (Gave v w' s) out =
+abbrev pub told : Bool → State → End → List ℕ → List ℕ
+told echo w (Given v w' s) out =
     if echo then fresh_line (with_written w w' out) ++ text_of true (names_of w') v ++ 10 ∷ [] else with_written w w' out
-told echo w (Stopped c w' s) out = fresh_line (with_written w w' out) ++ condition_text (names_of w') c
-told echo w (Noted n o) out = told echo w o out
+told echo w (Signalled c w' s) out = fresh_line (with_written w w' out) ++ condition_text (names_of w') c
 
 -- the line for want of memory, which is no condition: the number 0, and the steps that were taken
 abbrev pub storage_text : ℕ → List ℕ
@@ -57,16 +58,18 @@ abbrev pub told_cut : State → State → ℕ → List ℕ → List ℕ
 told_cut w w' k out = fresh_line (with_written w w' out) ++ storage_text k
 
 -- the state in which the next form begins
-abbrev pub state_after : Out → State
-state_after (Gave v w s) = w
-state_after (Stopped c w s) = w
-state_after (Noted n o) = state_after o
+abbrev pub state_after : End → State
+state_after (Given v w s) = w
+state_after (Signalled c w s) = w
+
+-- .. and what the host's functions answered until then
+abbrev pub standing_after : Standing → List ℤ → State → Standing
+standing_after w used w' = record { state = w'; answers = w.answers ++ used }
 
 -- one more form, and one more condition where it ended with one
-abbrev pub counted : Out → Summary → Summary
-counted (Gave v w s) n = record n { forms = n.forms + 1 }
-counted (Stopped c w s) n = record n { forms = n.forms + 1; conditions = n.conditions + 1 }
-counted (Noted m o) n = counted o n
+abbrev pub counted : End → Summary → Summary
+counted (Given v w s) n = record n { forms = n.forms + 1 }
+counted (Signalled c w s) n = record n { forms = n.forms + 1; conditions = n.conditions + 1 }
 
 -- one more form in which memory was refused, which counts as no condition
 abbrev pub counted_cut : Summary → Summary
@@ -76,18 +79,23 @@ counted_cut n = record n { forms = n.forms + 1; storages = n.storages + 1 }
 abbrev pub none_yet : Summary
 none_yet = record { forms = 0; conditions = 0; storages = 0 }
 
--- A run of a text from a state has come to an offset: the state there, what is written, and the counts.
-pub data Ran (echo : Bool) (text : List ℕ) (start : State) : State → ℕ → List ℕ → Summary → Type 0 where
-  begins : Ran echo text start start 0 [] none_yet
-  performs : (w : State) (at : ℕ) (out : List ℕ) (n : Summary) (d : Dat) (next : ℕ) → Ran echo text start w at out n → Next (drop at text) d (drop next text)
-      → Ran echo text start (state_after (step d w w.limits.steps)) next (told echo w (step d w w.limits.steps) out) (counted (step d w w.limits.steps) n)
-  cuts : (w : State) (at : ℕ) (out : List ℕ) (n : Summary) (d : Dat) (next : ℕ) (k : ℕ) (w' : State) → Ran echo text start w at out n → Next (drop at text) d (drop next text)
-      → k ≤ w.limits.steps → leaves (step d w k) w' 0 → Ran echo text start w' next (told_cut w w' k out) (counted_cut n)
+-- A run of a text from a state has come to an offset: the state there with what the host's functions answered, what is written, and
+-- the counts.
+pub data Ran (host : Host) (echo : Bool) (text : List ℕ) (start : Standing) : Standing → ℕ → List ℕ → Summary → Type 0 where
+  begins : Ran host echo text start start 0 [] none_yet
+  performs : (w : Standing) (at : ℕ) (out : List ℕ) (n : Summary) (d : Dat) (next : ℕ) (used : List ℤ) (e : End) → Ran host echo text start
+      w at out n
+      → Next (drop at text) d (drop next text) → answered_by host (step d w.state w.state.limits.steps) used ≡ Some e
+      → Ran host echo text start (standing_after w used (state_after e)) next (told echo w.state e out) (counted e n)
+  cuts : (w : Standing) (at : ℕ) (out : List ℕ) (n : Summary) (d : Dat) (next : ℕ) (k : ℕ) (used : List ℤ) (w' : State)
+      → Ran host echo text start w at out n
+      → Next (drop at text) d (drop next text) → k ≤ w.state.limits.steps → leaves_by host (step d w.state k) used w' 0
+      → Ran host echo text start (standing_after w used w') next (told_cut w.state w' k out) (counted_cut n)
 
 -- what is told of a form that was answered so, after so many steps
 abbrev pub told_for : Bool → State → State → Result Value Stop → ℕ → List ℕ → List ℕ
-told_for echo w w' (Ok v) k out = told echo w (Gave (value_of v) w' 0) out
-told_for echo w w' (Err (Refused c)) k out = told echo w (Stopped c w' 0) out
+told_for echo w w' (Ok v) k out = told echo w (Given (value_of v) w' 0) out
+told_for echo w w' (Err (Refused c)) k out = told echo w (Signalled c w' 0) out
 told_for echo w w' (Err Storage) k out = told_cut w w' k out
 
 -- the counts after a form that was answered so
@@ -97,28 +105,31 @@ counted_for (Err (Refused c)) n = record n { forms = n.forms + 1; conditions = n
 counted_for (Err Storage) n = counted_cut n
 
 -- A run of the text came to this offset and wrote this. What the writer holds has grown by it, where that is known.
-pub record Comes (echo : Bool) (text : List ℕ) (start end : State) (old new : Option (List ℕ)) (at : ℕ) (n : Summary) : Type 0 where
+pub record Comes (host : Host) (echo : Bool) (text : List ℕ) (start end : Standing) (old new : Option (List ℕ)) (at : ℕ)
+    (n : Summary) : Type 0 where
   pub out : List ℕ
-  pub ran : Ran echo text start end at out n
+  pub ran : Ran host echo text start end at out n
   pub appends : Appends old new out
 
 -- The run came to the end of the text.
-abbrev pub Finishes : Bool → List ℕ → State → State → Option (List ℕ) → Option (List ℕ) → Summary → Type 0
-Finishes echo text start end old new n = (at : ℕ) × Comes echo text start end old new at n × Gaps (drop at text) []
+abbrev pub Finishes : Host → Bool → List ℕ → Standing → Standing → Option (List ℕ) → Option (List ℕ) → Summary → Type 0
+Finishes host echo text start end old new n = (at : ℕ) × Comes host echo text start end old new at n × Gaps (drop at text) []
 
 -- The run came to a place where the text has no next datum, or memory or the writer failed it after a form.
-abbrev pub Faults : Bool → List ℕ → State → State → Option (List ℕ) → Option (List ℕ) → RunFault → Type 0
-Faults echo text start end old new (Reader fault) =
-    (at : ℕ) × (n : Summary) × Comes echo text start end old new at n × IsSome (offset_of fault)
+abbrev pub Faults : Host → Bool → List ℕ → Standing → Standing → Option (List ℕ) → Option (List ℕ) → RunFault → Type 0
+Faults host echo text start end old new (Reader fault) =
+    (at : ℕ) × (n : Summary) × Comes host echo text start end old new at n × IsSome (offset_of fault)
     × OnFault fault (λ kind k. (k ≤ length text) × NextFails (drop at text) kind (drop k text))
-Faults echo text start end old new Write = (at : ℕ) × (n : Summary) × (out : List ℕ) × Ran echo text start end at out n
-Faults echo text start end old new Memory = (at : ℕ) × (n : Summary) × (out : List ℕ) × Ran echo text start end at out n
-Faults echo text start end old new Read = ⊥
-Faults echo text start end old new TooLong = ⊥
+Faults host echo text start end old new Write = (at : ℕ) × (n : Summary) × (out : List ℕ) × Ran host echo text start end at out n
+Faults host echo text start end old new Memory = (at : ℕ) × (n : Summary) × (out : List ℕ) × Ran host echo text start end at out n
+Faults host echo text start end old new Read = ⊥
+Faults host echo text start end old new TooLong = ⊥
 
 -- where the loop over the forms of a text stands
-pub record Stands (echo : Bool) (text : List ℕ) (start end : State) (old new : Option (List ℕ)) (at : ℕ) (n : Summary) (fresh : Bool) : Type 0 where
-  pub come : Comes echo text start end old new at n
+pub record Stands (host now : Host) (echo : Bool) (text : List ℕ) (start end : Standing) (old new : Option (List ℕ)) (at : ℕ) (n : Summary)
+    (fresh : Bool) : Type 0 where
+  pub stays : now ≡ host
+  pub come : Comes host echo text start end old new at n
   pub within : at ≤ length text
   pub line : fresh ≡ ends_line come.out
   pub forms : n.forms ≤ at
@@ -126,29 +137,31 @@ pub record Stands (echo : Bool) (text : List ℕ) (start end : State) (old new :
   pub storages : n.storages ≤ n.forms
 
 -- A form was performed, and what is told of it was written.
-pub record Performs (echo : Bool) (d : Dat) (w w' : State) (old new : Option (List ℕ)) (n n' : Summary) (fresh fresh' : Bool) : Type 0 where
+pub record Performs (host : Host) (echo : Bool) (d : Dat) (w w' : Standing) (old new : Option (List ℕ)) (n n' : Summary)
+    (fresh fresh' : Bool) : Type 0 where
   pub answer : Result Value Stop
   pub left : ℕ
-  pub answers : Answers (step d) w w.limits.steps answer w' left
+  pub answers : AnswersWith host (step d) w.state w.state.limits.steps w.answers answer w'.state left w'.answers
   pub counts : n' ≡ counted_for answer n
   pub piece : List ℕ
   pub appends : Appends old new piece
-  pub tells : (out : List ℕ) → fresh ≡ ends_line out → out ++ piece ≡ told_for echo w w' answer (w.limits.steps - left) out
+  pub tells : (out : List ℕ) → fresh ≡ ends_line out → out ++ piece ≡ told_for echo w.state w'.state answer
+      (w.state.limits.steps - left) out
   pub line : (out : List ℕ) → fresh ≡ ends_line out → fresh' ≡ ends_line (out ++ piece)
 
 -- A form was performed.
-pub record Performed (d : Dat) (w w' : State) : Type 0 where
+pub record Performed (host : Host) (d : Dat) (w w' : Standing) : Type 0 where
   pub answer : Result Value Stop
   pub left : ℕ
-  pub answers : Answers (step d) w w.limits.steps answer w' left
+  pub answers : AnswersWith host (step d) w.state w.state.limits.steps w.answers answer w'.state left w'.answers
 
 -- .. and then memory or the writer failed.
-abbrev pub FailsAfter : Dat → State → State → RunFault → Type 0
-FailsAfter d w w' Read = ⊥
-FailsAfter d w w' TooLong = ⊥
-FailsAfter d w w' (Reader fault) = ⊥
-FailsAfter d w w' Write = Performed d w w'
-FailsAfter d w w' Memory = Performed d w w'
+abbrev pub FailsAfter : Host → Dat → Standing → Standing → RunFault → Type 0
+FailsAfter host d w w' Read = ⊥
+FailsAfter host d w w' TooLong = ⊥
+FailsAfter host d w w' (Reader fault) = ⊥
+FailsAfter host d w w' Write = Performed host d w w'
+FailsAfter host d w w' Memory = Performed host d w w'
 
 -- The source could not be had: it is too long where that is said.
 abbrev pub SourceFails : Option (List ℕ) → RunFault → Type 0
@@ -164,10 +177,10 @@ OverText known P = (text : List ℕ) × (length text ≤ 16_777_216) × IfSome k
 
 -- Where the source could not be read, or is too long, no form ran and nothing was written. After any other fault the
 -- session stands after a whole number of the text's forms. Want of memory has a kind of its own, also in the reader.
-abbrev pub RunFaults : Bool → Option (List ℕ) → State → State → Option (List ℕ) → Option (List ℕ) → RunFault → Type 0
-RunFaults echo known start end old new Read = (end ≡ start) × (new ≡ old)
-RunFaults echo known start end old new TooLong = (end ≡ start) × (new ≡ old) × IfSome known (λ text. 16_777_216 < length text)
-RunFaults echo known start end old new (Reader fault) = OverText known (λ text. Faults echo text start end old new (Reader fault))
-RunFaults echo known start end old new Write = OverText known (λ text. Faults echo text start end old new Write)
-RunFaults echo known start end old new Memory =
-    ((end ≡ start) × (new ≡ old)) ⊎ OverText known (λ text. Faults echo text start end old new Memory)
+abbrev pub RunFaults : Host → Bool → Option (List ℕ) → Standing → Standing → Option (List ℕ) → Option (List ℕ) → RunFault → Type 0
+RunFaults host echo known start end old new Read = (end ≡ start) × (new ≡ old)
+RunFaults host echo known start end old new TooLong = (end ≡ start) × (new ≡ old) × IfSome known (λ text. 16_777_216 < length text)
+RunFaults host echo known start end old new (Reader fault) = OverText known (λ text. Faults host echo text start end old new (Reader fault))
+RunFaults host echo known start end old new Write = OverText known (λ text. Faults host echo text start end old new Write)
+RunFaults host echo known start end old new Memory =
+    ((end ≡ start) × (new ≡ old)) ⊎ OverText known (λ text. Faults host echo text start end old new Memory)

@@ -3,5 +3,5 @@
 
 mod transcript;
 
-pub use clos_session::{ConditionKind, Limits, Reply, Session, Values};
+pub use clos_session::{ConditionKind, Limits, Native, Natives, Relation, Reply, Session, Values};
 pub use transcript::{RunFault, Summary, run};

@@ -4,10 +4,10 @@ ghost use Rattle.lisp_data.specs.Print.{text_of};
 ghost use Rattle.lisp_data.specs.ValueView.{value_of};
 ghost use Rattle.lisp_data.specs.DatumView.{datum_of};
 ghost use Rattle.clos_session.specs.clos_world.World.{State, seen, names_of};
-ghost use Rattle.clos_session.specs.Session.{state_of};
+ghost use Rattle.clos_session.specs.Session.{standing_of};
 ghost use Rattle.clos_system.specs.Transcript.{ends_line, fresh_line, condition_text, storage_text, told_for, counted_for, Finishes, Faults, Performs, FailsAfter, OverText, RunFaults, SourceFails};
 
-use clos_session::{Condition, Session, Stop, World};
+use clos_session::{Condition, Natives, Session, Stop, World};
 use itoa::Buffer;
 use lisp_data::{Datum, Value, prin1};
 use lisp_reader::{ReadFault, read_form};
@@ -50,17 +50,19 @@ pub enum RunFault {
 
 /// Reads a source, performs its forms in the session, and writes their transcript: what they write, after each form
 /// that ended with a condition a line that tells it, and with `echo` the value of each other form.
-pub fn run<R: Read, W: Write>(
+pub fn run<N: Natives, R: Read, W: Write>(
     alloc: Global,
-    session: &mut Session,
+    session: &mut Session<N>,
     reader: &mut R,
     writer: &mut W,
     echo: bool,
 ) -> Result<Summary, RunFault>
     ensures finishes { IfOk result (λ n. OverText (R.remaining reader.old) (λ text.
-        Finishes echo text (state_of session.old) (state_of session.new) (W.contents writer.old) (W.contents writer.new) n)) }
-    ensures faults { IfErr result (RunFaults echo (R.remaining reader.old) (state_of session.old) (state_of session.new)
+        Finishes (N.host session.old.natives) echo text (standing_of session.old) (standing_of session.new) (W.contents writer.old) (W.contents writer.new) n)) }
+    ensures faults { IfErr result (RunFaults (N.host session.old.natives) echo (R.remaining reader.old)
+        (standing_of session.old) (standing_of session.new)
         (W.contents writer.old) (W.contents writer.new)) }
+    ensures host { N.host session.new.natives ≡ N.host session.old.natives }
 {
     match read_source(alloc, reader) {
         Ok(source) => run_text(alloc, session, source.as_slice(), writer, echo),
@@ -99,15 +101,18 @@ fn read_source<R: Read>(alloc: Global, reader: &mut R) -> Result<Vec<u8>, RunFau
 }
 
 /// Performs the forms of a text and writes their transcript.
-fn run_text<W: Write>(
+fn run_text<N: Natives, W: Write>(
     alloc: Global,
-    session: &mut Session,
+    session: &mut Session<N>,
     text: &[u8],
     writer: &mut W,
     echo: bool,
 ) -> Result<Summary, RunFault>
-    ensures finishes { IfOk result (Finishes echo text.now (state_of session.old) (state_of session.new) (W.contents writer.old) (W.contents writer.new)) }
-    ensures faults { IfErr result (Faults echo text.now (state_of session.old) (state_of session.new) (W.contents writer.old) (W.contents writer.new)) }
+    ensures finishes { IfOk result (Finishes (N.host session.old.natives) echo text.now
+        (standing_of session.old) (standing_of session.new) (W.contents writer.old) (W.contents writer.new)) }
+    ensures faults { IfErr result (Faults (N.host session.old.natives) echo text.now
+        (standing_of session.old) (standing_of session.new) (W.contents writer.old) (W.contents writer.new)) }
+    ensures host { N.host session.new.natives ≡ N.host session.old.natives }
 {
     let mut summary = Summary {
         forms: 0,
@@ -137,9 +142,9 @@ fn run_text<W: Write>(
 }
 
 /// Performs a form and writes what is told of it. Answers the counts with it, and whether a line has ended.
-fn run_form<W: Write>(
+fn run_form<N: Natives, W: Write>(
     alloc: Global,
-    session: &mut Session,
+    session: &mut Session<N>,
     datum: Datum,
     writer: &mut W,
     echo: bool,
@@ -149,10 +154,13 @@ fn run_form<W: Write>(
     requires forms { summary.forms + 1 < 2 ^ 64 }
     requires conditions { summary.conditions ≤ summary.forms }
     requires storages { summary.storages ≤ summary.forms }
-    ensures performs { IfOk result (λ r. Performs echo (datum_of datum) (state_of session.old) (state_of session.new)
+    ensures performs { IfOk result (λ r. Performs (N.host session.old.natives) echo (datum_of datum)
+        (standing_of session.old) (standing_of session.new)
         (W.contents writer.old) (W.contents writer.new) summary r.0 fresh r.1) }
     ensures few { IfOk result (λ r. (r.0.conditions ≤ r.0.forms) × (r.0.storages ≤ r.0.forms) × (r.0.forms ≡ summary.forms + 1)) }
-    ensures fails { IfErr result (FailsAfter (datum_of datum) (state_of session.old) (state_of session.new)) }
+    ensures fails { IfErr result (FailsAfter (N.host session.old.natives) (datum_of datum) (standing_of session.old)
+        (standing_of session.new)) }
+    ensures host { N.host session.new.natives ≡ N.host session.old.natives }
 {
     let from = session.written().len();
     let limit = session.world().limits.steps;

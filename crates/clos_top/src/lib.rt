@@ -3,8 +3,4 @@
 
 mod top;
 
-pub use clos_syntax::{
-    ClassDefinition, DefaultInitarg, GenericDefinition, Key, Keys, LambdaList, MethodDefinition,
-    Optional, ParameterSpecializer, SlotSpecifier,
-};
 pub use top::{Top, parse_top};

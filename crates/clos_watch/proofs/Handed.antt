@@ -1,6 +1,6 @@
 -- The dependents that a session was handed, of which one after another changes.
 use Rattle.std.proofs.Common.{◌≡◌, ◌⊎◌, inl, inr, ℕ, zero, suc, ◌==◌, ◌+◌, ◌<◌, ◌≤◌, Bool, true, false, List, [], ◌∷◌, Some, length, arith, refl, ap, sym, subst, ◌∙◌}
-use Rattle.std.specs.Prelude.{slice_get, slice_index_or, slice_set}
+use Rattle.std.specs.Prelude.{map, slice_get, slice_index_or, slice_set}
 use Rattle.std.proofs.lemmas.Bool.{eqb-false, eqb-true}
 use Rattle.clos_watch.specs.Watching.{Watching, times_told}
 use Rattle.clos_watch.specs.declared.notice.Notice.{Notice}
@@ -44,18 +44,26 @@ module _ {D : Type 0} where
   index_get (d ∷ ds) zero x h = refl
   index_get (d ∷ ds) (suc p) x h = index_get ds p x (omega (arith, h))
 
+  pub map_set : {N : Type 0} (name : D → N) (ds : List D) (p : ℕ) (d e : D) → slice_get ds p ≡ Some d → name e ≡ name d
+      → map name (slice_set ds p e) ≡ map name ds
+  map_set name [] p d e h q = refl
+  map_set name (x ∷ ds) zero d e h q = ap (λ n. n ∷ map name ds) (q ∙ ap name (sym (some_is x d h)))
+  map_set name (x ∷ ds) (suc p) d e h q = ap (λ ns. name x ∷ ns) (map_set name ds p d e h q)
+
   -- ---- they are prepared, one after another
 
-  module _ (told : D → List Notice) (room : D → ℕ) (w : Watching) (ns : List Notice) (old : List D) where
+  module _ {N : Type 0} (name : D → N) (told : D → List Notice) (room : D → ℕ) (w : Watching) (ns : List Notice) (old : List D) where
     -- those before this place have room, and none heard more or has less room
     pub record Prepares (now : List D) (place : ℕ) : Type 0 where
       pub same : length now ≡ length old
+      pub names : map name now ≡ map name old
       pub ready : (p : ℕ) (d : D) → p < place → slice_get now p ≡ Some d → times_told w ns p ≤ room d
       pub kept : (p : ℕ) (d e : D) → slice_get old p ≡ Some d → slice_get now p ≡ Some e → (told e ≡ told d) × (room d ≤ room e)
 
     pub prepares_first : Prepares old 0
     prepares_first = record {
       same = refl;
+      names = refl;
       ready = λ p d l h. absurd (omega (arith, l));
       kept = λ p d e g h. let q : d ≡ e = some_is d e (sym g ∙ h) in (ap told (sym q), subst (λ v. room d ≤ room v) q (omega arith));
     }
@@ -76,5 +84,14 @@ module _ {D : Type 0} where
       ready_by m p f i (inl k) = subst (λ v. times_told w ns p ≤ room v) k.1 (subst (λ v. times_told w ns v ≤ room e) k.0 m)
       ready_by m p f i (inr k) = g.ready p f (omega (arith, i, k.0)) k.1
 
-      pub prepares_next : times_told w ns place ≤ room e → Prepares (slice_set now place e) (place + 1)
-      prepares_next m = record { same = set_length now place e ∙ g.same; ready = λ p f i j. ready_by m p f i (at_place now place p e f l j); kept = kept_then }
+      module _ (m : name e ≡ name d) where
+        pub names_then : map name (slice_set now place e) ≡ map name old
+        names_then = map_set name now place d e h m ∙ g.names
+
+        pub prepares_next : times_told w ns place ≤ room e → Prepares (slice_set now place e) (place + 1)
+        prepares_next k = record {
+          same = set_length now place e ∙ g.same;
+          names = names_then;
+          ready = λ p f i j. ready_by k p f i (at_place now place p e f l j);
+          kept = kept_then;
+        }

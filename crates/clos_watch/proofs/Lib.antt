@@ -3,3 +3,5 @@ pub mod Places
 pub mod Times
 pub mod Handed
 pub mod Telling
+pub mod AtPlace
+pub mod Watching

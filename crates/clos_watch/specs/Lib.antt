@@ -1,4 +1,5 @@
 pub mod Answers
+pub mod Handed
 pub mod Reserved
 pub mod Rows
 pub mod Watching

@@ -3,6 +3,7 @@
 
 mod callback;
 mod dependent;
+mod dependents;
 mod notice;
 mod recorder;
 mod reserved;
@@ -11,6 +12,7 @@ mod watchers;
 
 pub use callback::{Callback, Listener};
 pub use dependent::Dependent;
+pub use dependents::Dependents;
 pub use notice::{Metaobject, Notice};
 pub use recorder::Recorder;
 pub use watchers::{Handed, Watchers};

@@ -1,8 +1,7 @@
 //! Which dependents metaobjects have (AMOP chapter 6).
-ghost use Rattle.std.specs.Prelude.{◌≡◌, ◌<◌, ◌≤◌, ◌∷◌, ◌++◌, ℕ, suc, true, [], Some, OnErr, OnOk, length, slice_get, if◌then◌else◌};
-ghost use Rattle.clos_watch.specs.declared.notice.Metaobject.{Metaobject};
+ghost use Rattle.std.specs.Prelude.{◌≡◌, ◌<◌, ◌≤◌, ◌∷◌, ◌++◌, ℕ, suc, true, [], Some, OnErr, OnOk, map, slice_get, if◌then◌else◌};
 ghost use Rattle.clos_watch.specs.Rows.{Once};
-ghost use Rattle.clos_watch.specs.Watching.{dependents_of, hears, is_same, times_told, with_place, without_place};
+ghost use Rattle.clos_watch.specs.Watching.{hears, nobody, times_told, watching, with_dependent, without_dependent};
 
 use crate::dependent::Dependent;
 use crate::notice::{Metaobject, Notice};
@@ -20,9 +19,9 @@ pub struct Watchers {
 }
 
 impl Model for Watchers {
-    ghost use Rattle.clos_watch.specs.Watching.{Watching};
+    ghost use Rattle.clos_watch.specs.Watching.{Watched};
 
-    ghost Value = { Watching };
+    ghost Value = { Watched };
 
     ghost view = { λ a. record { classes = a.classes; generics = a.generics } };
 }
@@ -32,6 +31,7 @@ pub type Handed = (Name, Box<dyn Dependent>);
 
 /// Has a dependent have room for so many notices.
 fn prepare(dependent: &mut Handed, times: usize) -> Result<(), AllocError>
+    ensures name { dependent.new.0 ≡ dependent.old.0 }
     ensures ok { OnOk result (times ≤ room dependent.new.1) }
     ensures told { told dependent.new.1 ≡ told dependent.old.1 }
     ensures room { room dependent.old.1 ≤ room dependent.new.1 }
@@ -39,9 +39,17 @@ fn prepare(dependent: &mut Handed, times: usize) -> Result<(), AllocError>
     dependent.1.prepare(times)
 }
 
+/// What a dependent heard, in order.
+pub(crate) fn heard(dependent: &Handed) -> &[Notice]
+    ensures { result.now ≡ told dependent.now.1 }
+{
+    dependent.1.heard()
+}
+
 /// Tells a notice to a dependent that has room for it, and drops the answer.
 fn tell(dependent: &mut Handed, notice: &Notice)
     requires { 0 < room dependent.old.1 }
+    ensures name { dependent.new.0 ≡ dependent.old.0 }
     ensures told { told dependent.new.1 ≡ told dependent.old.1 ++ notice.now ∷ [] }
     ensures room { suc (room dependent.new.1) ≡ room dependent.old.1 }
 {
@@ -51,7 +59,7 @@ fn tell(dependent: &mut Handed, notice: &Notice)
 impl Watchers {
     /// No metaobject has a dependent.
     pub fn new(alloc: Global) -> Watchers
-        ensures { (m : Metaobject) → dependents_of result m ≡ [] }
+        ensures { watching result ≡ nobody }
     {
         Watchers {
             classes: Rows::new(alloc),
@@ -61,7 +69,7 @@ impl Watchers {
 
     /// The dependents of a metaobject, each once.
     pub fn of(&self, metaobject: Metaobject) -> &[usize]
-        ensures places { result.now ≡ dependents_of self.now metaobject }
+        ensures places { result.now ≡ watching self.now metaobject }
         ensures once { Once result.now }
     {
         match metaobject {
@@ -77,8 +85,8 @@ impl Watchers {
         metaobject: Metaobject,
         place: usize,
     ) -> Result<(), AllocError>
-        ensures ok { OnOk result ((m : Metaobject) → dependents_of self.new m ≡ (if is_same metaobject m then with_place (dependents_of self.old m) place else dependents_of self.old m)) }
-        ensures err { OnErr result ((m : Metaobject) → dependents_of self.new m ≡ dependents_of self.old m) }
+        ensures ok { OnOk result (watching self.new ≡ with_dependent metaobject place (watching self.old)) }
+        ensures err { OnErr result (watching self.new ≡ watching self.old) }
     {
         match metaobject {
             Metaobject::Class(class) => self.classes.add(alloc, class.0, place),
@@ -88,7 +96,7 @@ impl Watchers {
 
     /// Takes a dependent of a metaobject out.
     pub fn remove(&mut self, metaobject: Metaobject, place: usize)
-        ensures { (m : Metaobject) → dependents_of self.new m ≡ (if is_same metaobject m then without_place (dependents_of self.old m) place else dependents_of self.old m) }
+        ensures { watching self.new ≡ without_dependent metaobject place (watching self.old) }
     {
         match metaobject {
             Metaobject::Class(class) => self.classes.remove(class.0, place),
@@ -98,7 +106,7 @@ impl Watchers {
 
     /// How many of these notices the dependent at this place hears.
     fn times_told(&self, notices: &[Notice], place: usize) -> usize
-        ensures { result ≡ times_told self.now notices.now place }
+        ensures { result ≡ times_told (watching self.now) notices.now place }
     {
         let mut times = 0;
         let mut left = notices;
@@ -118,8 +126,9 @@ impl Watchers {
         dependents: &mut [Handed],
         notices: &[Notice],
     ) -> Result<(), AllocError>
-        ensures len { length dependents.new ≡ length dependents.old }
-        ensures ok { OnOk result ((p : ℕ) (d : _) → slice_get dependents.new p ≡ Some d → times_told self.now notices.now p ≤ room d.1) }
+        ensures names { map (λ d. d.0) dependents.new ≡ map (λ d. d.0) dependents.old }
+        ensures ok { OnOk result ((p : ℕ) (d : _) → slice_get dependents.new p ≡ Some d → times_told (watching self.now) notices.now
+            p ≤ room d.1) }
         ensures same { (p : ℕ) (d e : _) → slice_get dependents.old p ≡ Some d → slice_get dependents.new p ≡ Some e → (told e.1 ≡ told d.1) × (room d.1 ≤ room e.1) }
     {
         let mut place = 0;
@@ -134,15 +143,19 @@ impl Watchers {
     /// Tells a notice to each dependent of what changed, in the order in which they were added, and to no other. What they
     /// answer is dropped.
     pub fn tell_all(&self, dependents: &mut [Handed], notice: &Notice)
-        requires within { (p : ℕ) → hears self.now notice.now p ≡ true → p < length dependents.old }
-        requires room { (p : ℕ) (d : _) → hears self.now notice.now p ≡ true → slice_get dependents.old p ≡ Some d → 0 < room d.1 }
-        ensures len { length dependents.new ≡ length dependents.old }
-        ensures told { (p : ℕ) (d e : _) → slice_get dependents.old p ≡ Some d → slice_get dependents.new p ≡ Some e → told e.1 ≡ (if hears self.now notice.now p then told d.1 ++ notice.now ∷ [] else told d.1) }
-        ensures room { (p : ℕ) (d e : _) → slice_get dependents.old p ≡ Some d → slice_get dependents.new p ≡ Some e → (if hears self.now notice.now p then suc (room e.1) else room e.1) ≡ room d.1 }
+        requires room { (p : ℕ) (d : _) → hears (watching self.now) notice.now p ≡ true → slice_get dependents.old p ≡ Some d
+            → 0 < room d.1 }
+        ensures names { map (λ d. d.0) dependents.new ≡ map (λ d. d.0) dependents.old }
+        ensures told { (p : ℕ) (d e : _) → slice_get dependents.old p ≡ Some d → slice_get dependents.new p ≡ Some e
+            → told e.1 ≡ (if hears (watching self.now) notice.now p then told d.1 ++ notice.now ∷ [] else told d.1) }
+        ensures room { (p : ℕ) (d e : _) → slice_get dependents.old p ≡ Some d → slice_get dependents.new p ≡ Some e
+            → (if hears (watching self.now) notice.now p then suc (room e.1) else room e.1) ≡ room d.1 }
     {
         let mut left = self.of(notice.metaobject());
         while let Some((place, others)) = left.split_first() {
-            tell(&mut dependents[*place], notice);
+            if *place < dependents.len() {
+                tell(&mut dependents[*place], notice);
+            }
             left = others;
         }
     }

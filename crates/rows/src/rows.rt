@@ -1,5 +1,7 @@
 //! Groups of rows: texts, and what they write in a session.
-use clos_system::{Limits, RunFault, Session, Summary, run};
+use clos_program::low;
+use clos_system::{Limits, Native, Relation, RunFault, Session, Summary, run};
+use lisp_data::Name;
 use std::alloc::{AllocError, Global};
 use std::io;
 
@@ -38,18 +40,33 @@ fn limits(setting: &str) -> Limits {
     limits
 }
 
-/// Runs a text in a session of this setting, and adds what it writes to the output.
+/// Runs a text in a session of this setting, for which the function `low` is stored, and adds what it writes to the output.
+fn run_stored(
+    alloc: Global,
+    setting: &str,
+    text: &str,
+    output: &mut Vec<u8>,
+) -> Result<Result<Summary, RunFault>, AllocError> {
+    let relation = Relation::Within { lo: 0, hi: 15 };
+    let native = Native::new(Name::fixed(&"LOW"), 1, relation, Box::new(alloc, low)?);
+    let mut natives = Vec::new(alloc);
+    natives.push(native)?;
+    let mut session = Session::new(alloc, limits(setting), natives)?;
+    let mut source = text.as_bytes();
+    Ok(run(alloc, &mut session, &mut source, output, setting == "echo"))
+}
+
+/// The same, where refused memory is a fault like others.
 fn run_in(
     alloc: Global,
     setting: &str,
     text: &str,
     output: &mut Vec<u8>,
 ) -> Result<Summary, RunFault> {
-    let Ok(mut session) = Session::new(alloc, limits(setting)) else {
-        return Err(RunFault::Memory);
-    };
-    let mut source = text.as_bytes();
-    run(alloc, &mut session, &mut source, output, setting == "echo")
+    match run_stored(alloc, setting, text, output) {
+        Ok(ran) => ran,
+        Err(_) => Err(RunFault::Memory),
+    }
 }
 
 /// Whether a run was told so, with a condition for each that is written and no refused memory.

@@ -3,7 +3,7 @@
 //! Where an allocation is refused in the first session, at most one of its replies tells of it, with the steps that its form
 //! had taken. The second session gives that form so many steps and all others their limit: then it writes the same, and its
 //! other replies are the same.
-use clos_system::{Limits, Reply, Session};
+use clos_system::{Limits, Native, Natives, Reply, Session};
 use lisp_data::{Datum, Value, equal};
 use lisp_reader::{ReadFault, read_form};
 use std::alloc::{AllocError, Global};
@@ -33,8 +33,8 @@ enum Outcome {
 
 /// A session that has performed the script, and its replies.
 #[derive(Drop)]
-struct Performance {
-    session: Session,
+struct Performance<N: Natives> {
+    session: Session<N>,
     replies: Vec<Reply>,
 }
 
@@ -71,7 +71,7 @@ fn steps_at(cut: Option<Cut>, place: usize) -> Option<u64> {
     }
 }
 
-fn reply_to(session: &mut Session, datum: &Datum, steps: Option<u64>) -> Reply {
+fn reply_to<N: Natives>(session: &mut Session<N>, datum: &Datum, steps: Option<u64>) -> Reply {
     match steps {
         Some(steps) => session.submit_within(datum, steps),
         None => session.submit(datum),
@@ -79,8 +79,8 @@ fn reply_to(session: &mut Session, datum: &Datum, steps: Option<u64>) -> Reply {
 }
 
 /// Performs a script in which the form at the cut may take so many steps, and adds the replies.
-fn perform_all(
-    performance: &mut Performance,
+fn perform_all<N: Natives>(
+    performance: &mut Performance<N>,
     script: &[Datum],
     cut: Option<Cut>,
 ) -> Result<(), AllocError> {
@@ -92,15 +92,16 @@ fn perform_all(
     Ok(())
 }
 
-/// A session that performs a script, where the program first allocates so many times.
-fn perform(
+/// A session with these stored functions that performs a script, where the program first allocates so many times.
+fn perform<N: Natives>(
     alloc: Global,
+    natives: N,
     script: &[Datum],
     cut: Option<Cut>,
     times: u64,
-) -> Result<Performance, AllocError> {
+) -> Result<Performance<N>, AllocError> {
     let mut performance = Performance {
-        session: Session::new(alloc, Limits::default())?,
+        session: Session::new(alloc, Limits::default(), natives)?,
         replies: Vec::new(alloc),
     };
     performance.replies.reserve(script.len())?;
@@ -154,13 +155,17 @@ fn agree(replies: &[Reply], others: &[Reply], cut: Option<Cut>) -> bool {
 }
 
 /// Whether two sessions came to the same, but for the reply at the cut.
-fn is_alike(first: &Performance, second: &Performance, cut: Option<Cut>) -> bool {
+fn is_alike<N: Natives>(first: &Performance<N>, second: &Performance<N>, cut: Option<Cut>) -> bool {
     first.session.written() == second.session.written()
         && agree(first.replies.as_slice(), second.replies.as_slice(), cut)
 }
 
 /// What came of two sessions, where neither is one that memory was refused for before its first form.
-fn outcome_of(first: &Performance, second: &Performance, cut: Option<Cut>) -> Outcome {
+fn outcome_of<N: Natives>(
+    first: &Performance<N>,
+    second: &Performance<N>,
+    cut: Option<Cut>,
+) -> Outcome {
     if cut_of(second.replies.as_slice()).is_some() {
         return Outcome::Later;
     }
@@ -172,18 +177,27 @@ fn outcome_of(first: &Performance, second: &Performance, cut: Option<Cut>) -> Ou
 }
 
 /// Performs the script in a second session, and compares it with the first.
-fn compare_with(alloc: Global, script: &[Datum], first: &Performance) -> Outcome {
+fn compare_with<N: Natives>(
+    alloc: Global,
+    natives: N,
+    script: &[Datum],
+    first: &Performance<N>,
+) -> Outcome {
     let cut = cut_of(first.replies.as_slice());
-    match &perform(alloc, script, cut, 0) {
+    match &perform(alloc, natives, script, cut, 0) {
         Ok(second) => outcome_of(first, second, cut),
         Err(_) => Outcome::Later,
     }
 }
 
+fn none_stored(alloc: Global) -> Vec<Native> {
+    Vec::new(alloc)
+}
+
 /// Performs the script in two sessions, after so many allocations.
 fn compare(alloc: Global, script: &[Datum], times: u64) -> Outcome {
-    match &perform(alloc, script, None, times) {
-        Ok(first) => compare_with(alloc, script, first),
+    match &perform(alloc, none_stored(alloc), script, None, times) {
+        Ok(first) => compare_with(alloc, none_stored(alloc), script, first),
         Err(_) => Outcome::Before,
     }
 }

@@ -1,67 +1,134 @@
-use Rattle.std.proofs.Common.{[], arith, ap}
+use Rattle.std.proofs.Common.{[], arith, ap, append-nil, refl, rules, sym}
 use Rattle.clos_machine.specs.clos_world.World.{seen}
 use Rattle.clos_machine.specs.clos_meaning.Contexts.{known}
 use Rattle.clos_machine.specs.clos_meaning.Meaning.{evaluation}
-use Rattle.clos_machine.specs.Machine.{Turns, denote}
-use Rattle.clos_machine.specs.declared.machine.Doing.TheVariants.{Start, Act, Invoke, Perform, Give}
+use Rattle.clos_machine.specs.Machine.{Asks, denote}
+use Rattle.clos_machine.specs.declared.machine.Doing.TheVariants.{Start, Act, Invoke, Perform, Native, Give}
 use Rattle.clos_machine.specs.declared.machine.Doing.TheVariants as doing
 use Rattle.clos_machine.proofs.clos_meaning.Quiet.{evaluation_quiet}
+use Rattle.clos_machine.proofs.Runs.{quiet_answered}
 use Rattle.clos_eval.proofs.Calling.{turns_of_call}
-use Rattle.clos_eval.proofs.Looping.{did, gave, goes_on, stops}
+use Rattle.clos_eval.proofs.Looping.{begun, did, finished, finished_after, gave, goes_on, stops, turned}
 use Rattle.clos_eval.proofs.eval.evaluate.Goals as goal
-use Rattle.clos_eval.proofs.eval.evaluate.Goals.{in-Start, in-Collect, in-Act, in-Invoke, in-Perform, in-Turn, in-Give+in-Some}
+use Rattle.clos_eval.proofs.eval.evaluate.Goals.{in-Start, in-Collect, in-Act, in-Invoke, in-Perform, in-Turn, in-Native, in-Give+in-Some}
 
 pub returns-in_default-clause-answer : goal.returns-in_default-clause-answer
-returns-in_default-clause-answer c = (0, omega arith, evaluation_quiet c.args.room (known []) c.args.form (seen c.args.world.now))
+returns-in_default-clause-answer g c =
+    let host = g.N.Natives.host c.args.natives.now in (
+      [],
+      sym (append-nil c.args.answers.now.items),
+      0,
+      omega arith,
+      quiet_answered host (evaluation c.args.room c.args.form (seen c.args.world.now) 0) (seen c.args.world.now) 0
+          (evaluation_quiet c.args.room (known []) c.args.form (seen c.args.world.now)),
+    )
 
 -- what the handler of each did, and that the loop goes on from there
 pub loop-doing-preserved : goal.loop-doing-preserved
-loop-doing-preserved c =
+loop-doing-preserved g c =
+    let host = g.N.Natives.host c.args.natives.now in
     let m = c.loop-doing.machine in
     let d = c.loop-doing.doing in
     let w = seen c.loop-doing.world in
     let s = c.loop-doing.steps in
-    let t : Turns (denote m d) w s c.match-doing.came c.match-doing.machine (seen c.match-doing.world) c.match-doing.steps =
+    let past = c.loop-doing.answers.items in
+    let t : Asks host (denote m d) w s past c.match-doing.came c.match-doing.machine (seen c.match-doing.world) c.match-doing.steps
+    c.match-doing.answers.items =
     elim c.match-doing.branch [
-      | in-Start x ↦ did m d w s (Start x.in-Start.begun) x.in-Start.is x.came-is x.machine-is (ap seen x.world-is) x.steps-is x.begin_form-came.ensures.turns
+      | in-Start x ↦ turned host m d w s past (Start x.in-Start.begun) x.in-Start.is x.came-is x.machine-is (ap seen x.world-is) x.steps-is
+          (ap (λ v. v.items) x.answers-is) x.begin_form-came.ensures.turns
       | in-Collect x ↦
-          did m d w s (doing.Collect x.in-Collect.action x.in-Collect.forms x.in-Collect.values) x.in-Collect.is x.came-is x.machine-is (ap seen x.world-is) x.steps-is x.collect_values-came.ensures.turns
-      | in-Act x ↦ did m d w s (Act x.in-Act.action x.in-Act.values) x.in-Act.is x.came-is x.machine-is (ap seen x.world-is) x.steps-is x.act-came.ensures.turns
+          turned host m d w s past (doing.Collect x.in-Collect.action x.in-Collect.forms x.in-Collect.values) x.in-Collect.is x.came-is
+          x.machine-is (ap seen x.world-is) x.steps-is (ap (λ v. v.items) x.answers-is)
+          x.collect_values-came.ensures.turns
+      | in-Act x ↦
+          turned host m d w s past (Act x.in-Act.action x.in-Act.values) x.in-Act.is x.came-is x.machine-is (ap seen x.world-is) x.steps-is
+          (ap (λ v. v.items) x.answers-is) x.act-came.ensures.turns
       | in-Invoke x ↦
-          did m d w s (Invoke x.in-Invoke.function x.in-Invoke.values) x.in-Invoke.is x.came-is x.machine-is (ap seen x.world-is) x.steps-is
+          turned host m d w s past (Invoke x.in-Invoke.function x.in-Invoke.values) x.in-Invoke.is x.came-is x.machine-is
+          (ap seen x.world-is) x.steps-is (ap (λ v. v.items) x.answers-is)
           (turns_of_call (denote m (Invoke x.in-Invoke.function x.in-Invoke.values)) w (seen x.invoke-came.new.world) s x.invoke-came.result x.invoke-came.new.machine x.invoke-came.ensures.same
           x.invoke-came.ensures.leads)
-      | in-Perform x ↦ did m d w s (Perform x.in-Perform.method x.in-Perform.arguments) x.in-Perform.is x.came-is x.machine-is (ap seen x.world-is) x.steps-is x.perform-came.ensures.turns
-      | in-Turn x ↦ did m d w s (doing.Turn x.in-Turn.repetition x.in-Turn.counter) x.in-Turn.is x.came-is x.machine-is (ap seen x.world-is) x.steps-is x.turn-came.ensures.turns
+      | in-Perform x ↦
+          turned host m d w s past (Perform x.in-Perform.method x.in-Perform.arguments) x.in-Perform.is x.came-is x.machine-is
+          (ap seen x.world-is) x.steps-is (ap (λ v. v.items) x.answers-is)
+          x.perform-came.ensures.turns
+      | in-Turn x ↦
+          turned host m d w s past (doing.Turn x.in-Turn.repetition x.in-Turn.counter) x.in-Turn.is x.came-is x.machine-is
+          (ap seen x.world-is) x.steps-is (ap (λ v. v.items) x.answers-is) x.turn-came.ensures.turns
+      | in-Native x ↦
+          did host m d w s past (Native x.in-Native.values) x.in-Native.is x.came-is x.machine-is (ap seen x.world-is) x.steps-is
+          (ap (λ v. v.items) x.answers-is) (x.call_native-came.ensures.asks w)
       | in-Give+in-Some x ↦
-          did m d w s (Give x.in-Give.value) x.in-Give.is x.came-is x.machine-is (ap seen x.world-is) x.steps-is
+          turned host m d w s past (Give x.in-Give.value) x.in-Give.is x.came-is x.machine-is (ap seen x.world-is) x.steps-is
+          (ap (λ v. v.items) x.answers-is)
           (gave m w s x.in-Give.value x.in-Some.level x.pop.new.self x.in-Some.ensures x.give.result x.give.new.machine x.give.ensures.leads)
     ] in
-    goes_on (evaluation c.args.room c.args.form) (seen c.args.world.now) c.args.steps.now m d w s c.loop-doing.invariant c.match-doing.came c.match-doing.machine (seen c.match-doing.world)
-    c.match-doing.steps t c.in-Ok-came.next c.in-Ok-came.is
+    goes_on host (evaluation c.args.room c.args.form) (seen c.args.world.now) c.args.steps.now c.args.answers.now.items m d w s past
+    c.loop-doing.invariant c.match-doing.came c.match-doing.machine
+    (seen c.match-doing.world) c.match-doing.steps c.match-doing.answers.items t c.in-Ok-came.next c.in-Ok-came.is
 
 -- the same, and that it ends there
 pub returns-in-Err-clause-answer : goal.returns-in-Err-clause-answer
-returns-in-Err-clause-answer c =
+returns-in-Err-clause-answer g c =
+    let host = g.N.Natives.host c.args.natives.now in
     let m = c.loop-doing.machine in
     let d = c.loop-doing.doing in
     let w = seen c.loop-doing.world in
     let s = c.loop-doing.steps in
-    let t : Turns (denote m d) w s c.match-doing.came c.match-doing.machine (seen c.match-doing.world) c.match-doing.steps =
+    let past = c.loop-doing.answers.items in
+    let t : Asks host (denote m d) w s past c.match-doing.came c.match-doing.machine (seen c.match-doing.world) c.match-doing.steps
+    c.match-doing.answers.items =
     elim c.match-doing.branch [
-      | in-Start x ↦ did m d w s (Start x.in-Start.begun) x.in-Start.is x.came-is x.machine-is (ap seen x.world-is) x.steps-is x.begin_form-came.ensures.turns
+      | in-Start x ↦ turned host m d w s past (Start x.in-Start.begun) x.in-Start.is x.came-is x.machine-is (ap seen x.world-is) x.steps-is
+          (ap (λ v. v.items) x.answers-is) x.begin_form-came.ensures.turns
       | in-Collect x ↦
-          did m d w s (doing.Collect x.in-Collect.action x.in-Collect.forms x.in-Collect.values) x.in-Collect.is x.came-is x.machine-is (ap seen x.world-is) x.steps-is x.collect_values-came.ensures.turns
-      | in-Act x ↦ did m d w s (Act x.in-Act.action x.in-Act.values) x.in-Act.is x.came-is x.machine-is (ap seen x.world-is) x.steps-is x.act-came.ensures.turns
+          turned host m d w s past (doing.Collect x.in-Collect.action x.in-Collect.forms x.in-Collect.values) x.in-Collect.is x.came-is
+          x.machine-is (ap seen x.world-is) x.steps-is (ap (λ v. v.items) x.answers-is)
+          x.collect_values-came.ensures.turns
+      | in-Act x ↦
+          turned host m d w s past (Act x.in-Act.action x.in-Act.values) x.in-Act.is x.came-is x.machine-is (ap seen x.world-is) x.steps-is
+          (ap (λ v. v.items) x.answers-is) x.act-came.ensures.turns
       | in-Invoke x ↦
-          did m d w s (Invoke x.in-Invoke.function x.in-Invoke.values) x.in-Invoke.is x.came-is x.machine-is (ap seen x.world-is) x.steps-is
+          turned host m d w s past (Invoke x.in-Invoke.function x.in-Invoke.values) x.in-Invoke.is x.came-is x.machine-is
+          (ap seen x.world-is) x.steps-is (ap (λ v. v.items) x.answers-is)
           (turns_of_call (denote m (Invoke x.in-Invoke.function x.in-Invoke.values)) w (seen x.invoke-came.new.world) s x.invoke-came.result x.invoke-came.new.machine x.invoke-came.ensures.same
           x.invoke-came.ensures.leads)
-      | in-Perform x ↦ did m d w s (Perform x.in-Perform.method x.in-Perform.arguments) x.in-Perform.is x.came-is x.machine-is (ap seen x.world-is) x.steps-is x.perform-came.ensures.turns
-      | in-Turn x ↦ did m d w s (doing.Turn x.in-Turn.repetition x.in-Turn.counter) x.in-Turn.is x.came-is x.machine-is (ap seen x.world-is) x.steps-is x.turn-came.ensures.turns
+      | in-Perform x ↦
+          turned host m d w s past (Perform x.in-Perform.method x.in-Perform.arguments) x.in-Perform.is x.came-is x.machine-is
+          (ap seen x.world-is) x.steps-is (ap (λ v. v.items) x.answers-is)
+          x.perform-came.ensures.turns
+      | in-Turn x ↦
+          turned host m d w s past (doing.Turn x.in-Turn.repetition x.in-Turn.counter) x.in-Turn.is x.came-is x.machine-is
+          (ap seen x.world-is) x.steps-is (ap (λ v. v.items) x.answers-is) x.turn-came.ensures.turns
+      | in-Native x ↦
+          did host m d w s past (Native x.in-Native.values) x.in-Native.is x.came-is x.machine-is (ap seen x.world-is) x.steps-is
+          (ap (λ v. v.items) x.answers-is) (x.call_native-came.ensures.asks w)
       | in-Give+in-Some x ↦
-          did m d w s (Give x.in-Give.value) x.in-Give.is x.came-is x.machine-is (ap seen x.world-is) x.steps-is
+          turned host m d w s past (Give x.in-Give.value) x.in-Give.is x.came-is x.machine-is (ap seen x.world-is) x.steps-is
+          (ap (λ v. v.items) x.answers-is)
           (gave m w s x.in-Give.value x.in-Some.level x.pop.new.self x.in-Some.ensures x.give.result x.give.new.machine x.give.ensures.leads)
     ] in
-    stops (evaluation c.args.room c.args.form) (seen c.args.world.now) c.args.steps.now m d w s c.loop-doing.invariant c.match-doing.came c.match-doing.machine (seen c.match-doing.world)
-    c.match-doing.steps t c.in-Err.stop c.in-Err.is
+    stops host (evaluation c.args.room c.args.form) (seen c.args.world.now) c.args.steps.now c.args.answers.now.items m d w s past
+    c.loop-doing.invariant c.match-doing.came c.match-doing.machine
+    (seen c.match-doing.world) c.match-doing.steps c.match-doing.answers.items t c.in-Err.stop c.in-Err.is
+
+pub loop-doing-init : goal.loop-doing-init
+loop-doing-init g c =
+    begun (g.N.Natives.host c.args.natives.now) c.args.form c.args.room c.new-levels.result c.of_function-context.result c.new-3.result
+    (seen c.args.world.now) c.args.steps.now c.args.answers.now.items
+    (search rules) (search rules) (search rules)
+
+pub returns-in-None-clause-answer : goal.returns-in-None-clause-answer
+returns-in-None-clause-answer g c =
+    finished (g.N.Natives.host c.args.natives.now) (evaluation c.args.room c.args.form) (seen c.args.world.now) c.args.steps.now
+    c.args.answers.now.items c.loop-doing.machine c.loop-doing.doing
+    (seen c.loop-doing.world) c.loop-doing.steps c.loop-doing.answers.items c.loop-doing.invariant c.in-Give.value c.in-Give.is
+    c.in-None.ensures.0 refl
+
+pub returns-in-None-clause-taken : goal.returns-in-None-clause-taken
+returns-in-None-clause-taken g c =
+    finished_after (g.N.Natives.host c.args.natives.now) (evaluation c.args.room c.args.form) (seen c.args.world.now) c.args.steps.now
+    c.args.answers.now.items c.loop-doing.machine c.loop-doing.doing
+    (seen c.loop-doing.world) c.loop-doing.steps c.loop-doing.answers.items c.loop-doing.invariant c.in-Give.value c.in-Give.is
+    c.in-None.ensures.0 refl

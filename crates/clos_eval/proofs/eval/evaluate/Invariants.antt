@@ -4,7 +4,9 @@ use Rattle.clos_machine.specs.Machine.{Reached, denote, weight}
 use Rattle.clos_eval.proofs.eval.evaluate.Given as goal
 
 abbrev pub invariant-loop-doing : goal.invariant-loop-doing
-invariant-loop-doing l = Reached (evaluation l.fn.room l.fn.form) (seen l.fn.world) l.fn.steps (denote l.machine l.doing) (seen l.world) l.steps
+invariant-loop-doing g l =
+    Reached (g.N.Natives.host l.fn.natives) (evaluation l.fn.room l.fn.form) (seen l.fn.world) l.fn.steps l.fn.answers.items
+    (denote l.machine l.doing) (seen l.world) l.steps l.answers.items
 
 abbrev pub decreases-loop-doing : goal.decreases-loop-doing
-decreases-loop-doing l = weight l.steps l.machine l.doing
+decreases-loop-doing g l = weight l.steps l.machine l.doing

@@ -1,11 +1,13 @@
 use Rattle.std.proofs.Common.{◌-◌, length}
-use Rattle.clos_session.specs.Session.{state_of}
+use Rattle.clos_session.specs.Session.{standing_of}
 use Rattle.clos_system.specs.Transcript.{Stands}
 use Rattle.clos_system.proofs.transcript.run_text.Given as goal
 
 abbrev pub invariant-loop-found : goal.invariant-loop-found
 invariant-loop-found g l =
-    Stands l.echo l.text (state_of l.fn.session) (state_of l.session) (g.W.Write.contents l.fn.writer) (g.W.Write.contents l.writer) l.at l.summary l.fresh
+    Stands (g.N.Natives.host l.fn.session.natives) (g.N.Natives.host l.session.natives) l.echo l.text (standing_of l.fn.session)
+    (standing_of l.session)
+    (g.W.Write.contents l.fn.writer) (g.W.Write.contents l.writer) l.at l.summary l.fresh
 
 abbrev pub decreases-loop-found : goal.decreases-loop-found
 decreases-loop-found g l = length l.text - l.at

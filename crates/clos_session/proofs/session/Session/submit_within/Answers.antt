@@ -1,7 +1,8 @@
-use Rattle.std.proofs.Common.{◌≡◌, ◌-◌, min, arith, subst}
+use Rattle.std.proofs.Common.{◌≡◌, ◌-◌, Err, min, arith, subst}
 use Rattle.lisp_data.specs.DatumView.{datum_of}
-use Rattle.clos_definition_forms.specs.clos_world.World.{seen}
-use Rattle.clos_session.specs.Session.{Replies}
+use Rattle.clos_definition_forms.specs.clos_machine.Machine.{AnswersWith}
+use Rattle.clos_definition_forms.specs.clos_world.declared.condition.Stop.TheVariants.{Refused}
+use Rattle.clos_session.specs.Session.{Replies, answers_of, state_of}
 use Rattle.clos_session.specs.Step.{step}
 use Rattle.clos_session.specs.declared.session.Reply.TheVariants.{Value, Condition, Storage}
 use Rattle.clos_session.proofs.Definitions.{defines_nothing}
@@ -9,28 +10,47 @@ use Rattle.clos_session.proofs.StepQuiet.{stored}
 use Rattle.clos_session.proofs.session.Session.submit_within.Goals as goal
 
 pub returns-in-Ok-clause-reply : goal.returns-in-Ok-clause-reply
-returns-in-Ok-clause-reply c =
-    let e : c.min-budget.result ≡ min c.args.steps c.args.self.now.world.limits.steps = omega (arith, c.min-budget.ensures) in
-    subst (λ s. Replies (step (datum_of c.args.datum.now)) s (seen c.args.self.now.world) (Value c.in-Ok.value) (seen c.perform.new.self.world)) e
-    (c.perform.new.steps, c.in-Ok.ensures)
+returns-in-Ok-clause-reply g c =
+    let old = c.args.self.now in
+    let new = c.perform.new.self in
+    let e : c.min-budget.result ≡ min c.args.steps old.world.limits.steps = omega (arith, c.min-budget.ensures) in
+    subst (λ s. Replies (g.N.Natives.host old.natives) (step (datum_of c.args.datum.now)) s (state_of old) (answers_of old)
+    (Value c.in-Ok.value) (state_of new) (answers_of new)) e
+    (c.perform.new.steps, c.in-Ok.ensures.answers.0, c.in-Ok.ensures.answers.1, c.in-Ok.ensures.answers.2)
 
 pub returns-in-Err-Refused-clause-reply : goal.returns-in-Err-Refused-clause-reply
-returns-in-Err-Refused-clause-reply c =
-    let e : c.min-budget.result ≡ min c.args.steps c.args.self.now.world.limits.steps = omega (arith, c.min-budget.ensures) in
+returns-in-Err-Refused-clause-reply g c =
+    let old = c.args.self.now in
+    let new = c.perform.new.self in
+    let e : c.min-budget.result ≡ min c.args.steps old.world.limits.steps = omega (arith, c.min-budget.ensures) in
+    let h : AnswersWith (g.N.Natives.host old.natives) (step (datum_of c.args.datum.now)) (state_of old) c.min-budget.result
+    (answers_of old) (Err (Refused c.in-Err-Refused.condition)) (state_of new) c.perform.new.steps (answers_of new) =
+    rw c.in-Err-Refused.field-0-is at c.in-Err-Refused.ensures.answers in
     subst
-    (λ s. Replies (step (datum_of c.args.datum.now)) s (seen c.args.self.now.world) (Condition c.number.result c.in-Err-Refused.condition.items) (seen c.perform.new.self.world))
-    e (c.in-Err-Refused.condition.kind, c.perform.new.steps, c.number.ensures, (rw c.in-Err-Refused.field-0-is at c.in-Err-Refused.ensures))
+    (λ s. Replies (g.N.Natives.host old.natives) (step (datum_of c.args.datum.now)) s (state_of old) (answers_of old)
+    (Condition c.number.result c.in-Err-Refused.condition.items) (state_of new) (answers_of new))
+    e (c.in-Err-Refused.condition.kind, c.perform.new.steps, h.0, c.number.ensures, h.1, h.2)
 
 pub returns-in-Err-Refused-clause-refused : goal.returns-in-Err-Refused-clause-refused
-returns-in-Err-Refused-clause-refused c =
-    defines_nothing (datum_of c.args.datum.now) c.min-budget.result (seen c.args.self.now.world) (seen c.perform.new.self.world)
+returns-in-Err-Refused-clause-refused g c =
+    let old = c.args.self.now in
+    let new = c.perform.new.self in
+    let h : AnswersWith (g.N.Natives.host old.natives) (step (datum_of c.args.datum.now)) (state_of old) c.min-budget.result
+    (answers_of old) (Err (Refused c.in-Err-Refused.condition)) (state_of new) c.perform.new.steps (answers_of new) =
+    rw c.in-Err-Refused.field-0-is at c.in-Err-Refused.ensures.answers in
+    defines_nothing (g.N.Natives.host old.natives) (datum_of c.args.datum.now) c.min-budget.result (state_of old) (state_of new)
+    (answers_of old) (answers_of new)
     (Condition c.number.result c.in-Err-Refused.condition.items)
-    (c.in-Err-Refused.condition.kind, c.perform.new.steps, c.number.ensures, (rw c.in-Err-Refused.field-0-is at c.in-Err-Refused.ensures))
+    (c.in-Err-Refused.condition.kind, c.perform.new.steps, h.0, c.number.ensures, h.1, h.2)
 
 pub returns-in-Err-Storage-clause-reply : goal.returns-in-Err-Storage-clause-reply
-returns-in-Err-Storage-clause-reply c =
-    let e : c.min-budget.result ≡ min c.args.steps c.args.self.now.world.limits.steps = omega (arith, c.min-budget.ensures) in
+returns-in-Err-Storage-clause-reply g c =
+    let old = c.args.self.now in
+    let new = c.perform.new.self in
+    let e : c.min-budget.result ≡ min c.args.steps old.world.limits.steps = omega (arith, c.min-budget.ensures) in
     subst
-    (λ s. Replies (step (datum_of c.args.datum.now)) s (seen c.args.self.now.world) (Storage (c.min-budget.result - c.perform.new.steps)) (seen c.perform.new.self.world))
-    e (stored (step (datum_of c.args.datum.now)) (seen c.args.self.now.world) (seen c.perform.new.self.world) c.min-budget.result
-    c.perform.new.steps c.in-Err-Storage.field-0 c.in-Err-Storage.field-0-is c.in-Err-Storage.ensures)
+    (λ s. Replies (g.N.Natives.host old.natives) (step (datum_of c.args.datum.now)) s (state_of old) (answers_of old)
+    (Storage (c.min-budget.result - c.perform.new.steps)) (state_of new) (answers_of new))
+    e (stored (g.N.Natives.host old.natives) (step (datum_of c.args.datum.now)) (state_of old) (state_of new) c.min-budget.result
+    c.perform.new.steps
+    (answers_of old) (answers_of new) c.in-Err-Storage.field-0 c.in-Err-Storage.field-0-is c.in-Err-Storage.ensures.answers)

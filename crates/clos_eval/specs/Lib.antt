@@ -1,0 +1,3 @@
+pub mod Host
+pub mod Natives
+pub use Rattle.clos_native.specs as clos_native
