@@ -5,3 +5,4 @@ pub mod Generic
 pub mod Accessor
 pub mod Class
 pub mod Removal
+pub mod Notices

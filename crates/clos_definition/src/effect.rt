@@ -1,14 +1,19 @@
 //! What a definition form does to the table of generic functions.
-ghost use Rattle.std.specs.Prelude.{◌≡◌, ◌++◌, ◌∷◌, [], IfOk, OnOk, map};
+ghost use Rattle.std.specs.Prelude.{◌≡◌, ◌≤◌, ◌+◌, ◌*◌, ◌==◌, ◌++◌, ◌∷◌, [], IfOk, OnOk, length, map, true};
 ghost use Rattle.clos_world.specs.World.{seen};
 ghost use Rattle.clos_definition.specs.Effect.{IsReserved, adding, addition_of, changed, changes_of, with_definitions, with_effect, with_methods, without_all};
 ghost use Rattle.clos_definition.specs.Refusal.{Allows, table_refusal};
+ghost use Rattle.clos_generic.specs.Held.{by_addition, is_first};
+ghost use Rattle.clos_generic.specs.Table.{with_method};
+ghost use Rattle.clos_definition.specs.Notices.{most, of_addition, of_additions, of_definitions, of_effect, of_removal};
 
 use crate::refusal::stop_for;
 use clos_forms::FunctionName;
 use clos_generic::{Addition, Changes, Generics, Likeness, Removal};
 use clos_method::Method;
+use clos_watch::{Notice, Reserved};
 use clos_world::{Stop, World};
+use lisp_data::MethodId;
 use std::alloc::{AllocError, Global};
 use std::collections::VecDeque;
 
@@ -91,53 +96,85 @@ pub fn reserve(
     }
 }
 
-/// Makes an effect for which memory is reserved.
-pub fn make(world: &mut World, effect: Effect)
-    requires { IsReserved effect world.old.generics }
-    ensures { seen world.new ≡ with_effect effect (seen world.old) }
+/// Makes an effect for which memory is reserved, and adds what dependents are told of it (AMOP chapter 6).
+pub fn make(world: &mut World, effect: Effect, told: &mut Reserved<Notice>)
+    requires reserved { IsReserved effect world.old.generics }
+    requires room { most effect ≤ told.old.room }
+    ensures seen { seen world.new ≡ with_effect effect (seen world.old) }
+    ensures told { told.new.items ≡ told.old.items ++ of_effect effect (seen world.old).generics }
 {
-    make_in(&mut world.generics, effect);
+    make_in(&mut world.generics, effect, told);
 }
 
-fn make_in(generics: &mut Generics, effect: Effect)
-    requires { IsReserved effect generics.old }
-    ensures { generics.new.table ≡ changed effect.changes.removals effect.changes.definitions effect.methods.items generics.old.table }
+fn make_in(generics: &mut Generics, effect: Effect, told: &mut Reserved<Notice>)
+    requires reserved { IsReserved effect generics.old }
+    requires room { most effect ≤ told.old.room }
+    ensures table { generics.new.table ≡ changed effect.changes.removals effect.changes.definitions effect.methods.items generics.old.table }
+    ensures told { told.new.items ≡ told.old.items ++ of_effect effect generics.old.table }
 {
     let Effect { changes, methods } = effect;
-    take_out_all(generics, changes.removals());
-    define_all(generics, changes);
-    add_all(generics, methods);
+    take_out_all(generics, changes.removals(), told);
+    define_all(generics, changes, told);
+    add_all(generics, methods, told);
 }
 
 /// Takes these methods out of their functions.
-fn take_out_all(generics: &mut Generics, removals: &[Removal])
-    ensures { generics.new ≡ record generics.old { table = without_all removals.now generics.old.table } }
+fn take_out_all(generics: &mut Generics, removals: &[Removal], told: &mut Reserved<Notice>)
+    requires { length removals.now ≤ told.old.room }
+    ensures table { generics.new ≡ record generics.old { table = without_all removals.now generics.old.table } }
+    ensures told { told.new.items ≡ told.old.items ++ map of_removal removals.now }
+    ensures room { told.old.room ≤ told.new.room + length removals.now }
 {
     let mut left = removals;
     while let Some((removal, others)) = left.split_first() {
         generics.take_out(removal.generic, removal.method);
+        told.push(Notice::MethodRemoved(removal.generic, removal.method));
         left = others;
     }
 }
 
 /// Defines these functions, for which memory is reserved.
 #[tactic(auto, using(crate::proofs::Made::same_function_self))]
-fn define_all(generics: &mut Generics, mut changes: Changes)
-    requires { generics.old.definitions ≡ map (λ d. d.name) changes.definitions }
+fn define_all(generics: &mut Generics, mut changes: Changes, told: &mut Reserved<Notice>)
+    requires reserved { generics.old.definitions ≡ map (λ d. d.name) changes.definitions }
+    requires room { length changes.definitions ≤ told.old.room }
     ensures table { generics.new.table ≡ with_definitions changes.definitions generics.old.table }
     ensures additions { generics.new.additions ≡ generics.old.additions }
+    ensures told { told.new.items ≡ told.old.items ++ of_definitions changes.definitions generics.old.table }
+    ensures room { told.old.room ≤ told.new.room + length changes.definitions }
 {
     while let Some(definition) = changes.take_definition() {
+        if let Some(generic) = generics.named(&definition.name) {
+            told.push(Notice::GenericRedefined(generic));
+        }
         let _ = generics.define_reserved(definition.name, definition.options);
     }
 }
 
 /// Adds these methods, for which memory is reserved.
-fn add_all(generics: &mut Generics, mut methods: VecDeque<Method>)
-    requires { generics.old.additions ≡ map (λ m. m.generic.0) methods.items }
-    ensures { generics.new.table ≡ with_methods methods.items generics.old.table }
+fn add_all(generics: &mut Generics, mut methods: VecDeque<Method>, told: &mut Reserved<Notice>)
+    requires reserved { generics.old.additions ≡ map (λ m. m.generic.0) methods.items }
+    requires room { 2 * length methods.items ≤ told.old.room }
+    ensures table { generics.new.table ≡ with_methods methods.items generics.old.table }
+    ensures told { told.new.items ≡ told.old.items ++ of_additions methods.items generics.old.table }
 {
     while let Some(method) = methods.pop_front() {
-        let _ = generics.add_reserved(method.generic, method);
+        add(generics, method, told);
     }
+}
+
+/// Adds a method, for which memory is reserved. Where it takes the place of another one, that one goes.
+fn add(generics: &mut Generics, method: Method, told: &mut Reserved<Notice>)
+    requires reserved { is_first (λ h. h == method.generic.0) generics.old.additions ≡ true }
+    requires room { 2 ≤ told.old.room }
+    ensures table { generics.new ≡ by_addition method.generic.0 (with_method method.generic.0 method) generics.old }
+    ensures told { told.new.items ≡ told.old.items ++ of_addition method generics.old.table }
+    ensures room { told.old.room ≤ told.new.room + 2 }
+{
+    let generic = method.generic;
+    let number = MethodId(generics.method_count());
+    if let Some(replaced) = generics.add_reserved(generic, method) {
+        told.push(Notice::MethodRemoved(generic, replaced));
+    }
+    told.push(Notice::MethodAdded(generic, number));
 }

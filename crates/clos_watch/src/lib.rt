@@ -15,4 +15,5 @@ pub use dependent::Dependent;
 pub use dependents::Dependents;
 pub use notice::{Metaobject, Notice};
 pub use recorder::Recorder;
+pub use reserved::Reserved;
 pub use watchers::{Handed, Watchers};

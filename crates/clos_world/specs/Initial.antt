@@ -4,6 +4,7 @@ use Rattle.clos_class.specs.Table as classes
 use Rattle.clos_comb.specs.Table as combinations
 use Rattle.clos_generic.specs.Initial as generics
 use Rattle.clos_store.specs.Store.{empty}
+use Rattle.clos_watch.specs.Watching.{nobody}
 use Rattle.clos_world.specs.World.{State}
 use Rattle.clos_world.specs.declared.limits.Limits.{Limits}
 
@@ -15,6 +16,7 @@ initial limits = record {
   functions = [];
   setters = [];
   globals = [];
+  watching = nobody;
   store = empty limits.instances limits.cells;
   written = [];
   limits = limits;

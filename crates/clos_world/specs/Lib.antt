@@ -18,3 +18,4 @@ pub use Rattle.clos_method.specs as clos_method
 pub use Rattle.clos_generic.specs as clos_generic
 pub use Rattle.clos_comb.specs as clos_comb
 pub use Rattle.clos_lambda.specs as clos_lambda
+pub use Rattle.clos_watch.specs as clos_watch

@@ -14,6 +14,7 @@ use clos_comb::{Combinations, Meter};
 use clos_generic::Generics;
 use clos_hierarchy::numbers;
 use clos_store::{Objects, Store};
+use clos_watch::Watchers;
 use lisp_data::{
     ClassId, FunctionName, GenericId, InstanceId, MethodId, Name, Naming, Specializer, Value,
 };
@@ -34,6 +35,8 @@ pub struct World {
     /// The functions `(setf name)`, by that name.
     pub setters: Functions,
     pub globals: Globals,
+    /// The dependents of classes and generic functions, by their places among those that the session was handed.
+    pub watchers: Watchers,
     /// What forms wrote.
     pub written: Vec<u8>,
     pub limits: Limits,
@@ -56,6 +59,7 @@ impl World {
             functions: Functions::new(alloc),
             setters: Functions::new(alloc),
             globals: Globals::new(alloc),
+            watchers: Watchers::new(alloc),
             written: Vec::new(alloc),
             limits,
         })
