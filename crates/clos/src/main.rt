@@ -4,8 +4,8 @@
 use clap::error::ErrorKind;
 use clos_command_line::Settings;
 use clos_program::{
-    Fault, Native, Relation, STATUS_DONE, STATUS_FAULT, STATUS_USAGE, Session, affine, limits, low,
-    program, reads_input, report,
+    Callback, Dependent, Fault, KindNumber, Native, Recorder, Relation, STATUS_DONE, STATUS_FAULT,
+    STATUS_USAGE, Session, affine, limits, low, program, reads_input, report,
 };
 use lisp_data::Name;
 use std::alloc::AllocError;
@@ -33,7 +33,8 @@ fn run_over<O: Write>(rt: &HostRuntime, settings: &Settings<'_>, output: &mut O)
     }
 }
 
-/// Runs what the settings ask for in a session, for which the functions `affine` and `low` are stored.
+/// Runs what the settings ask for in a session, for which the functions `affine` and `low` are stored, and which is handed
+/// the dependents `audit` and `second`.
 fn run_session<O: Write>(
     rt: &HostRuntime,
     settings: &Settings<'_>,
@@ -56,7 +57,12 @@ fn run_session<O: Write>(
     let mut natives = Vec::new(alloc);
     natives.push(affine)?;
     natives.push(low)?;
-    let mut session = Session::new(alloc, limits(settings), natives)?;
+    let audit: Box<dyn Dependent> = Box::new(alloc, Recorder::new(alloc))?;
+    let second: Box<dyn Dependent> = Box::new(alloc, Callback::new(alloc, KindNumber))?;
+    let mut dependents = Vec::new(alloc);
+    dependents.push((Name::fixed(&"AUDIT"), audit))?;
+    dependents.push((Name::fixed(&"SECOND"), second))?;
+    let mut session = Session::new(alloc, limits(settings), natives, dependents)?;
     if reads_input(settings) {
         tell_waiting(rt);
     }

@@ -1,5 +1,5 @@
 -- Why a class is refused, and what is made of its accessors.
-use Rattle.std.proofs.Common.{◌≡◌, ℕ, Bool, true, false, Option, Some, None, refl, ap, sym, ◌∙◌, subst}
+use Rattle.std.proofs.Common.{◌≡◌, ℕ, List, Bool, true, false, Option, Some, None, Result, Ok, Err, refl, ap, sym, ◌∙◌, subst}
 use Rattle.std.specs.Prelude.{not, option_map}
 use Rattle.clos_class.specs.Table.{refusal}
 use Rattle.clos_forms.specs.declared.operator.FunctionName.TheVariants.{Symbol}
@@ -8,19 +8,24 @@ use Rattle.clos_world.specs.declared.condition.Condition.{Condition}
 use Rattle.clos_world.specs.declared.condition.Stop.{Stop}
 use Rattle.clos_world.specs.declared.condition.Stop.TheVariants.{Refused, Storage}
 use Rattle.clos_definition.specs.Accessor.{accessors_of, accessors_refusal}
-use Rattle.clos_definition.specs.Refusal.{StopsFor, or_else, table_full, table_refusal, when}
+use Rattle.clos_definition.specs.Refusal.{Allows, StopsFor, or_else, table_full, table_refusal, when}
+use Rattle.clos_store.specs.Objects.{Objects, with_class as objects_with}
 use Rattle.clos_store.specs.Store.{has_room_for}
+use Rattle.lisp_data.specs.Value.{Val}
 use Rattle.clos_syntax.specs.declared.class.ClassDefinition.{ClassDefinition}
+use Rattle.clos_watch.specs.declared.notice.Notice.{Notice}
+use Rattle.clos_world.specs.Hearing.{Hearing, telling}
 use Rattle.clos_world.specs.World.{State}
-use Rattle.clos_definition.specs.Class.{class_changes, class_functions, class_methods, class_number, class_refusal, class_removals, condition_for, others_refusal, with_accessors}
-use Rattle.clos_definition.specs.Effect.{changed, with_effect}
+use Rattle.clos_definition.specs.Class.{class_changes, class_functions, class_methods, class_notices, class_number, class_refusal, class_removals, condition_for, noting, others_refusal, with_accessors, with_class}
+use Rattle.clos_definition.specs.Effect.{changing, with_effect}
 use Rattle.clos_definition.specs.declared.effect.Effect.{Effect}
 
 -- An effect that was found in a state that is the same is that of the accessors.
-pub effect_made : (d : ClassDefinition) (w u : State) (e : Effect) → u ≡ w → e.changes ≡ class_changes d u → e.methods.items ≡ class_methods d u → with_effect e w ≡ with_accessors d w
-effect_made d w u e q h g =
-    ap (λ c. record w { generics = changed c.removals c.definitions e.methods.items w.generics }) (subst (λ x. e.changes ≡ class_changes d x) q h)
-    ∙ ap (λ m. record w { generics = changed (class_removals d w) (class_functions d w) m w.generics }) (subst (λ x. e.methods.items ≡ class_methods d x) q g)
+pub effect_made : (d : ClassDefinition) (w u : State) (e : Effect) → u ≡ w → e.changes ≡ class_changes d u → e.methods.items ≡ class_methods d u
+    → (told : List Notice) → with_effect e (noting told w) ≡ with_accessors d (noting told w)
+effect_made d w u e q h g told =
+    ap (λ c. changing c.removals c.definitions e.methods.items (noting told w)) (subst (λ x. e.changes ≡ class_changes d x) q h)
+    ∙ ap (λ m. changing (class_removals d w) (class_functions d w) m (noting told w)) (subst (λ x. e.methods.items ≡ class_methods d x) q g)
 
 -- ---- the first check that fails decides
 
@@ -29,11 +34,19 @@ first_stops (Some e) p (Refused c) h = h
 first_stops None p (Refused c) h = absurd (cc h)
 first_stops o p Storage h = tt
 
-second_stops : (o p : Option Condition) (stop : Stop) → o ≡ None → StopsFor p stop → StopsFor (or_else o p) stop
+pub second_stops : (o p : Option Condition) (stop : Stop) → o ≡ None → StopsFor p stop → StopsFor (or_else o p) stop
 second_stops o p stop e h = subst (λ x. StopsFor (or_else x p) stop) (sym e) h
 
-neither : (o p : Option Condition) → o ≡ None → p ≡ None → or_else o p ≡ None
+pub neither : (o p : Option Condition) → o ≡ None → p ≡ None → or_else o p ≡ None
 neither o p e h = ap (λ x. or_else x p) e ∙ h
+
+-- .. after two that passed
+pub third_stops : (o p q : Option Condition) (stop : Stop) → o ≡ None → p ≡ None → StopsFor q stop → StopsFor (or_else o (or_else p q)) stop
+third_stops o p q stop e f h = second_stops o (or_else p q) stop e (second_stops p q stop f h)
+
+pub third_allows : {A : Type 0} (o p q : Option Condition) (r : Result A Stop) → o ≡ None → p ≡ None → Allows q r → Allows (or_else o (or_else p q)) r
+third_allows o p q (Ok x) e f h = neither o (or_else p q) e (neither p q f h)
+third_allows o p q (Err stop) e f h = third_stops o p q stop e f h
 
 module _ (d : ClassDefinition) (n : ℕ) (w : State) where
   pub class_stops : (stop : Stop) → StopsFor (option_map (condition_for d.name) (refusal w.classes.table d)) stop → StopsFor (class_refusal d n w) stop
@@ -120,3 +133,13 @@ allowed d n w h = (
       (or_else (table_refusal (Symbol d.name) (class_changes d w) w) (when (not (has_room_for n w.store)) table_full))
       (of_second (option_map (condition_for d.name) (refusal w.classes.table d)) (others_refusal d n w) h))),
 )
+
+-- ---- what is made
+
+-- the class is there, and it is told that it was defined again if it was there before
+pub class_there : (d : ClassDefinition) (values : List (Option Val)) (w : State) (o : Objects) (h : Hearing) (told : List Notice)
+    → o ≡ objects_with d values (record { classes = w.classes; contents = w.store }) → h ≡ telling told w.hearing → told ≡ class_notices d w
+    → record w { classes = o.classes; store = o.contents; hearing = h } ≡ with_class d values (noting (class_notices d w) w)
+class_there d values w o h told e g k =
+    ap (λ x. record w { classes = x.classes; store = x.contents; hearing = h }) e
+    ∙ ap (λ x. record (with_class d values w) { hearing = x }) (g ∙ ap (λ l. telling l w.hearing) k)

@@ -1,2 +1,4 @@
+pub mod Notices
 pub mod Made
 pub mod Classes
+pub use Rattle.clos_world.proofs as clos_world

@@ -1,5 +1,5 @@
 -- Classes that are defined (HyperSpec 7.7 defclass).
-use Rattle.std.specs.Prelude.{ℕ, not, List, [], ◌∷◌, Option, length, map, option_map}
+use Rattle.std.specs.Prelude.{ℕ, not, List, [], ◌∷◌, Option, Some, None, length, map, option_map}
 use Rattle.lisp_data.specs.Name.{Name}
 use Rattle.lisp_data.specs.Value.{Val}
 use Rattle.clos_class.specs.Table.{cells_to_make, list_with, number, refusal, with_definition}
@@ -14,11 +14,15 @@ use Rattle.clos_generic.specs.Changes.{Changes}
 use Rattle.clos_generic.specs.declared.changes.Definition.{Definition}
 use Rattle.clos_generic.specs.declared.changes.Removal.{Removal}
 use Rattle.clos_method.specs.declared.method.Method.{Method}
+use Rattle.clos_watch.specs.declared.notice.Notice.{Notice}
+use Rattle.clos_watch.specs.declared.notice.Notice.TheVariants.{ClassRedefined}
+use Rattle.clos_world.specs.Class.{named}
+use Rattle.clos_world.specs.Hearing.{telling}
 use Rattle.clos_world.specs.World.{State}
 use Rattle.clos_world.specs.declared.condition.Condition.{Condition}
 use Rattle.clos_world.specs.declared.condition.ConditionKind.TheVariants.{ProgramError, InvalidSuperclass, InconsistentPrecedence, SuperclassCycle, IncompleteClass, TableLimit}
 use Rattle.clos_definition.specs.Accessor.{accessor_methods, accessors_of, accessors_refusal, earlier_accessors, functions_for}
-use Rattle.clos_definition.specs.Effect.{changed, changes_of}
+use Rattle.clos_definition.specs.Effect.{changes_of, changing}
 use Rattle.clos_definition.specs.Refusal.{or_else, table_full, table_refusal, when}
 
 -- the condition of a definition of the class of this name that the table of classes refuses
@@ -80,8 +84,20 @@ with_class d values w = record w {
 
 -- with its accessors, and without those of an earlier definition
 abbrev pub with_accessors : ClassDefinition → State → State
-with_accessors d w = record w { generics = changed (class_removals d w) (class_functions d w) (class_methods d w) w.generics }
+with_accessors d w = changing (class_removals d w) (class_functions d w) (class_methods d w) w
 
--- the state after it is defined
+-- a class that is there is defined again; of one that is new nobody could hear (AMOP chapter 6)
+abbrev pub of_class : Option ℕ → List Notice
+of_class None = []
+of_class (Some c) = ClassRedefined (record { 0 = c }) ∷ []
+
+abbrev pub class_notices : ClassDefinition → State → List Notice
+class_notices d w = of_class (named w.classes d.name)
+
+-- after this is told
+abbrev pub noting : List Notice → State → State
+noting notices w = record w { hearing = telling notices w.hearing }
+
+-- the state after it is defined; of the class is told before its accessors
 abbrev pub with_defined_class : ClassDefinition → List (Option Val) → State → State
-with_defined_class d values w = with_class d values (with_accessors d w)
+with_defined_class d values w = with_class d values (with_accessors d (noting (class_notices d w) w))

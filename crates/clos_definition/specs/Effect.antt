@@ -1,13 +1,17 @@
 -- What a definition form does to the table of generic functions (HyperSpec 7.6.3, 7.7): methods go, functions are defined, and methods
 -- come, in this order.
-use Rattle.std.specs.Prelude.{◌≡◌, ℕ, List, [], ◌∷◌, ◌++◌, Some, map}
+use Rattle.std.specs.Prelude.{◌≡◌, ℕ, List, [], ◌∷◌, ◌++◌, Option, Some, None, length, map}
+use Rattle.lisp_data.specs.declared.ids.GenericId.{GenericId}
 use Rattle.clos_generic.specs.Changes.{Changes}
 use Rattle.clos_generic.specs.Held.{Held}
-use Rattle.clos_generic.specs.Table.{Table, with_definition, with_method, without_method}
+use Rattle.clos_generic.specs.Table.{Table, find_method, named, with_definition, with_method, without_method}
 use Rattle.clos_generic.specs.declared.changes.Addition.{Addition}
 use Rattle.clos_generic.specs.declared.changes.Definition.{Definition}
 use Rattle.clos_generic.specs.declared.changes.Removal.{Removal}
 use Rattle.clos_method.specs.declared.method.Method.{Method}
+use Rattle.clos_watch.specs.declared.notice.Notice.{Notice}
+use Rattle.clos_watch.specs.declared.notice.Notice.TheVariants.{GenericRedefined, MethodAdded, MethodRemoved}
+use Rattle.clos_world.specs.Hearing.{telling}
 use Rattle.clos_world.specs.World.{State}
 use Rattle.clos_definition.specs.declared.effect.Effect as code
 
@@ -47,14 +51,64 @@ removing changes more = record changes { removals = changes.removals ++ more }
 abbrev pub adding : Changes → List Addition → Changes
 adding changes more = record changes { additions = changes.additions ++ more }
 
--- ---- an effect that was prepared
+-- ---- what is told of it (AMOP chapter 6), in the order of the effects
 
-abbrev pub made : code.Effect → Table → Table
-made e t = changed e.changes.removals e.changes.definitions e.methods.items t
+abbrev pub of_removal : Removal → Notice
+of_removal r = MethodRemoved r.generic r.method
+
+-- a function that is there is defined again; of one that is new nobody could hear
+abbrev pub of_definition : Option ℕ → List Notice
+of_definition None = []
+of_definition (Some g) = GenericRedefined (record { 0 = g }) ∷ []
+
+abbrev pub of_definitions : List Definition → Table → List Notice
+of_definitions [] t = []
+of_definitions (d ∷ ds) t = of_definition (named t d.name) ++ of_definitions ds t
+
+-- the method that goes where another comes in its place
+abbrev pub of_replaced : GenericId → Option ℕ → List Notice
+of_replaced g None = []
+of_replaced g (Some m) = MethodRemoved g (record { 0 = m }) ∷ []
+
+-- it gets the next number
+abbrev pub of_addition : Method → Table → List Notice
+of_addition m t =
+    of_replaced m.generic (find_method t m.generic.0 m.qualifiers m.specializers) ++ MethodAdded m.generic (record { 0 = length t.methods }) ∷ []
+
+-- each comes after those before it, and may take the place of one of them
+abbrev pub of_additions : List Method → Table → List Notice
+of_additions [] t = []
+of_additions (m ∷ ms) t = of_addition m t ++ of_additions ms (with_method m.generic.0 m t)
+
+abbrev pub of_changes : List Removal → List Definition → List Method → Table → List Notice
+of_changes removals definitions methods t =
+    map of_removal removals ++ of_definitions definitions t ++ of_additions methods (with_definitions definitions (without_all removals t))
+
+-- the state after these changes
+abbrev pub changing : List Removal → List Definition → List Method → State → State
+changing removals definitions methods w = record w {
+  generics = changed removals definitions methods w.generics;
+  hearing = telling (of_changes removals definitions methods w.generics) w.hearing;
+}
+
+-- ---- what may be told at most, for which room is made
+
+-- whether it takes the place of a method, and of which, and what its number is, makes no difference to who hears of it
+abbrev pub possible : List Method → List Notice
+possible [] = []
+possible (m ∷ ms) = MethodRemoved m.generic (record { 0 = 0 }) ∷ MethodAdded m.generic (record { 0 = 0 }) ∷ possible ms
+
+abbrev pub possible_changes : List Removal → List Definition → List Method → Table → List Notice
+possible_changes removals definitions methods t = map of_removal removals ++ of_definitions definitions t ++ possible methods
+
+-- ---- an effect that was prepared
 
 -- the state after it
 abbrev pub with_effect : code.Effect → State → State
-with_effect e w = record w { generics = made e w.generics }
+with_effect e w = changing e.changes.removals e.changes.definitions e.methods.items w
+
+abbrev pub possible_notices : code.Effect → Table → List Notice
+possible_notices e t = possible_changes e.changes.removals e.changes.definitions e.methods.items t
 
 -- Memory is reserved for it.
 pub record IsReserved (e : code.Effect) (h : Held) : Type 0 where

@@ -23,7 +23,7 @@ use Rattle.clos_world.specs.clos_comb.Fault.{Misuse, undefined, arguments, misus
 use Rattle.clos_world.specs.World.{State}
 use Rattle.clos_world.specs.declared.condition.Condition.{Condition}
 use Rattle.clos_world.specs.declared.condition.ConditionKind.TheVariants.{UndefinedCombination}
-use Rattle.clos_definition.specs.Effect.{changed, changes_of, removal}
+use Rattle.clos_definition.specs.Effect.{changes_of, changing, removal}
 use Rattle.clos_definition.specs.Method.{eql_form, method_with, open_addition, specializers_refusal}
 use Rattle.clos_definition.specs.Refusal.{or_else, program_error, table_refusal, taken_refusal}
 
@@ -112,4 +112,4 @@ generic_refusal d vs w = or_else (names_refusal d w) (table_refusal d.name (gene
 -- the state after it is defined, or defined again
 abbrev pub with_defined_generic : GenericDefinition → List (Option Val) → State → State
 with_defined_generic d vs w =
-    record w { generics = changed (earlier_methods w.generics (named w.generics d.name)) (definition_of d ∷ []) (initial_methods d vs w) w.generics }
+    changing (earlier_methods w.generics (named w.generics d.name)) (definition_of d ∷ []) (initial_methods d vs w) w

@@ -25,7 +25,7 @@ use Rattle.clos_method.specs.declared.shape.Shape.{Shape}
 use Rattle.clos_world.specs.Class.{named}
 use Rattle.clos_world.specs.World.{State}
 use Rattle.clos_world.specs.declared.condition.Condition.{Condition}
-use Rattle.clos_definition.specs.Effect.{changed, changes_of}
+use Rattle.clos_definition.specs.Effect.{changes_of, changing}
 use Rattle.clos_definition.specs.Refusal.{or_else, table_refusal, taken_refusal, undefined_class, when}
 
 -- ---- qualifiers: atoms, as they would be quoted
@@ -107,4 +107,4 @@ method_refusal name m vs w =
 -- the state after it is defined
 abbrev pub with_defined_method : FunctionName → MethodDefinition → List (Option Val) → State → State
 with_defined_method name m vs w =
-    record w { generics = changed [] (function_for w.generics name (shape_of m.lambda_list)) (defined_method name m vs w ∷ []) w.generics }
+    changing [] (function_for w.generics name (shape_of m.lambda_list)) (defined_method name m vs w ∷ []) w

@@ -1,23 +1,25 @@
 //! Classes that are defined: what a `defclass` does.
-ghost use Rattle.std.specs.Prelude.{◌≡◌, IfOk, IfErr, None, Option, OnOk, OnErr, Some, length, not, option_map};
+ghost use Rattle.std.specs.Prelude.{◌≡◌, ◌≤◌, ◌++◌, List, IfOk, IfErr, None, Option, OnOk, OnErr, Some, length, not, option_map};
 ghost use Rattle.clos_class.specs.Table.{refusal};
 ghost use Rattle.clos_hierarchy.specs.Table.{Refusal};
 ghost use Rattle.clos_hierarchy.specs.TableView.{Refuses};
 ghost use Rattle.clos_forms.specs.declared.operator.FunctionName.TheVariants.{Symbol};
 ghost use Rattle.clos_store.specs.Store.{has_room_for};
+ghost use Rattle.clos_watch.specs.declared.notice.Notice.{Notice};
 ghost use Rattle.clos_world.specs.World.{seen};
 ghost use Rattle.clos_world.specs.declared.condition.Stop.TheVariants.{Storage};
 ghost use Rattle.clos_definition.specs.Accessor.{accessors_of, accessors_refusal};
-ghost use Rattle.clos_definition.specs.Class.{cells_needed, class_changes, class_functions, class_methods, class_number, class_refusal, condition_for, others_refusal, with_accessors, with_class};
-ghost use Rattle.clos_definition.specs.Effect.{IsReserved, changes_of, with_effect};
+ghost use Rattle.clos_definition.specs.Class.{cells_needed, class_changes, class_functions, class_methods, class_notices, class_number, class_refusal, condition_for, noting, others_refusal, with_accessors, with_class};
+ghost use Rattle.clos_definition.specs.Effect.{IsReserved, changes_of, possible_notices, with_effect};
 ghost use Rattle.clos_definition.specs.Refusal.{Allows, StopsFor, table_full, table_refusal, when};
 
 use crate::accessor::{accessors_of, changes_for, refuse_accessors, with_accessors};
-use crate::effect::{Effect, check, make, reserve};
-use clos_class::{ClassFault, Reserved};
+use crate::effect::{Effect, add_possible, check, make, reserve};
+use clos_class::{ClassFault, Reserved as ReservedClass};
 use clos_forms::FunctionName;
 use clos_store::Slot;
 use clos_syntax::ClassDefinition;
+use clos_watch::{Notice, Reserved};
 use clos_world::{Condition, ConditionKind, Stop, World, about_name, about_names, plain};
 use lisp_data::{ClassId, Name};
 use std::alloc::{AllocError, Global};
@@ -28,7 +30,7 @@ pub fn check_class(
     alloc: Global,
     world: &mut World,
     definition: &ClassDefinition,
-) -> Result<Reserved, Stop>
+) -> Result<ReservedClass, Stop>
     ensures allows { Allows (class_refusal definition.now (length (cells_needed definition.now (seen world.old))) (seen world.old)) result }
     ensures class { IfOk result (λ r. r.class.0 ≡ class_number definition.now (seen world.old)) }
     ensures cells { IfOk result (λ r. r.cells ≡ cells_needed definition.now (seen world.old)) }
@@ -57,7 +59,7 @@ pub fn prepare_class(
     ensures allows { Allows (class_refusal definition.now cells (seen world.old)) result }
     ensures class { IfOk result (λ p. p.0.0 ≡ class_number definition.now (seen world.old)) }
     ensures reserved { IfOk result (λ p. IsReserved p.1 world.new.generics) }
-    ensures effect { IfOk result (λ p. with_effect p.1 (seen world.old) ≡ with_accessors definition.now (seen world.old)) }
+    ensures effect { IfOk result (λ p. (told : List Notice) → with_effect p.1 (noting told (seen world.old)) ≡ with_accessors definition.now (noting told (seen world.old))) }
     ensures same { seen world.new ≡ seen world.old }
 {
     let class = reserve_class(alloc, world, definition)?.class;
@@ -77,12 +79,35 @@ pub fn make_class(
 ) -> Result<(), AllocError>
     requires allowed { class_refusal definition.now (length values.items) (seen world.old) ≡ None }
     requires reserved { IsReserved effect world.old.generics }
-    ensures ok { OnOk result (seen world.new ≡ with_class definition.now values.items (with_effect effect (seen world.old))) }
+    requires room { length (class_notices definition.now (seen world.old) ++ possible_notices effect (seen world.old).generics) ≤ world.old.hearing.notices.room }
+    ensures ok { OnOk result (seen world.new ≡ with_class definition.now values.items (with_effect effect (noting (class_notices definition.now (seen world.old)) (seen world.old)))) }
     ensures err { OnErr result (seen world.new ≡ seen world.old) }
 {
+    let earlier = world.classes().hierarchy().named(&definition.name);
     world.objects.define(alloc, definition, values)?;
+    if let Some(class) = earlier {
+        world.hearing.notices.push(Notice::ClassRedefined(class));
+    }
     make(world, effect);
     Ok(())
+}
+
+/// What dependents may be told of a class and of its accessors at most (AMOP chapter 6).
+pub fn class_notices(
+    alloc: Global,
+    world: &World,
+    definition: &ClassDefinition,
+    effect: &Effect,
+) -> Result<Reserved<Notice>, AllocError>
+    ensures { IfOk result (λ r. r.items ≡ class_notices definition.now (seen world.now) ++ possible_notices effect.now (seen world.now).generics) }
+{
+    let mut notices = Reserved::new(alloc);
+    if let Some(class) = world.classes().hierarchy().named(&definition.name) {
+        notices.prepare(1)?;
+        notices.push(Notice::ClassRedefined(class));
+    }
+    add_possible(&world.generics, effect, &mut notices)?;
+    Ok(notices)
 }
 
 /// What the table of classes tells of a definition.
@@ -90,7 +115,7 @@ fn reserve_class(
     alloc: Global,
     world: &mut World,
     definition: &ClassDefinition,
-) -> Result<Reserved, Stop>
+) -> Result<ReservedClass, Stop>
     ensures allows { Allows (option_map (condition_for definition.now.name) (refusal (seen world.old).classes.table definition.now)) result }
     ensures class { IfOk result (λ r. r.class.0 ≡ class_number definition.now (seen world.old)) }
     ensures cells { IfOk result (λ r. r.cells ≡ cells_needed definition.now (seen world.old)) }

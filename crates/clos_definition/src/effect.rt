@@ -1,14 +1,18 @@
 //! What a definition form does to the table of generic functions.
-ghost use Rattle.std.specs.Prelude.{◌≡◌, ◌++◌, ◌∷◌, [], IfOk, OnOk, map};
+ghost use Rattle.std.specs.Prelude.{◌≡◌, ◌≤◌, ◌+◌, ◌==◌, ◌++◌, ◌∷◌, [], IfOk, OnOk, length, map, true};
 ghost use Rattle.clos_world.specs.World.{seen};
-ghost use Rattle.clos_definition.specs.Effect.{IsReserved, adding, addition_of, changed, changes_of, with_definitions, with_effect, with_methods, without_all};
+ghost use Rattle.clos_definition.specs.Effect.{IsReserved, adding, addition_of, changed, changes_of, of_addition, of_additions, of_changes, of_definitions, of_removal, possible, possible_notices, with_definitions, with_effect, with_methods, without_all};
 ghost use Rattle.clos_definition.specs.Refusal.{Allows, table_refusal};
+ghost use Rattle.clos_generic.specs.Held.{by_addition, is_first};
+ghost use Rattle.clos_generic.specs.Table.{with_method};
 
 use crate::refusal::stop_for;
 use clos_forms::FunctionName;
-use clos_generic::{Addition, Changes, Generics, Likeness, Removal};
+use clos_generic::{Addition, Changes, Definition, Generics, Likeness, Removal};
 use clos_method::Method;
+use clos_watch::{Notice, Reserved};
 use clos_world::{Stop, World};
+use lisp_data::MethodId;
 use std::alloc::{AllocError, Global};
 use std::collections::VecDeque;
 
@@ -91,22 +95,92 @@ pub fn reserve(
     }
 }
 
-/// Makes an effect for which memory is reserved.
-pub fn make(world: &mut World, effect: Effect)
-    requires { IsReserved effect world.old.generics }
-    ensures { seen world.new ≡ with_effect effect (seen world.old) }
+/// What dependents may be told of an effect at most (AMOP chapter 6).
+pub fn possible_notices(
+    alloc: Global,
+    world: &World,
+    effect: &Effect,
+) -> Result<Reserved<Notice>, AllocError>
+    ensures { IfOk result (λ r. r.items ≡ possible_notices effect.now (seen world.now).generics) }
 {
-    make_in(&mut world.generics, effect);
+    let mut notices = Reserved::new(alloc);
+    add_possible(&world.generics, effect, &mut notices)?;
+    Ok(notices)
 }
 
-fn make_in(generics: &mut Generics, effect: Effect)
-    requires { IsReserved effect generics.old }
-    ensures { generics.new.table ≡ changed effect.changes.removals effect.changes.definitions effect.methods.items generics.old.table }
+/// Adds what may be told of an effect.
+pub(crate) fn add_possible(
+    generics: &Generics,
+    effect: &Effect,
+    notices: &mut Reserved<Notice>,
+) -> Result<(), AllocError>
+    ensures { OnOk result (notices.new.items ≡ notices.old.items ++ possible_notices effect.now generics.now.table) }
+{
+    let removals = effect.changes.removals();
+    notices.prepare(removals.len())?;
+    tell_removals(removals, notices);
+    let definitions = effect.changes.definitions();
+    notices.prepare(definitions.len())?;
+    tell_definitions(generics, definitions, notices);
+    let mut place = 0;
+    while let Some(method) = effect.methods.get(place) {
+        notices.prepare(2)?;
+        notices.push(Notice::MethodRemoved(method.generic, MethodId(0)));
+        notices.push(Notice::MethodAdded(method.generic, MethodId(0)));
+        place += 1;
+    }
+    Ok(())
+}
+
+/// Makes an effect for which memory is reserved, and notes what is told of it (AMOP chapter 6).
+pub fn make(world: &mut World, effect: Effect)
+    requires reserved { IsReserved effect world.old.generics }
+    requires room { length (possible_notices effect (seen world.old).generics) ≤ world.old.hearing.notices.room }
+    ensures { seen world.new ≡ with_effect effect (seen world.old) }
+{
+    make_in(&mut world.generics, effect, &mut world.hearing.notices);
+}
+
+fn make_in(generics: &mut Generics, effect: Effect, notices: &mut Reserved<Notice>)
+    requires reserved { IsReserved effect generics.old }
+    requires room { length (possible_notices effect generics.old.table) ≤ notices.old.room }
+    ensures table { generics.new.table ≡ changed effect.changes.removals effect.changes.definitions effect.methods.items generics.old.table }
+    ensures told { notices.new.items ≡ notices.old.items ++ of_changes effect.changes.removals effect.changes.definitions effect.methods.items generics.old.table }
 {
     let Effect { changes, methods } = effect;
+    tell_removals(changes.removals(), notices);
+    tell_definitions(generics, changes.definitions(), notices);
     take_out_all(generics, changes.removals());
     define_all(generics, changes);
-    add_all(generics, methods);
+    add_all(generics, methods, notices);
+}
+
+/// Tells that these methods are taken out.
+fn tell_removals(removals: &[Removal], notices: &mut Reserved<Notice>)
+    requires { length removals.now ≤ notices.old.room }
+    ensures told { notices.new.items ≡ notices.old.items ++ map of_removal removals.now }
+    ensures room { notices.new.room + length removals.now ≡ notices.old.room }
+{
+    let mut left = removals;
+    while let Some((removal, others)) = left.split_first() {
+        notices.push(Notice::MethodRemoved(removal.generic, removal.method));
+        left = others;
+    }
+}
+
+/// Tells which of these functions, which are to be defined, are there.
+fn tell_definitions(generics: &Generics, definitions: &[Definition], notices: &mut Reserved<Notice>)
+    requires { length (of_definitions definitions.now generics.now.table) ≤ notices.old.room }
+    ensures told { notices.new.items ≡ notices.old.items ++ of_definitions definitions.now generics.now.table }
+    ensures room { notices.new.room + length (of_definitions definitions.now generics.now.table) ≡ notices.old.room }
+{
+    let mut left = definitions;
+    while let Some((definition, others)) = left.split_first() {
+        if let Some(generic) = generics.named(&definition.name) {
+            notices.push(Notice::GenericRedefined(generic));
+        }
+        left = others;
+    }
 }
 
 /// Takes these methods out of their functions.
@@ -132,12 +206,30 @@ fn define_all(generics: &mut Generics, mut changes: Changes)
     }
 }
 
-/// Adds these methods, for which memory is reserved.
-fn add_all(generics: &mut Generics, mut methods: VecDeque<Method>)
-    requires { generics.old.additions ≡ map (λ m. m.generic.0) methods.items }
-    ensures { generics.new.table ≡ with_methods methods.items generics.old.table }
+/// Adds these methods, for which memory is reserved, and tells of them.
+fn add_all(generics: &mut Generics, mut methods: VecDeque<Method>, notices: &mut Reserved<Notice>)
+    requires reserved { generics.old.additions ≡ map (λ m. m.generic.0) methods.items }
+    requires room { length (possible methods.items) ≤ notices.old.room }
+    ensures table { generics.new.table ≡ with_methods methods.items generics.old.table }
+    ensures told { notices.new.items ≡ notices.old.items ++ of_additions methods.items generics.old.table }
 {
     while let Some(method) = methods.pop_front() {
-        let _ = generics.add_reserved(method.generic, method);
+        add(generics, method, notices);
     }
+}
+
+/// Adds a method, for which memory is reserved. Where it takes the place of another one, that one goes.
+fn add(generics: &mut Generics, method: Method, notices: &mut Reserved<Notice>)
+    requires reserved { is_first (λ h. h == method.generic.0) generics.old.additions ≡ true }
+    requires room { 2 ≤ notices.old.room }
+    ensures added { generics.new ≡ by_addition method.generic.0 (with_method method.generic.0 method) generics.old }
+    ensures told { notices.new.items ≡ notices.old.items ++ of_addition method generics.old.table }
+    ensures room { notices.old.room ≤ notices.new.room + 2 }
+{
+    let generic = method.generic;
+    let number = MethodId(generics.method_count());
+    if let Some(replaced) = generics.add_reserved(generic, method) {
+        notices.push(Notice::MethodRemoved(generic, replaced));
+    }
+    notices.push(Notice::MethodAdded(generic, number));
 }

@@ -11,8 +11,8 @@ mod refusal;
 mod removal;
 
 pub use accessor::SlotAccessor;
-pub use class::{check_class, make_class, prepare_class};
-pub use effect::{Effect, make};
+pub use class::{check_class, class_notices, make_class, prepare_class};
+pub use effect::{Effect, make, possible_notices};
 pub use generic::{check_generic, generic_forms, prepare_generic};
 pub use method::{check_method, method_forms, number_of, prepare_method};
 pub use removal::{find_removable, remove};

@@ -1,10 +1,11 @@
 //! Methods that are taken out of their function: what a `remove-method` does.
-ghost use Rattle.std.specs.Prelude.{◌≡◌, IfOk, option_map};
+ghost use Rattle.std.specs.Prelude.{◌<◌, ◌≡◌, IfOk, option_map};
 ghost use Rattle.lisp_data.specs.ValueView.{value_of};
 ghost use Rattle.clos_world.specs.World.{seen};
 ghost use Rattle.clos_definition.specs.Removal.{Finds, generic_in, method_in, removable, with_removed, wrong_type};
 
 use clos_method::SystemFunction;
+use clos_watch::Notice;
 use clos_world::{Condition, ConditionKind, Stop, World, about, plain};
 use lisp_data::{GenericId, MethodId, Value};
 use std::alloc::{AllocError, Global};
@@ -54,9 +55,16 @@ fn method_in(value: &Value) -> Option<MethodId>
     }
 }
 
-/// Takes a method out of a function, if it is there.
+/// Takes a method out of a function, and notes that it was, if it is there.
 pub fn remove(world: &mut World, function: GenericId, method: MethodId)
+    requires { 0 < world.old.hearing.notices.room }
     ensures { seen world.new ≡ with_removed function.0 method.0 (seen world.old) }
 {
+    if world.generics.has_method(function, method) {
+        world
+            .hearing
+            .notices
+            .push(Notice::MethodRemoved(function, method));
+    }
     world.generics.take_out(function, method);
 }

@@ -1,7 +1,8 @@
 -- Definition forms that are refused, and those that go on.
-use Rattle.std.proofs.Common.{◌≡◌, ℕ, List, [], ◌∷◌, Option, Some, None, Result, Ok, Err, map, length, refl, ap, sym, ◌∙◌, subst, arith}
+use Rattle.std.proofs.Common.{◌≡◌, ℕ, suc, List, [], ◌∷◌, Option, Some, None, Result, Ok, Err, map, length, refl, ap, sym, ◌∙◌, subst, arith}
 use Rattle.std.specs.Prelude.{ℤ}
 use Rattle.lisp_data.specs.Value.{Val, class, generic, method}
+use Rattle.lisp_data.specs.ValueView.{value_of}
 use Rattle.lisp_data.specs.declared.value.Value.{Value}
 use Rattle.clos_class.specs.declared.reserve.NewCell.{NewCell}
 use Rattle.clos_forms.specs.Form.{Form}
@@ -10,11 +11,12 @@ use Rattle.clos_machine.specs.clos_world.clos_generic.Table.{number}
 use Rattle.clos_syntax.specs.declared.class.ClassDefinition.{ClassDefinition}
 use Rattle.clos_syntax.specs.declared.generic.GenericDefinition.{GenericDefinition}
 use Rattle.clos_syntax.specs.declared.method.MethodDefinition.{MethodDefinition}
+use Rattle.clos_watch.specs.declared.notice.Notice.{Notice}
 use Rattle.clos_machine.specs.clos_world.World.{State}
 use Rattle.clos_machine.specs.clos_world.declared.condition.Condition.{Condition}
 use Rattle.clos_machine.specs.clos_world.declared.condition.Stop.{Stop}
 use Rattle.clos_machine.specs.clos_world.declared.condition.Stop.TheVariants.{Refused, Storage}
-use Rattle.clos_definition.specs.Class.{cells_needed, class_number, class_refusal, initforms, with_accessors, with_class, with_defined_class}
+use Rattle.clos_definition.specs.Class.{cells_needed, class_notices, class_number, class_refusal, initforms, noting, with_accessors, with_class, with_defined_class}
 use Rattle.clos_definition.specs.Effect.{with_effect}
 use Rattle.clos_definition.specs.Generic.{eql_forms, generic_refusal, with_defined_generic}
 use Rattle.clos_definition.specs.Method.{eql_form, method_refusal, with_defined_method}
@@ -23,15 +25,15 @@ use Rattle.clos_definition.specs.Removal.{Finds, removable, with_removed}
 use Rattle.clos_definition.specs.declared.effect.Effect.{Effect}
 use Rattle.clos_machine.specs.Machine.{Answers, AnswersWith}
 use Rattle.clos_machine.specs.clos_meaning.Host.{Host}
-use Rattle.clos_machine.specs.clos_meaning.Outcome.{Run, Stopped, leaves}
-use Rattle.clos_definition_forms.specs.Definition.{class_made, define_class, define_generic, define_method, generic_made, method_made, remove_method, removed_if, takes_effect, unless, value_at, values_removed}
+use Rattle.clos_machine.specs.clos_meaning.Outcome.{Gave, Run, Stopped, leaves, step_then}
+use Rattle.clos_definition_forms.specs.Definition.{class_made, define_class, define_generic, define_method, generic_made, method_made, removed_if, takes_effect, unless, value_at, values_removed}
 use Rattle.clos_definition_forms.specs.Forms.{EndsBefore, GoesOn, forms_evaluated}
 use Rattle.clos_machine.proofs.Answering.{answers_as, answers_with}
-use Rattle.clos_definition_forms.proofs.Quiet.{class_forms_quiet, class_made_quiet, define_generic_quiet, define_method_quiet, generic_forms_quiet, generic_made_quiet, method_forms_quiet, method_made_quiet, define_class_quiet, remove_method_quiet, values_removed_quiet}
-use Rattle.clos_definition_forms.proofs.Evaluated.{forms_go_on, forms_stop}
+use Rattle.clos_definition_forms.proofs.Quiet.{class_forms_quiet, class_made_quiet, define_generic_quiet, define_method_quiet, generic_forms_quiet, generic_made_quiet, method_forms_quiet, method_made_quiet, define_class_quiet, values_removed_quiet}
+use Rattle.clos_definition_forms.proofs.Evaluated.{forms_go_on, forms_quiet, forms_stop}
 
 -- a run that does the same from there
-answers_same : (run run' : Run) (w : State) (s : ℕ) (r : Result Value Stop) (x : State) (j : ℕ) → ((i : ℕ) → run w i ≡ run' w i)
+pub answers_same : (run run' : Run) (w : State) (s : ℕ) (r : Result Value Stop) (x : State) (j : ℕ) → ((i : ℕ) → run w i ≡ run' w i)
     → Answers run w s r x j → Answers run' w s r x j
 answers_same run run' w s (Ok v) x j e a = sym (e s) ∙ a
 answers_same run run' w s (Err (Refused c)) x j e a = sym (e s) ∙ a
@@ -58,7 +60,7 @@ module _ (o : Option Condition) (go : Run) (w u : State) where
       (subst (λ v. AnswersWith host go v s past r x j past') e a)
 
 -- no memory for the first step
-storage_at : (run : Run) (w : State) (s : ℕ) → leaves (run w 0) w 0 → Answers run w s (Err Storage) w s
+pub storage_at : (run : Run) (w : State) (s : ℕ) → leaves (run w 0) w 0 → Answers run w s (Err Storage) w s
 storage_at run w s l = (0, omega arith, l)
 
 -- the same, where functions of the host's may have answered before
@@ -69,6 +71,11 @@ storage_with host run w s past l = answers_with host run w s past (Err Storage) 
 -- an effect for which there is no memory
 pub effect_not_made : (v : Val) (t w u : State) (s : ℕ) → u ≡ w → Answers (takes_effect v t) w s (Err Storage) u s
 effect_not_made v t w u s e = subst (λ x. Answers (takes_effect v t) w s (Err Storage) x s) (sym e) (storage_at (takes_effect v t) w s (refl, refl))
+
+-- an effect that is made, in one step
+pub effect_is_made : (v : Value) (t w u : State) (s k : ℕ) → s ≡ suc k → u ≡ t → Answers (takes_effect (value_of v) t) w s (Ok v) u k
+effect_is_made v t w u s k e h =
+    ap (λ n. step_then (λ x j. Gave (value_of v) t j) w n) e ∙ ap (λ x. Gave (value_of v) x k) (sym h)
 
 -- with an effect that is the same
 takes_same : (v v' : Val) (x x' w u y : State) (s j : ℕ) (r : Result Value Stop) → u ≡ w → v ≡ v' → x ≡ x' → Answers (takes_effect v x) u s r y j → Answers (takes_effect v' x') w s r y j
@@ -217,32 +224,36 @@ module _ (d : ClassDefinition) (w u : State) (s : ℕ) where
       (subst (λ i. StopsFor (class_refusal d i w) stop) q h)
 
   pub class_is_made : (vs : List (Option Val)) (f : Effect) (n c j : ℕ) (x : State) (r : Result Value Stop) → u ≡ w → n ≡ length vs → class_refusal d n w ≡ None
-      → with_effect f w ≡ with_accessors d w → c ≡ class_number d w → Answers (takes_effect (class c) (with_class d vs (with_effect f u))) u s r x j
+      → ((told : List Notice) → with_effect f (noting told w) ≡ with_accessors d (noting told w)) → c ≡ class_number d w
+      → Answers (takes_effect (class c) (with_class d vs (with_effect f (noting (class_notices d u) u)))) u s r x j
       → Answers (class_made d vs) w s r x j
   class_is_made vs f n c j x r e p h g q a =
       passes_at (class_refusal d (length vs) w) (takes_effect (class (class_number d w)) (with_defined_class d vs w)) w w s j x r refl
       (ap (λ i. class_refusal d i w) (sym p) ∙ h)
-      (takes_same (class c) (class (class_number d w)) (with_class d vs (with_effect f u)) (with_defined_class d vs w) w u x s j r e (ap class q)
-      (ap (with_class d vs) (ap (with_effect f) e ∙ g)) a)
+      (takes_same (class c) (class (class_number d w)) (with_class d vs (with_effect f (noting (class_notices d u) u))) (with_defined_class d vs w)
+      w u x s j r e (ap class q) (ap (with_class d vs) (ap (λ v. with_effect f (noting (class_notices d v) v)) e ∙ g (class_notices d w))) a)
 
 -- ---- remove-method
 
-module _ (host : Host) (f m : Form) (w u : State) (s : ℕ) (past past' : List ℤ) where
-  pub removal_not_begun : w.locals ≡ [] → AnswersWith host (remove_method f m) w s past (Err Storage) w s past
-  removal_not_begun l = storage_with host (remove_method f m) w s past (remove_method_quiet f m w l)
+-- two forms are evaluated first, and what follows changes nothing with no step left
+module _ (host : Host) (f m : Form) (go : List (Option Val) → Run) (quiet : (vs : List (Option Val)) (v : State) → leaves (go vs v 0) v 0)
+    (w u : State) (s : ℕ) (past past' : List ℤ) where
+  pub two_not_begun : w.locals ≡ [] → AnswersWith host (forms_evaluated (Some f ∷ Some m ∷ []) [] go) w s past (Err Storage) w s past
+  two_not_begun l =
+      storage_with host (forms_evaluated (Some f ∷ Some m ∷ []) [] go) w s past (forms_quiet (Some f ∷ Some m ∷ []) [] go w l (λ vs. quiet vs w))
 
-  pub removal_forms_stop : (fs : List (Option Form)) (k : ℕ) (stop : Stop) → fs ≡ Some f ∷ Some m ∷ []
+  pub two_stop : (fs : List (Option Form)) (k : ℕ) (stop : Stop) → fs ≡ Some f ∷ Some m ∷ []
       → EndsBefore host (forms_evaluated fs []) w s past stop u k past'
-      → AnswersWith host (remove_method f m) w s past (Err stop) u k past'
-  removal_forms_stop fs k stop e h =
-      forms_stop host (Some f ∷ Some m ∷ []) values_removed w u s k past past' stop (λ vs. values_removed_quiet vs u)
+      → AnswersWith host (forms_evaluated (Some f ∷ Some m ∷ []) [] go) w s past (Err stop) u k past'
+  two_stop fs k stop e h =
+      forms_stop host (Some f ∷ Some m ∷ []) go w u s k past past' stop (λ vs. quiet vs u)
       (subst (λ l. EndsBefore host (forms_evaluated l []) w s past stop u k past') e h)
 
-  pub removal_forms_go_on : (fs : List (Option Form)) (k : ℕ) (vs : List (Option Val)) (r : Result Value Stop) (x : State) (j : ℕ) → fs ≡ Some f ∷ Some m ∷ []
-      → GoesOn host (forms_evaluated fs []) w s past vs u k past' → Answers (values_removed vs) u k r x j
-      → AnswersWith host (remove_method f m) w s past r x j past'
-  removal_forms_go_on fs k vs r x j e h a =
-      forms_go_on host (Some f ∷ Some m ∷ []) values_removed w u s k past past' vs r x j
+  pub two_go_on : (fs : List (Option Form)) (k : ℕ) (vs : List (Option Val)) (r : Result Value Stop) (x : State) (j : ℕ) → fs ≡ Some f ∷ Some m ∷ []
+      → GoesOn host (forms_evaluated fs []) w s past vs u k past' → Answers (go vs) u k r x j
+      → AnswersWith host (forms_evaluated (Some f ∷ Some m ∷ []) [] go) w s past r x j past'
+  two_go_on fs k vs r x j e h a =
+      forms_go_on host (Some f ∷ Some m ∷ []) go w u s k past past' vs r x j
       (subst (λ l. GoesOn host (forms_evaluated l []) w s past vs u k past') e h) a
 
 module _ (vs : List (Option Val)) (w : State) (s : ℕ) where

@@ -3,4 +3,8 @@ pub mod Evaluated
 pub mod Quiet
 pub mod Variables
 pub mod Defining
+pub mod Kept
+pub mod Hearing
+pub mod Watched
 pub use Rattle.clos_machine.proofs as clos_machine
+pub use Rattle.clos_definition.proofs as clos_definition

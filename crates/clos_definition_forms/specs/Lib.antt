@@ -2,6 +2,8 @@ pub mod Variable
 pub mod Forms
 pub mod Function
 pub mod Definition
+pub mod Hearing
+pub mod Dependents
 pub mod Combination
 pub use Rattle.clos_machine.specs as clos_machine
 pub use Rattle.clos_machine.specs.clos_world as clos_world
@@ -9,3 +11,5 @@ pub use Rattle.clos_definition.specs as clos_definition
 pub use Rattle.clos_machine.specs.clos_world.clos_generic as clos_generic
 pub use Rattle.clos_eval.specs as clos_eval
 pub use Rattle.clos_eval.specs.clos_native as clos_native
+pub use Rattle.clos_watch.specs as clos_watch
+pub use Rattle.lisp_prims.specs as lisp_prims

@@ -4,7 +4,7 @@ ghost use Rattle.std.specs.Prelude.{◌≡◌, [], ◌∷◌, None, Some, IfOk, 
 ghost use Rattle.lisp_data.specs.ValueView.{value_of};
 ghost use Rattle.clos_machine.specs.clos_world.World.{seen};
 ghost use Rattle.lisp_data.specs.Value.{class};
-ghost use Rattle.clos_definition.specs.Class.{class_refusal, initforms, with_class};
+ghost use Rattle.clos_definition.specs.Class.{class_notices, class_refusal, initforms, noting, with_class};
 ghost use Rattle.clos_definition.specs.Effect.{IsReserved, with_effect};
 ghost use Rattle.clos_definition.specs.Generic.{eql_forms};
 ghost use Rattle.clos_definition.specs.Method.{eql_form};
@@ -13,176 +13,216 @@ ghost use Rattle.clos_machine.specs.Machine.{Answers};
 ghost use Rattle.clos_eval.specs.Host.{AnswersBy};
 ghost use Rattle.clos_definition_forms.specs.Definition.{class_made, define_class, define_generic, define_method, generic_made, method_made, remove_method, takes_effect, value_at, values_removed};
 ghost use Rattle.clos_definition_forms.specs.Forms.{forms_evaluated};
+ghost use Rattle.clos_definition_forms.specs.Hearing.{Heard};
 
 use crate::forms::evaluate_forms;
+use crate::telling::{prepare_to_tell, tell};
 use clos_class::NewCell;
 use clos_definition::{
-    Effect, check_class, check_generic, check_method, find_removable, generic_forms, make,
-    make_class, method_forms, number_of, prepare_class, prepare_generic, prepare_method, remove,
+    Effect, check_class, check_generic, check_method, class_notices, find_removable, generic_forms,
+    make, make_class, method_forms, number_of, possible_notices, prepare_class, prepare_generic,
+    prepare_method, remove,
 };
 use clos_eval::Natives;
 use clos_forms::{Form, FunctionName};
 use clos_machine::{ConditionKind, Stop, World, plain};
 use clos_store::Slot;
 use clos_syntax::{ClassDefinition, GenericDefinition, MethodDefinition};
+use clos_watch::{Dependents, Notice};
 use lisp_data::{ClassId, GenericId, Items, MethodId, Value};
 use std::alloc::{AllocError, Global};
 
 /// Defines a method, which takes the place of one with the same qualifiers and specializers.
 #[tactic(auto, using(crate::proofs::Defining::method_refused, crate::proofs::Defining::method_evaluated))]
-pub fn defmethod<N: Natives>(
+pub fn defmethod<N: Natives, D: Dependents>(
     alloc: Global,
     world: &mut World,
     natives: &N,
     answers: &mut Vec<i64>,
+    dependents: &mut D,
     name: FunctionName,
     definition: MethodDefinition,
     steps: &mut u64,
 ) -> Result<Value, Stop>
-    ensures { AnswersBy (N.host natives.now) (define_method name definition) world.old steps.old answers.old result world.new steps.new
+    ensures answers { AnswersBy (N.host natives.now) (define_method name definition) world.old steps.old answers.old result world.new steps.new
         answers.new }
+    ensures heard { Heard (D.told dependents.old) (seen world.old) (D.told dependents.new) (seen world.new) }
+    ensures names { D.names dependents.new ≡ D.names dependents.old }
 {
     match check_method(alloc, world, &name, &definition) {
         Err(stop) => Err(stop),
         Ok(()) => {
-            define_checked_method(alloc, world, natives, answers, name, definition, steps)
+            define_checked_method(
+                alloc, world, natives, answers, dependents, name, definition, steps,
+            )
         },
     }
 }
 
 /// Evaluates the forms of the specializers of a method, and then makes it.
 #[tactic(auto, using(crate::proofs::Defining::method_not_begun, crate::proofs::Defining::method_forms_stop, crate::proofs::Defining::method_forms_go_on))]
-fn define_checked_method<N: Natives>(
+fn define_checked_method<N: Natives, D: Dependents>(
     alloc: Global,
     world: &mut World,
     natives: &N,
     answers: &mut Vec<i64>,
+    dependents: &mut D,
     name: FunctionName,
     definition: MethodDefinition,
     steps: &mut u64,
 ) -> Result<Value, Stop>
-    ensures { AnswersBy (N.host natives.now) (forms_evaluated (map eql_form definition.specializers) [] (method_made name definition))
+    ensures answers { AnswersBy (N.host natives.now) (forms_evaluated (map eql_form definition.specializers) [] (method_made name definition))
         world.old steps.old answers.old result world.new steps.new answers.new }
+    ensures heard { Heard (D.told dependents.old) (seen world.old) (D.told dependents.new) (seen world.new) }
+    ensures names { D.names dependents.new ≡ D.names dependents.old }
 {
     let Ok(forms) = method_forms(alloc, &definition) else {
         return Err(Stop::Storage);
     };
     match evaluate_forms(alloc, world, natives, answers, &forms, steps) {
         Err(stop) => Err(stop),
-        Ok(values) => make_method(alloc, world, name, definition, &values, steps),
+        Ok(values) => make_method(alloc, world, dependents, name, definition, &values, steps),
     }
 }
 
 /// Makes a method, where the forms of its specializers gave these values.
 #[tactic(auto, using(crate::proofs::Defining::method_not_made, crate::proofs::Defining::method_is_made))]
-fn make_method(
+fn make_method<D: Dependents>(
     alloc: Global,
     world: &mut World,
+    dependents: &mut D,
     name: FunctionName,
     definition: MethodDefinition,
     values: &[Slot],
     steps: &mut u64,
 ) -> Result<Value, Stop>
-    ensures { Answers (method_made name definition values.now) (seen world.old) steps.old result (seen world.new) steps.new }
+    ensures answers { Answers (method_made name definition values.now) (seen world.old) steps.old result (seen world.new) steps.new }
+    ensures heard { Heard (D.told dependents.old) (seen world.old) (D.told dependents.new) (seen world.new) }
+    ensures names { D.names dependents.new ≡ D.names dependents.old }
 {
     let id = MethodId(world.generics.method_count());
     match prepare_method(alloc, world, &name, definition, values) {
         Err(stop) => Err(stop),
-        Ok(effect) => take_effect(alloc, world, effect, Value::Method(id), steps),
+        Ok(effect) => take_effect(alloc, world, dependents, effect, Value::Method(id), steps),
     }
 }
 
 /// Defines a generic function, or defines it again.
 #[tactic(auto, using(crate::proofs::Defining::generic_refused, crate::proofs::Defining::generic_evaluated))]
-pub fn defgeneric<N: Natives>(
+pub fn defgeneric<N: Natives, D: Dependents>(
     alloc: Global,
     world: &mut World,
     natives: &N,
     answers: &mut Vec<i64>,
+    dependents: &mut D,
     definition: GenericDefinition,
     steps: &mut u64,
 ) -> Result<Value, Stop>
-    ensures { AnswersBy (N.host natives.now) (define_generic definition) world.old steps.old answers.old result world.new steps.new
+    ensures answers { AnswersBy (N.host natives.now) (define_generic definition) world.old steps.old answers.old result world.new steps.new
         answers.new }
+    ensures heard { Heard (D.told dependents.old) (seen world.old) (D.told dependents.new) (seen world.new) }
+    ensures names { D.names dependents.new ≡ D.names dependents.old }
 {
     match check_generic(alloc, world, &definition) {
         Err(stop) => Err(stop),
-        Ok(()) => define_checked_generic(alloc, world, natives, answers, definition, steps),
+        Ok(()) => define_checked_generic(
+            alloc, world, natives, answers, dependents, definition, steps,
+        ),
     }
 }
 
 /// Evaluates the forms of the specializers of its methods, and then makes it.
 #[tactic(auto, using(crate::proofs::Defining::generic_not_begun, crate::proofs::Defining::generic_forms_stop, crate::proofs::Defining::generic_forms_go_on))]
-fn define_checked_generic<N: Natives>(
+fn define_checked_generic<N: Natives, D: Dependents>(
     alloc: Global,
     world: &mut World,
     natives: &N,
     answers: &mut Vec<i64>,
+    dependents: &mut D,
     definition: GenericDefinition,
     steps: &mut u64,
 ) -> Result<Value, Stop>
-    ensures { AnswersBy (N.host natives.now) (forms_evaluated (eql_forms definition.methods) [] (generic_made definition))
+    ensures answers { AnswersBy (N.host natives.now) (forms_evaluated (eql_forms definition.methods) [] (generic_made definition))
         world.old steps.old answers.old result world.new steps.new answers.new }
+    ensures heard { Heard (D.told dependents.old) (seen world.old) (D.told dependents.new) (seen world.new) }
+    ensures names { D.names dependents.new ≡ D.names dependents.old }
 {
     let Ok(forms) = generic_forms(alloc, &definition) else {
         return Err(Stop::Storage);
     };
     match evaluate_forms(alloc, world, natives, answers, &forms, steps) {
         Err(stop) => Err(stop),
-        Ok(values) => make_generic(alloc, world, definition, &values, steps),
+        Ok(values) => make_generic(alloc, world, dependents, definition, &values, steps),
     }
 }
 
 /// Makes a generic function, where the forms of the specializers of its methods gave these values.
 #[tactic(auto, using(crate::proofs::Defining::generic_not_made, crate::proofs::Defining::generic_is_made))]
-fn make_generic(
+fn make_generic<D: Dependents>(
     alloc: Global,
     world: &mut World,
+    dependents: &mut D,
     definition: GenericDefinition,
     values: &[Slot],
     steps: &mut u64,
 ) -> Result<Value, Stop>
-    ensures { Answers (generic_made definition values.now) (seen world.old) steps.old result (seen world.new) steps.new }
+    ensures answers { Answers (generic_made definition values.now) (seen world.old) steps.old result (seen world.new) steps.new }
+    ensures heard { Heard (D.told dependents.old) (seen world.old) (D.told dependents.new) (seen world.new) }
+    ensures names { D.names dependents.new ≡ D.names dependents.old }
 {
     let id = number_of(&world.generics, &definition.name);
     match prepare_generic(alloc, world, definition, values) {
         Err(stop) => Err(stop),
-        Ok(effect) => take_effect(alloc, world, effect, Value::Generic(id), steps),
+        Ok(effect) => take_effect(alloc, world, dependents, effect, Value::Generic(id), steps),
     }
 }
 
 /// Takes the step of an effect that was prepared, and then makes it.
-fn take_effect(
+fn take_effect<D: Dependents>(
     alloc: Global,
     world: &mut World,
+    dependents: &mut D,
     effect: Effect,
     value: Value,
     steps: &mut u64,
 ) -> Result<Value, Stop>
     requires { IsReserved effect world.old.generics }
-    ensures { Answers (takes_effect (value_of value) (with_effect effect (seen world.old))) (seen world.old) steps.old result (seen world.new) steps.new }
+    ensures answers { Answers (takes_effect (value_of value) (with_effect effect (seen world.old))) (seen world.old) steps.old result (seen world.new) steps.new }
+    ensures heard { Heard (D.told dependents.old) (seen world.old) (D.told dependents.new) (seen world.new) }
+    ensures names { D.names dependents.new ≡ D.names dependents.old }
 {
     if *steps == 0 {
         return Err(Stop::Refused(plain(alloc, ConditionKind::StepLimit)));
     }
+    let Ok(notices) = possible_notices(alloc, world, &effect) else {
+        return Err(Stop::Storage);
+    };
+    let Ok(()) = prepare_to_tell(world, dependents, notices.as_slice()) else {
+        return Err(Stop::Storage);
+    };
+    let from = world.hearing.notices.len();
     *steps -= 1;
     make(world, effect);
+    tell(world, dependents, from);
     Ok(value)
 }
 
 /// Defines a class, or defines it again, with the methods of its accessors. Some of its direct superclasses may not be defined
 /// yet.
 #[tactic(auto, using(crate::proofs::Defining::class_refused, crate::proofs::Defining::class_evaluated))]
-pub fn defclass<N: Natives>(
+pub fn defclass<N: Natives, D: Dependents>(
     alloc: Global,
     world: &mut World,
     natives: &N,
     answers: &mut Vec<i64>,
+    dependents: &mut D,
     definition: &ClassDefinition,
     steps: &mut u64,
 ) -> Result<Value, Stop>
-    ensures { AnswersBy (N.host natives.now) (define_class definition.now) world.old steps.old answers.old result world.new steps.new
+    ensures answers { AnswersBy (N.host natives.now) (define_class definition.now) world.old steps.old answers.old result world.new steps.new
         answers.new }
+    ensures heard { Heard (D.told dependents.old) (seen world.old) (D.told dependents.new) (seen world.new) }
+    ensures names { D.names dependents.new ≡ D.names dependents.old }
 {
     match check_class(alloc, world, definition) {
         Err(stop) => Err(stop),
@@ -192,6 +232,7 @@ pub fn defclass<N: Natives>(
                 world,
                 natives,
                 answers,
+                dependents,
                 definition,
                 reserved.cells.as_slice(),
                 steps,
@@ -202,24 +243,27 @@ pub fn defclass<N: Natives>(
 
 /// Evaluates the initforms of the new cells of a class, and then makes it.
 #[tactic(auto, using(crate::proofs::Defining::class_not_begun, crate::proofs::Defining::class_forms_stop, crate::proofs::Defining::class_forms_go_on))]
-fn define_checked_class<N: Natives>(
+fn define_checked_class<N: Natives, D: Dependents>(
     alloc: Global,
     world: &mut World,
     natives: &N,
     answers: &mut Vec<i64>,
+    dependents: &mut D,
     definition: &ClassDefinition,
     cells: &[NewCell],
     steps: &mut u64,
 ) -> Result<Value, Stop>
-    ensures { AnswersBy (N.host natives.now) (forms_evaluated (initforms cells.now) [] (class_made definition.now))
+    ensures answers { AnswersBy (N.host natives.now) (forms_evaluated (initforms cells.now) [] (class_made definition.now))
         world.old steps.old answers.old result world.new steps.new answers.new }
+    ensures heard { Heard (D.told dependents.old) (seen world.old) (D.told dependents.new) (seen world.new) }
+    ensures names { D.names dependents.new ≡ D.names dependents.old }
 {
     let Ok(forms) = initforms(alloc, cells) else {
         return Err(Stop::Storage);
     };
     match evaluate_forms(alloc, world, natives, answers, &forms, steps) {
         Err(stop) => Err(stop),
-        Ok(values) => make_checked_class(alloc, world, definition, values, steps),
+        Ok(values) => make_checked_class(alloc, world, dependents, definition, values, steps),
     }
 }
 
@@ -247,27 +291,33 @@ fn copy_form(form: &Option<Form>) -> Result<Option<Form>, AllocError>
 
 /// Makes a class, whose new cells have these values.
 #[tactic(auto, using(crate::proofs::Defining::class_not_made))]
-fn make_checked_class(
+fn make_checked_class<D: Dependents>(
     alloc: Global,
     world: &mut World,
+    dependents: &mut D,
     definition: &ClassDefinition,
     values: Vec<Slot>,
     steps: &mut u64,
 ) -> Result<Value, Stop>
-    ensures { Answers (class_made definition.now values.items) (seen world.old) steps.old result (seen world.new) steps.new }
+    ensures answers { Answers (class_made definition.now values.items) (seen world.old) steps.old result (seen world.new) steps.new }
+    ensures heard { Heard (D.told dependents.old) (seen world.old) (D.told dependents.new) (seen world.new) }
+    ensures names { D.names dependents.new ≡ D.names dependents.old }
 {
     match prepare_class(alloc, world, definition, values.len() as u64) {
         Err(stop) => Err(stop),
         Ok((class, accessors)) => {
-            make_prepared_class(alloc, world, definition, class, values, accessors, steps)
+            make_prepared_class(
+                alloc, world, dependents, definition, class, values, accessors, steps,
+            )
         }
     }
 }
 
 /// Takes the step of a class whose accessors were prepared, and then makes it.
-fn make_prepared_class(
+fn make_prepared_class<D: Dependents>(
     alloc: Global,
     world: &mut World,
+    dependents: &mut D,
     definition: &ClassDefinition,
     id: ClassId,
     values: Vec<Slot>,
@@ -276,42 +326,58 @@ fn make_prepared_class(
 ) -> Result<Value, Stop>
     requires allowed { class_refusal definition.now (length values.items) (seen world.old) ≡ None }
     requires reserved { IsReserved accessors world.old.generics }
-    ensures { Answers (takes_effect (class id.0) (with_class definition.now values.items (with_effect accessors (seen world.old)))) (seen world.old) steps.old result (seen world.new) steps.new }
+    ensures answers { Answers (takes_effect (class id.0) (with_class definition.now values.items (with_effect accessors (noting (class_notices definition.now (seen world.old)) (seen world.old))))) (seen world.old) steps.old result (seen world.new) steps.new }
+    ensures heard { Heard (D.told dependents.old) (seen world.old) (D.told dependents.new) (seen world.new) }
+    ensures names { D.names dependents.new ≡ D.names dependents.old }
 {
     if *steps == 0 {
         return Err(Stop::Refused(plain(alloc, ConditionKind::StepLimit)));
     }
+    let Ok(notices) = class_notices(alloc, world, definition, &accessors) else {
+        return Err(Stop::Storage);
+    };
+    let Ok(()) = prepare_to_tell(world, dependents, notices.as_slice()) else {
+        return Err(Stop::Storage);
+    };
+    let from = world.hearing.notices.len();
     let Ok(()) = make_class(alloc, world, definition, values, accessors) else {
         return Err(Stop::Storage);
     };
     *steps -= 1;
+    tell(world, dependents, from);
     Ok(Value::Class(id))
 }
 
 /// Takes a method out of a function, after both forms are evaluated.
-#[tactic(auto, using(crate::proofs::Defining::removal_forms_stop))]
-pub fn remove_method<N: Natives>(
+pub fn remove_method<N: Natives, D: Dependents>(
     alloc: Global,
     world: &mut World,
     natives: &N,
     answers: &mut Vec<i64>,
+    dependents: &mut D,
     function: Form,
     method: Form,
     steps: &mut u64,
 ) -> Result<Value, Stop>
-    ensures { AnswersBy (N.host natives.now) (remove_method function method) world.old steps.old answers.old result world.new steps.new
+    ensures answers { AnswersBy (N.host natives.now) (remove_method function method) world.old steps.old answers.old result world.new steps.new
         answers.new }
+    ensures heard { Heard (D.told dependents.old) (seen world.old) (D.told dependents.new) (seen world.new) }
+    ensures names { D.names dependents.new ≡ D.names dependents.old }
 {
     let Ok(forms) = both(alloc, function, method) else {
         return Err(Stop::Storage);
     };
     match evaluate_forms(alloc, world, natives, answers, &forms, steps) {
         Err(stop) => Err(stop),
-        Ok(values) => remove_evaluated(alloc, world, &values, steps),
+        Ok(values) => remove_evaluated(alloc, world, dependents, &values, steps),
     }
 }
 
-fn both(alloc: Global, function: Form, method: Form) -> Result<Vec<Option<Form>>, AllocError>
+pub(crate) fn both(
+    alloc: Global,
+    function: Form,
+    method: Form,
+) -> Result<Vec<Option<Form>>, AllocError>
     ensures { IfOk result (λ r. r.items ≡ Some function ∷ Some method ∷ []) }
 {
     let mut forms = Vec::new(alloc);
@@ -322,13 +388,16 @@ fn both(alloc: Global, function: Form, method: Form) -> Result<Vec<Option<Form>>
 
 /// Takes a method out of a function, which are these two values.
 #[tactic(auto, using(crate::proofs::Defining::removal_not_begun_yet, crate::proofs::Defining::not_removable, crate::proofs::Defining::is_removed))]
-fn remove_evaluated(
+fn remove_evaluated<D: Dependents>(
     alloc: Global,
     world: &mut World,
+    dependents: &mut D,
     values: &[Slot],
     steps: &mut u64,
 ) -> Result<Value, Stop>
-    ensures { Answers (values_removed values.now) (seen world.old) steps.old result (seen world.new) steps.new }
+    ensures answers { Answers (values_removed values.now) (seen world.old) steps.old result (seen world.new) steps.new }
+    ensures heard { Heard (D.told dependents.old) (seen world.old) (D.told dependents.new) (seen world.new) }
+    ensures names { D.names dependents.new ≡ D.names dependents.old }
 {
     let Ok(function) = value_or_nil(values, 0) else {
         return Err(Stop::Storage);
@@ -338,31 +407,40 @@ fn remove_evaluated(
     };
     match find_removable(alloc, &function, &method) {
         Err(stop) => Err(stop),
-        Ok((generic, id)) => take_out(alloc, world, generic, id, function, steps),
+        Ok((generic, id)) => take_out(alloc, world, dependents, generic, id, function, steps),
     }
 }
 
 /// Takes the step of a removal, and then makes it. The value is the function.
-fn take_out(
+fn take_out<D: Dependents>(
     alloc: Global,
     world: &mut World,
+    dependents: &mut D,
     generic: GenericId,
     method: MethodId,
     function: Value,
     steps: &mut u64,
 ) -> Result<Value, Stop>
-    ensures { Answers (takes_effect (value_of function) (with_removed generic.0 method.0 (seen world.old))) (seen world.old) steps.old result (seen world.new) steps.new }
+    ensures answers { Answers (takes_effect (value_of function) (with_removed generic.0 method.0 (seen world.old))) (seen world.old) steps.old result (seen world.new) steps.new }
+    ensures heard { Heard (D.told dependents.old) (seen world.old) (D.told dependents.new) (seen world.new) }
+    ensures names { D.names dependents.new ≡ D.names dependents.old }
 {
     if *steps == 0 {
         return Err(Stop::Refused(plain(alloc, ConditionKind::StepLimit)));
     }
+    let Ok(()) = prepare_to_tell(world, dependents, &[Notice::MethodRemoved(generic, method)])
+    else {
+        return Err(Stop::Storage);
+    };
+    let from = world.hearing.notices.len();
     *steps -= 1;
     remove(world, generic, method);
+    tell(world, dependents, from);
     Ok(function)
 }
 
 /// The value at this place.
-fn value_or_nil(values: &[Slot], place: usize) -> Result<Value, AllocError>
+pub(crate) fn value_or_nil(values: &[Slot], place: usize) -> Result<Value, AllocError>
     ensures { IfOk result (λ r. value_of r ≡ value_at values.now place) }
 {
     match values.get(place) {

@@ -10,5 +10,6 @@ mod natives;
 
 pub use clos_machine::{Stop, World};
 pub use clos_native::{Native, Relation};
+pub use clos_objects_core::class_functions::symbol_in;
 pub use eval::evaluate;
 pub use host::Natives;

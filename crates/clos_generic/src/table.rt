@@ -531,7 +531,7 @@ impl Generics {
     }
 
     /// Whether this is a method of this function.
-    pub(crate) fn has_method(&self, id: GenericId, method: MethodId) -> bool
+    pub fn has_method(&self, id: GenericId, method: MethodId) -> bool
         ensures { result ≡ list_any (λ n. n == method.0) (methods_of self.now.table id.0) }
     {
         match self.function(id) {

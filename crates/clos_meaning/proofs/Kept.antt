@@ -83,10 +83,10 @@ use Rattle.clos_forms.specs.clos_names.declared.callee.Callee.TheVariants.{Outpu
 use Rattle.clos_forms.specs.clos_names.declared.callee.Output as output
 
 pub same : (w : State) → Same w w
-same w = (refl, refl, refl, refl, refl)
+same w = (refl, refl, refl, refl, refl, refl)
 
 pub same_then : (w u t : State) → Same w u → Same u t → Same w t
-same_then w u t h g = (g.0 ∙ h.0, g.1 ∙ h.1, g.2 ∙ h.2, g.3 ∙ h.3, g.4 ∙ h.4)
+same_then w u t h g = (g.0 ∙ h.0, g.1 ∙ h.1, g.2 ∙ h.2, g.3 ∙ h.3, g.4 ∙ h.4, g.5 ∙ h.5)
 
 -- the definitions after it are those before
 abbrev pub SameAfter : State → Out → Type 0
@@ -107,7 +107,8 @@ Keeps ev = (env : Context) (f : Form) (w : State) (k : ℕ) → Kept w k (ev env
 pub still : (w : State) (k : ℕ) → Same w w × (k ≡ 0 → (unbound w ≡ unbound w) × (k ≡ 0))
 still w k = (same w, λ e. (refl, e))
 
-shifted : (w u : State) (o : Out) → Same w u → SameAfter u o → SameAfter w o
+-- .. also those before an earlier state with the same
+pub shifted : (w u : State) (o : Out) → Same w u → SameAfter u o → SameAfter w o
 shifted w u (Gave v t k) h g = same_then w u t h g
 shifted w u (Stopped c t k) h g = same_then w u t h g
 shifted w u (Noted n o) h g = shifted w u o h g

@@ -113,9 +113,9 @@ g = record {
 
 -- the state in which they are defined
 abbrev defined : State
-defined = record (initial standard) {
+defined = record (initial standard []) {
   classes = classes.with_definition (classes.with_definition (classes.initial 4096) (class_named (codes "A") []) 0) (class_named (codes "B") (name (codes "A") ∷ [])) 0;
-  generics = record (initial standard).generics {
+  generics = record (initial standard []).generics {
     functions = map generics.system_generic system_functions ++ g ∷ [];
     methods = map system_method system_functions ++ methods;
   };

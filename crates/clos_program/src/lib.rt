@@ -1,11 +1,13 @@
 //! What the program `clos` does: files run one after another in one session, and a status at the end.
 #![tactic(auto)]
 
+pub mod dependents;
 mod fault;
 pub mod natives;
 mod running;
 
-pub use clos_system::{Limits, Native, Relation, Session};
+pub use clos_system::{Callback, Dependent, Handed, Limits, Native, Recorder, Relation, Session};
+pub use dependents::{KindNumber, kind_number};
 pub use fault::{Fault, report};
 pub use natives::{affine, low};
 pub use running::{

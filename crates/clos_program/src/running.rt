@@ -8,7 +8,7 @@ ghost use Rattle.clos_program.specs.Program.{Failed, Ran, RunsInput, fault_statu
 
 use crate::fault::{Fault, report};
 use clos_command_line::Settings;
-use clos_system::{Limits, Natives, Session, run};
+use clos_system::{Dependents, Limits, Natives, Session, run};
 use std::alloc::Global;
 use std::fs::{File, Files};
 use std::io::{Read, Write};
@@ -73,18 +73,18 @@ pub fn limits(settings: &Settings<'_>) -> Limits
 }
 
 /// Runs one text, and says whether a condition or storage line was written.
-fn run_text<'a, N: Natives, I: Read, O: Write>(
+fn run_text<'a, N: Natives, D: Dependents, I: Read, O: Write>(
     alloc: Global,
-    session: &mut Session<N>,
+    session: &mut Session<N, D>,
     name: &'a str,
     input: &mut I,
     output: &mut O,
     echo: bool,
 ) -> Result<bool, Fault<'a>>
-    ensures finishes { IfOk result (Ran (N.host session.old.natives) echo (I.remaining input.old) (standing_of session.old)
-        (standing_of session.new) (O.contents output.old) (O.contents output.new)) }
-    ensures fails { IfErr result (λ _. Failed (N.host session.old.natives) echo (I.remaining input.old) (standing_of session.old)
-        (standing_of session.new) (O.contents output.old) (O.contents output.new)) }
+    ensures finishes { IfOk result (Ran (N.host session.old.natives) echo (I.remaining input.old) (standing_of (D.told session.old.dependents) session.old)
+        (standing_of (D.told session.new.dependents) session.new) (O.contents output.old) (O.contents output.new)) }
+    ensures fails { IfErr result (λ _. Failed (N.host session.old.natives) echo (I.remaining input.old) (standing_of (D.told session.old.dependents) session.old)
+        (standing_of (D.told session.new.dependents) session.new) (O.contents output.old) (O.contents output.new)) }
 {
     match run(alloc, session, input, output, echo) {
         Ok(summary) => Ok(summary.conditions > 0 || summary.storages > 0),
@@ -93,10 +93,10 @@ fn run_text<'a, N: Natives, I: Read, O: Write>(
 }
 
 /// Runs the file of this name, or the input where the name stands for it.
-fn run_named<'a, N: Natives, R: Files, I: Read, O: Write>(
+fn run_named<'a, N: Natives, D: Dependents, R: Files, I: Read, O: Write>(
     rt: &R,
     alloc: Global,
-    session: &mut Session<N>,
+    session: &mut Session<N, D>,
     name: &'a str,
     input: &mut I,
     output: &mut O,
@@ -113,10 +113,10 @@ fn run_named<'a, N: Natives, R: Files, I: Read, O: Write>(
 
 /// Runs the files in order, each with a flush of the output after it, and says whether a condition or storage line was
 /// written.
-fn run_files<'a, N: Natives, R: Files, I: Read, O: Write>(
+fn run_files<'a, N: Natives, D: Dependents, R: Files, I: Read, O: Write>(
     rt: &R,
     alloc: Global,
-    session: &mut Session<N>,
+    session: &mut Session<N, D>,
     settings: &Settings<'a>,
     input: &mut I,
     output: &mut O,
@@ -155,10 +155,10 @@ fn finish<O: Write, E: Write>(ran: Result<bool, Fault<'_>>, output: &mut O, erro
 /// Runs the files of the settings in order in the session, or the input where there are none; the name `-` stands for the
 /// input. The output is flushed after each, and before a fault is told, in one line on `errors`, which ends the program. The
 /// answer is the exit status.
-pub fn program<N: Natives, R: Files, I: Read, O: Write, E: Write>(
+pub fn program<N: Natives, D: Dependents, R: Files, I: Read, O: Write, E: Write>(
     rt: &R,
     alloc: Global,
-    session: &mut Session<N>,
+    session: &mut Session<N, D>,
     settings: &Settings<'_>,
     input: &mut I,
     output: &mut O,
@@ -166,8 +166,8 @@ pub fn program<N: Natives, R: Files, I: Read, O: Write, E: Write>(
 ) -> u8
     ensures status { (result ≡ STATUS_DONE) ⊎ (result ≡ STATUS_CONDITION) ⊎ (result ≡ STATUS_FAULT) }
     ensures input { is_input_alone (map (λ f. f.now) settings.now.files.items) ≡ true
-        → RunsInput (N.host session.old.natives) settings.now.echo (I.remaining input.old) (standing_of session.old)
-        (standing_of session.new)
+        → RunsInput (N.host session.old.natives) settings.now.echo (I.remaining input.old) (standing_of (D.told session.old.dependents) session.old)
+        (standing_of (D.told session.new.dependents) session.new)
         (O.contents output.old) (O.contents output.new) result }
 {
     if is_input_alone(settings.files.as_slice()) {

@@ -31,6 +31,11 @@ use Rattle.clos_definition_forms.specs.clos_machine.clos_meaning.Meaning.{evalua
 use Rattle.clos_definition_forms.specs.clos_machine.clos_meaning.Outcome.{Asked, End, Given, Looked, Noted, Out, Gave, Signalled, Stopped, Run, then_do, step_then, stopped}
 use Rattle.clos_definition_forms.proofs.clos_machine.clos_meaning.Kept.{same, same_then, SameAfter, evaluation_kept}
 use Rattle.clos_definition_forms.specs.Definition.{class_made, define_class, define_generic, define_method, generic_made, method_made, remove_method, removed_if, takes_effect, unless, value_at, values_removed}
+use Rattle.clos_definition_forms.specs.lisp_prims.Primitive.{truth}
+use Rattle.clos_definition_forms.specs.Dependents.{change_dependents, changed_if, values_watched, watched, with_change}
+use Rattle.clos_definition_forms.specs.declared.dependents.Change.{Change}
+use Rattle.clos_definition_forms.specs.declared.dependents.Change.TheVariants.{Add, Remove}
+use Rattle.clos_definition_forms.specs.clos_watch.declared.notice.Metaobject.{Metaobject}
 use Rattle.clos_session.specs.Definitions.{DefinesNothing}
 use Rattle.clos_definition_forms.specs.Forms.{form_evaluated, forms_evaluated}
 use Rattle.clos_definition_forms.specs.Combination.{combination_defined, define_combination}
@@ -131,6 +136,15 @@ removal_refuses : (f m : Form) (w : State) (k : ℕ) → Refuses w (remove_metho
 removal_refuses f m w k =
     forms_refuse (Some f ∷ Some m ∷ []) [] values_removed w k (λ vs u j. removed_refuses (value_at vs 0) (removable (value_at vs 0) (value_at vs 1)) u j)
 
+changed_refuses : (c : Change) (r : Result (Metaobject × ℕ) Condition) (w : State) (k : ℕ) → Refuses w (changed_if c r w k)
+changed_refuses c (Err e) w k = same w
+changed_refuses c (Ok p) w k = step_refuses (λ x j. Gave (truth true) (with_change c p.0 p.1 w) j) w k (λ j. tt)
+
+change_refuses : (c : Change) (m d : Form) (w : State) (k : ℕ) → Refuses w (change_dependents c m d w k)
+change_refuses c m d w k =
+    forms_refuse (Some m ∷ Some d ∷ []) [] (values_watched c) w k
+    (λ vs u j. changed_refuses c (watched u.hearing.names (value_at vs 0) (value_at vs 1)) u j)
+
 function_refuses : (name : FunctionName) (f : Function) (w : State) (k : ℕ) → Refuses w (define_function name f w k)
 function_refuses (Symbol name) f w k =
     choice_refuses (is_some (generic_named w.generics (Symbol name))) w _ _ (same w)
@@ -179,8 +193,8 @@ performed_refuses (DefCombination c) w k = combination_refuses c w k
 performed_refuses (Defun f) w k = function_refuses f.name (record { lambda_list = f.lambda_list; body = f.body }) w k
 performed_refuses (DefVar d) w k = variable_refuses d w k
 performed_refuses (RemoveMethod function m) w k = removal_refuses function m w k
-performed_refuses (AddDependent m d) w k = same w
-performed_refuses (RemoveDependent m d) w k = same w
+performed_refuses (AddDependent m d) w k = change_refuses Add m d w k
+performed_refuses (RemoveDependent m d) w k = change_refuses Remove m d w k
 performed_refuses InPackage w k = tt
 performed_refuses (Expr f) w k = kept_refuses w (evaluation (room_of w) f w k) (evaluation_kept (room_of w) f w k)
 

@@ -1,3 +1,4 @@
 pub mod StepQuiet
 pub mod Asking
 pub mod Definitions
+pub mod Hearing

@@ -1,5 +1,5 @@
 -- With no step left a top-level form changes nothing.
-use Rattle.std.proofs.Common.{◌≡◌, ◌-◌, arith, subst, ℕ, zero, suc, List, [], Option, Some, None, Err, Bool, true, false, refl}
+use Rattle.std.proofs.Common.{◌≡◌, ◌-◌, arith, subst, ℕ, zero, suc, List, [], ◌∷◌, Option, Some, None, Err, Bool, true, false, refl}
 use Rattle.std.specs.Prelude.{ℤ, ◌||◌, is_some, if◌then◌else◌}
 use Rattle.lisp_data.specs.Name.{Name}
 use Rattle.lisp_data.specs.Datum.{Dat}
@@ -24,11 +24,16 @@ use Rattle.clos_definition_forms.specs.clos_machine.clos_meaning.Host.{Host}
 use Rattle.clos_definition_forms.specs.clos_machine.clos_meaning.Meaning.{evaluation}
 use Rattle.clos_definition_forms.specs.clos_machine.clos_meaning.Outcome.{Asked, Looked, Noted, Out, Gave, Stopped, Run, then_do, step_then, leaves}
 use Rattle.clos_definition_forms.proofs.clos_machine.clos_meaning.Quiet.{evaluation_quiet}
+use Rattle.clos_definition_forms.specs.Dependents.{change_dependents, values_watched}
+use Rattle.clos_definition_forms.specs.declared.dependents.Change.{Change}
+use Rattle.clos_definition_forms.specs.declared.dependents.Change.TheVariants.{Add, Remove}
 use Rattle.clos_definition_forms.specs.Function.{has_room, define_function}
 use Rattle.clos_session.specs.Session.{Replies}
 use Rattle.clos_session.specs.declared.session.Reply.TheVariants.{Storage as stored_after}
 use Rattle.clos_session.specs.Step.{checked, performed, room_of, step}
 use Rattle.clos_definition_forms.specs.Variable.{admits, room_below, keeps_value, value_given, new_value, variable_defined}
+use Rattle.clos_definition_forms.proofs.Evaluated.{forms_quiet}
+use Rattle.clos_definition_forms.proofs.Watched.{values_watched_quiet}
 use Rattle.clos_definition_forms.proofs.Quiet.{define_class_quiet, define_combination_quiet, define_generic_quiet, define_method_quiet, remove_method_quiet}
 
 either : (b : Bool) (x y : Out) (w : State) → leaves x w 0 → leaves y w 0 → leaves (if b then x else y) w 0
@@ -63,6 +68,9 @@ variable_quiet d w =
     either (admits (seen w) d.name) _ _ (seen w)
     (either (keeps_value (seen w) d.definer d.name) _ _ (seen w) (refl, refl) (value_quiet d.name d.form w)) (refl, refl)
 
+change_quiet : (c : Change) (m d : Form) (w : World) → leaves (change_dependents c m d (seen w) 0) (seen w) 0
+change_quiet c m d w = forms_quiet (Some m ∷ Some d ∷ []) [] (values_watched c) (seen w) refl (λ vs. values_watched_quiet c vs (seen w))
+
 performed_quiet : (top : Top) (w : World) → leaves (performed top (seen w) 0) (seen w) 0
 performed_quiet (DefClass d) w = define_class_quiet d (seen w) refl
 performed_quiet (DefGeneric d) w = define_generic_quiet d (seen w) refl
@@ -71,8 +79,8 @@ performed_quiet (DefCombination c) w = define_combination_quiet c (seen w)
 performed_quiet (Defun f) w = function_quiet f.name (record { lambda_list = f.lambda_list; body = f.body }) (seen w)
 performed_quiet (DefVar d) w = variable_quiet d w
 performed_quiet (RemoveMethod function m) w = remove_method_quiet function m (seen w) refl
-performed_quiet (AddDependent m d) w = (refl, refl)
-performed_quiet (RemoveDependent m d) w = (refl, refl)
+performed_quiet (AddDependent m d) w = change_quiet Add m d w
+performed_quiet (RemoveDependent m d) w = change_quiet Remove m d w
 performed_quiet InPackage w = (refl, refl)
 performed_quiet (Expr f) w = evaluation_quiet (room_of (seen w)) (known []) f (seen w)
 

@@ -7,28 +7,30 @@ use Rattle.clos_definition_forms.specs.clos_machine.clos_meaning.Host.{Host, ans
 use Rattle.clos_definition_forms.specs.clos_machine.clos_meaning.Outcome.{Run, Given, Signalled}
 use Rattle.clos_definition_forms.specs.clos_world.Condition.{number_of}
 use Rattle.clos_definition_forms.specs.clos_world.declared.condition.ConditionKind.{ConditionKind}
+use Rattle.clos_definition_forms.specs.clos_watch.declared.notice.Notice.{Notice}
 use Rattle.clos_session.specs.declared.session.Session.{Session}
 use Rattle.clos_session.specs.declared.session.Reply.{Reply}
 use Rattle.clos_session.specs.declared.session.Reply.TheVariants.{Value, Condition, Storage}
 
 -- the state of a session
-abbrev pub state_of : {N : Type 0} → Session N → State
+abbrev pub state_of : {N D : Type 0} → Session N D → State
 state_of s = seen s.world
 
 -- what the host's functions answered in it, in order
-abbrev pub answers_of : {N : Type 0} → Session N → List ℤ
+abbrev pub answers_of : {N D : Type 0} → Session N D → List ℤ
 answers_of s = s.answers.items
 
--- both of them
+-- both of them, and what each dependent has heard, by its place
 pub record Standing : Type 0 where
   pub state : State
   pub answers : List ℤ
+  pub heard : List (List Notice)
 
-abbrev pub standing_of : {N : Type 0} → Session N → Standing
-standing_of s = record { state = state_of s; answers = answers_of s }
+abbrev pub standing_of : {N D : Type 0} → List (List Notice) → Session N D → Standing
+standing_of heard s = record { state = state_of s; answers = answers_of s; heard = heard }
 
 -- how many effective methods were worked out in it
-abbrev pub built_of : {N : Type 0} → Session N → ℕ
+abbrev pub built_of : {N D : Type 0} → Session N D → ℕ
 built_of s = s.world.meter
 
 -- It is the value or the condition of the run within so many steps, with the answers that came, and the state is the one after.

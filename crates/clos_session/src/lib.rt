@@ -1,9 +1,12 @@
 //! Sessions: the top-level forms that are submitted one after another, and what they leave.
 #![tactic(auto)]
 
+mod notices;
 mod session;
 
 pub use clos_definition_forms::{
-    Condition, ConditionKind, Limits, Native, Natives, Relation, Stop, Values, World,
+    Callback, Condition, ConditionKind, Dependent, Dependents, Handed, Limits, Listener, Native,
+    Natives, Notice, Recorder, Relation, Stop, Values, World,
 };
+pub use notices::print_notice;
 pub use session::{Reply, Session};

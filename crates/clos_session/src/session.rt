@@ -1,21 +1,24 @@
 //! Sessions: the top-level forms that are submitted one after another, and what they leave.
-ghost use Rattle.std.specs.Prelude.{◌≡◌, [], min, IfOk, Some};
+ghost use Rattle.std.specs.Prelude.{◌≡◌, [], min, IfOk, Some, option_map, slice_get, unwrap_or};
 ghost use Rattle.lisp_data.specs.DatumView.{datum_of};
 ghost use Rattle.clos_definition_forms.specs.clos_world.World.{seen};
 ghost use Rattle.clos_definition_forms.specs.clos_eval.Host.{AnswersBy};
 ghost use Rattle.clos_definition_forms.specs.clos_machine.Machine.{AnswersWith};
 ghost use Rattle.clos_session.specs.Step.{checked, step};
 ghost use Rattle.clos_definition_forms.specs.clos_world.Initial.{initial};
+ghost use Rattle.clos_definition_forms.specs.clos_watch.Handed.{place_of};
+ghost use Rattle.clos_definition_forms.specs.Hearing.{Heard};
 ghost use Rattle.clos_session.specs.Definitions.{DefinesNothing};
 ghost use Rattle.clos_session.specs.Session.{answers_of, built_of, state_of, Replies};
 
 use clos_definition_forms::{
-    ConditionKind, Limits, Natives, Stop, Values, World, defclass, defgeneric, define_combination,
-    define_variable, defmethod, defun, evaluate, plain, remove_method,
+    Change, ConditionKind, Dependents, Limits, Natives, Notice, Stop, Values, World,
+    change_dependents, defclass, defgeneric, define_combination, define_variable, defmethod, defun,
+    evaluate, place_of, plain, remove_method,
 };
 use clos_forms::SyntaxFault;
 use clos_top::{Top, parse_top};
-use lisp_data::{Datum, Items, Value};
+use lisp_data::{Datum, Items, Name, Value};
 use std::alloc::{AllocError, Global};
 
 /// The answer to a top-level form.
@@ -29,42 +32,65 @@ pub enum Reply {
 }
 
 /// A session. It begins with the predefined classes, and each form that is submitted to it may define more. Its programs may
-/// call the functions that are stored for it.
-pub struct Session<N> {
+/// call the functions that are stored for it, and add its dependents to classes and generic functions (AMOP chapter 6).
+pub struct Session<N, D> {
     world: World,
     natives: N,
+    dependents: D,
     answers: Vec<i64>,
     alloc: Global,
 }
 
 /// By hand: to drop a session is then one call, and not one for each of its tables at each way out.
-impl<N: Drop> Drop for Session<N> {
+impl<N: Drop, D: Drop> Drop for Session<N, D> {
     fn drop(self) {
         let Session {
             world: _,
             natives: _,
+            dependents: _,
             answers: _,
             alloc: _,
         } = self;
     }
 }
 
-impl<N: Natives> Session<N> {
-    /// A session that begins, under these limits. Programs may call these functions by their names; of two with one name in a
-    /// `Vec` the first is called.
-    pub fn new(alloc: Global, limits: Limits, natives: N) -> Result<Session<N>, AllocError>
-        ensures state { IfOk result (λ s. state_of s ≡ initial limits) }
+impl<N: Natives, D: Dependents> Session<N, D> {
+    /// A session that begins, under these limits. Programs may call these functions and add these dependents by their names;
+    /// of two with one name in a `Vec` the first is called or told.
+    pub fn new(
+        alloc: Global,
+        limits: Limits,
+        natives: N,
+        dependents: D,
+    ) -> Result<Session<N, D>, AllocError>
+        ensures state { IfOk result (λ s. state_of s ≡ initial limits (D.names dependents)) }
         ensures built { IfOk result (λ s. built_of s ≡ 0) }
         ensures answers { IfOk result (λ s. answers_of s ≡ []) }
         ensures host { IfOk result (λ s. N.host s.natives ≡ N.host natives) }
+        ensures names { IfOk result (λ s. D.names s.dependents ≡ D.names dependents) }
+        ensures heard { IfOk result (λ s. D.told s.dependents ≡ D.told dependents) }
     {
-        let world = World::new(alloc, limits)?;
+        let names = dependents.copy_names(alloc)?;
+        let world = World::new(alloc, limits, names)?;
         Ok(Session {
             world,
             natives,
+            dependents,
             answers: Vec::new(alloc),
             alloc,
         })
+    }
+
+    /// What the dependent of this name heard, in order, if the session was handed one: what it had heard before, and then of
+    /// each change of a class or a generic function that it was a dependent of.
+    pub fn heard(&self, name: &Name) -> Option<&[Notice]>
+        ensures { option_map (λ r. r.now) result ≡ option_map (λ p. unwrap_or (slice_get (D.told self.now.dependents) p) [])
+            (place_of (state_of self.now).hearing.names name.now) }
+    {
+        match place_of(self.world.hearing.names.as_slice(), name) {
+            Some(place) => Some(self.dependents.heard(place)),
+            None => None,
+        }
     }
 
     /// What the host's functions answered so far, one answer for each call, in order.
@@ -99,13 +125,15 @@ impl<N: Natives> Session<N> {
     pub fn perform(&mut self, datum: &Datum, steps: &mut u64) -> Result<Value, Stop>
         ensures answers { AnswersWith (N.host self.old.natives) (step (datum_of datum.now)) (state_of self.old) steps.old
             (answers_of self.old) result (state_of self.new) steps.new (answers_of self.new) }
-        ensures host { N.host self.new.natives ≡ N.host self.old.natives }
+        ensures heard { Heard (D.told self.old.dependents) (state_of self.old) (D.told self.new.dependents) (state_of self.new) }
+        ensures kept { (N.host self.new.natives ≡ N.host self.old.natives) × (D.names self.new.dependents ≡ D.names self.old.dependents) }
     {
         perform(
             self.alloc,
             &mut self.world,
             &self.natives,
             &mut self.answers,
+            &mut self.dependents,
             datum,
             steps,
         )
@@ -115,7 +143,8 @@ impl<N: Natives> Session<N> {
     pub fn submit(&mut self, datum: &Datum) -> Reply
         ensures reply { Replies (N.host self.old.natives) (step (datum_of datum.now)) (state_of self.old).limits.steps (state_of self.old)
             (answers_of self.old) result (state_of self.new) (answers_of self.new) }
-        ensures host { N.host self.new.natives ≡ N.host self.old.natives }
+        ensures heard { Heard (D.told self.old.dependents) (state_of self.old) (D.told self.new.dependents) (state_of self.new) }
+        ensures kept { (N.host self.new.natives ≡ N.host self.old.natives) × (D.names self.new.dependents ≡ D.names self.old.dependents) }
         ensures refused { DefinesNothing result (state_of self.old) (state_of self.new) }
     {
         let limit = self.world.limits.steps;
@@ -128,7 +157,8 @@ impl<N: Natives> Session<N> {
     pub fn submit_within(&mut self, datum: &Datum, steps: u64) -> Reply
         ensures reply { Replies (N.host self.old.natives) (step (datum_of datum.now)) (min steps (state_of self.old).limits.steps)
             (state_of self.old) (answers_of self.old) result (state_of self.new) (answers_of self.new) }
-        ensures host { N.host self.new.natives ≡ N.host self.old.natives }
+        ensures heard { Heard (D.told self.old.dependents) (state_of self.old) (D.told self.new.dependents) (state_of self.new) }
+        ensures kept { (N.host self.new.natives ≡ N.host self.old.natives) × (D.names self.new.dependents ≡ D.names self.old.dependents) }
         ensures refused { DefinesNothing result (state_of self.old) (state_of self.new) }
     {
         let budget = steps.min(self.world.limits.steps);
@@ -148,19 +178,22 @@ impl<N: Natives> Session<N> {
 
 /// Performs a top-level form with so many steps.
 #[tactic(auto, using(crate::proofs::Asking::asks_nothing))]
-fn perform<N: Natives>(
+fn perform<N: Natives, D: Dependents>(
     alloc: Global,
     world: &mut World,
     natives: &N,
     answers: &mut Vec<i64>,
+    dependents: &mut D,
     datum: &Datum,
     steps: &mut u64,
 ) -> Result<Value, Stop>
-    ensures { AnswersBy (N.host natives.now) (step (datum_of datum.now)) world.old steps.old answers.old result world.new steps.new
+    ensures answers { AnswersBy (N.host natives.now) (step (datum_of datum.now)) world.old steps.old answers.old result world.new steps.new
         answers.new }
+    ensures heard { Heard (D.told dependents.old) (seen world.old) (D.told dependents.new) (seen world.new) }
+    ensures names { D.names dependents.new ≡ D.names dependents.old }
 {
     match parse_top(alloc, datum) {
-        Ok(top) => perform_top(alloc, world, natives, answers, top, steps),
+        Ok(top) => perform_top(alloc, world, natives, answers, dependents, top, steps),
         Err(SyntaxFault::Program) => Err(Stop::Refused(plain(alloc, ConditionKind::ProgramError))),
         Err(SyntaxFault::Memory) => Err(Stop::Storage),
     }
@@ -168,25 +201,40 @@ fn perform<N: Natives>(
 
 /// Performs a form that is checked.
 #[tactic(auto, using(crate::proofs::Asking::asks_nothing))]
-fn perform_top<N: Natives>(
+fn perform_top<N: Natives, D: Dependents>(
     alloc: Global,
     world: &mut World,
     natives: &N,
     answers: &mut Vec<i64>,
+    dependents: &mut D,
     top: Top,
     steps: &mut u64,
 ) -> Result<Value, Stop>
-    ensures { AnswersBy (N.host natives.now) (checked (Some top)) world.old steps.old answers.old result world.new steps.new answers.new }
+    ensures answers { AnswersBy (N.host natives.now) (checked (Some top)) world.old steps.old answers.old result world.new steps.new answers.new }
+    ensures heard { Heard (D.told dependents.old) (seen world.old) (D.told dependents.new) (seen world.new) }
+    ensures names { D.names dependents.new ≡ D.names dependents.old }
 {
     match top {
         Top::DefClass(definition) => {
-            defclass(alloc, world, natives, answers, &definition, steps)
+            defclass(
+                alloc,
+                world,
+                natives,
+                answers,
+                dependents,
+                &definition,
+                steps,
+            )
         }
         Top::DefGeneric(definition) => {
-            defgeneric(alloc, world, natives, answers, definition, steps)
+            defgeneric(
+                alloc, world, natives, answers, dependents, definition, steps,
+            )
         }
         Top::DefMethod(name, definition) => {
-            defmethod(alloc, world, natives, answers, name, definition, steps)
+            defmethod(
+                alloc, world, natives, answers, dependents, name, definition, steps,
+            )
         }
         Top::DefCombination(definition) => define_combination(alloc, world, definition, steps),
         Top::Defun(function) => defun(alloc, world, function, steps),
@@ -194,11 +242,33 @@ fn perform_top<N: Natives>(
             define_variable(alloc, world, natives, answers, variable, steps)
         }
         Top::RemoveMethod(function, method) => {
-            remove_method(alloc, world, natives, answers, function, method, steps)
+            remove_method(
+                alloc, world, natives, answers, dependents, function, method, steps,
+            )
         }
-        Top::AddDependent(_, _) => { Err(Stop::Refused(plain(alloc, ConditionKind::Unsupported))) }
-        Top::RemoveDependent(_, _) => {
-            Err(Stop::Refused(plain(alloc, ConditionKind::Unsupported)))
+        Top::AddDependent(metaobject, name) => {
+            change_dependents(
+                alloc,
+                world,
+                natives,
+                answers,
+                Change::Add,
+                metaobject,
+                name,
+                steps,
+            )
+        }
+        Top::RemoveDependent(metaobject, name) => {
+            change_dependents(
+                alloc,
+                world,
+                natives,
+                answers,
+                Change::Remove,
+                metaobject,
+                name,
+                steps,
+            )
         }
         Top::InPackage => Ok(Value::List(Items::new())),
         Top::Expr(form) => {

@@ -8,6 +8,8 @@ use Rattle.lisp_data.specs.declared.value.Value.{Value}
 use Rattle.lisp_reader.specs.Answers.{Next}
 use Rattle.clos_session.specs.clos_world.World.{State}
 use Rattle.clos_session.specs.Session.{Standing}
+use Rattle.clos_session.specs.clos_definition_forms.Hearing.{Heard, since}
+use Rattle.clos_session.specs.clos_watch.Watching.{heard_after}
 use Rattle.clos_session.specs.clos_machine.Machine.{AnswersWith}
 use Rattle.clos_session.specs.clos_machine.clos_meaning.Host.{Host}
 use Rattle.clos_session.specs.clos_machine.clos_meaning.Outcome.{Given, Signalled}
@@ -19,30 +21,36 @@ use Rattle.clos_system.specs.declared.transcript.Summary.{Summary}
 use Rattle.clos_system.specs.declared.transcript.RunFault.{RunFault}
 use Rattle.clos_system.specs.declared.transcript.RunFault.TheVariants.{Read, TooLong, Reader, Write, Memory}
 
--- with these answers after those that there were
+-- with these answers after those that there were, and what was heard
 comes_to : (host : Host) (echo : Bool) (text : List ℕ) (start w w' : Standing) (used : List ℤ) (x : State) (at : ℕ) (out : List ℕ)
-    (n : Summary) → w'.state ≡ x → w'.answers ≡ w.answers ++ used
+    (n : Summary) → w'.state ≡ x → w'.answers ≡ w.answers ++ used → Heard w.heard w.state w'.heard w'.state
     → Ran host echo text start (standing_after w used x) at out n → Ran host echo text start w' at out n
-comes_to host echo text start w w' used x at out n e h r =
-    subst (λ past. Ran host echo text start (record { state = w'.state; answers = past }) at out n) (sym h)
-    (subst (λ y. Ran host echo text start (record { state = y; answers = w.answers ++ used }) at out n) (sym e) r)
+comes_to host echo text start w w' used x at out n e h k r =
+    subst (λ l. Ran host echo text start (record { state = w'.state; answers = w'.answers; heard = l }) at out n) (sym k)
+    (subst (λ past. Ran host echo text start (record {
+      state = w'.state;
+      answers = past;
+      heard = heard_after w.state.hearing.watching (since w.state w'.state) w.heard;
+    }) at out n) (sym h)
+    (subst (λ y. Ran host echo text start (standing_after w used y) at out n) (sym e) r))
 
 -- the run goes on by a form
 pub ran_on : (host : Host) (echo : Bool) (text : List ℕ) (start w : Standing) (at : ℕ) (out : List ℕ) (n : Summary) (d : Dat) (next : ℕ)
     (answer : Result Value Stop) (w' : Standing) (left : ℕ)
     → Ran host echo text start w at out n → Next (drop at text) d (drop next text) → AnswersWith host (step d) w.state w.state.limits.steps
     w.answers answer w'.state left w'.answers
+    → Heard w.heard w.state w'.heard w'.state
     → Ran host echo text start w' next (told_for echo w.state w'.state answer (w.state.limits.steps - left) out) (counted_for answer n)
-ran_on host echo text start w at out n d next (Ok v) w' left r h a =
-    comes_to host echo text start w w' a.0 w'.state next _ _ refl a.1 (performs w at out n d next a.0 (Given (value_of v) w'.state left)
+ran_on host echo text start w at out n d next (Ok v) w' left r h a k =
+    comes_to host echo text start w w' a.0 w'.state next _ _ refl a.1 k (performs w at out n d next a.0 (Given (value_of v) w'.state left)
     r h a.2)
-ran_on host echo text start w at out n d next (Err (Refused c)) w' left r h a =
-    comes_to host echo text start w w' a.0 w'.state next _ _ refl a.1 (performs w at out n d next a.0 (Signalled c w'.state left) r h a.2)
-ran_on host echo text start w at out n d next (Err Storage) w' left r h a =
+ran_on host echo text start w at out n d next (Err (Refused c)) w' left r h a k =
+    comes_to host echo text start w w' a.0 w'.state next _ _ refl a.1 k (performs w at out n d next a.0 (Signalled c w'.state left) r h a.2)
+ran_on host echo text start w at out n d next (Err Storage) w' left r h a k =
     let taken : w.state.limits.steps - left ≡ a.2 = omega (arith, a.3) in
-    subst (λ k. Ran host echo text start w' next (told_for echo w.state w'.state (Err Storage) k out) (counted_for (Err Storage) n))
+    subst (λ j. Ran host echo text start w' next (told_for echo w.state w'.state (Err Storage) j out) (counted_for (Err Storage) n))
     (sym taken)
-    (comes_to host echo text start w w' a.0 w'.state next _ _ refl a.1 (cuts w at out n d next a.2 a.0 w'.state r h
+    (comes_to host echo text start w w' a.0 w'.state next _ _ refl a.1 k (cuts w at out n d next a.2 a.0 w'.state r h
     (omega (arith, a.3)) a.4))
 
 -- nothing was written
@@ -91,7 +99,7 @@ stands_on host now next_host echo text start w w' a b c at next n n' fresh fresh
     let more : Ran host echo text start w' next (s.come.out ++ p.piece) n' =
     subst (λ m. Ran host echo text start w' next (s.come.out ++ p.piece) m) (sym p.counts)
     (subst (λ o. Ran host echo text start w' next o (counted_for p.answer n)) (sym (p.tells s.come.out s.line))
-    (ran_on host echo text start w at s.come.out n d next p.answer w' p.left s.come.ran h answers)) in
+    (ran_on host echo text start w at s.come.out n d next p.answer w' p.left s.come.ran h answers p.heard)) in
     record {
       stays = q ∙ s.stays;
       come = record { out = s.come.out ++ p.piece; ran = more; appends = appends_more a b c s.come.out p.piece s.come.appends p.appends };
@@ -110,7 +118,7 @@ module _ (host now : Host) (echo : Bool) (text : List ℕ) (start w w' : Standin
       (counted_for p.answer n)
   ran_after s h p =
       ran_on host echo text start w at s.come.out n d next p.answer w' p.left s.come.ran h
-      (subst (λ o. AnswersWith o (step d) w.state w.state.limits.steps w.answers p.answer w'.state p.left w'.answers) s.stays p.answers)
+      (subst (λ o. AnswersWith o (step d) w.state w.state.limits.steps w.answers p.answer w'.state p.left w'.answers) s.stays p.answers) p.heard
 
   pub fails_after : (e : RunFault) → Stands host now echo text start w a b at n fresh → Next (drop at text) d (drop next text)
       → FailsAfter now d w w' e → Faults host echo text start w' a c e

@@ -22,7 +22,7 @@ both = list (cons (word (codes "PROGN")) (cons (says (codes "1")) (cons (says (c
 
 -- a session that begins
 abbrev new : State
-new = initial standard
+new = initial standard []
 
 -- what is told of a form, where the host stored no functions
 abbrev told_by : Bool → Out → Option (List ℕ)

@@ -13,6 +13,8 @@ use Rattle.lisp_reader.specs.Gaps.{Gaps}
 use Rattle.clos_session.specs.clos_world.Condition.{number_of, condition_name}
 use Rattle.clos_session.specs.clos_world.World.{State, names_of}
 use Rattle.clos_session.specs.Session.{Standing}
+use Rattle.clos_session.specs.clos_definition_forms.Hearing.{Heard, since}
+use Rattle.clos_session.specs.clos_watch.Watching.{heard_after}
 use Rattle.clos_session.specs.clos_machine.clos_meaning.Host.{Host, answered_by}
 use Rattle.clos_session.specs.clos_machine.clos_meaning.Outcome.{End, Given, Signalled}
 use Rattle.clos_session.specs.clos_machine.Machine.{AnswersWith, leaves_by}
@@ -62,9 +64,13 @@ abbrev pub state_after : End → State
 state_after (Given v w s) = w
 state_after (Signalled c w s) = w
 
--- .. and what the host's functions answered until then
+-- .. with what the host's functions answered until then, and what its dependents heard
 abbrev pub standing_after : Standing → List ℤ → State → Standing
-standing_after w used w' = record { state = w'; answers = w.answers ++ used }
+standing_after w used w' = record {
+  state = w';
+  answers = w.answers ++ used;
+  heard = heard_after w.state.hearing.watching (since w.state w') w.heard;
+}
 
 -- one more form, and one more condition where it ended with one
 abbrev pub counted : End → Summary → Summary
@@ -142,6 +148,7 @@ pub record Performs (host : Host) (echo : Bool) (d : Dat) (w w' : Standing) (old
   pub answer : Result Value Stop
   pub left : ℕ
   pub answers : AnswersWith host (step d) w.state w.state.limits.steps w.answers answer w'.state left w'.answers
+  pub heard : Heard w.heard w.state w'.heard w'.state
   pub counts : n' ≡ counted_for answer n
   pub piece : List ℕ
   pub appends : Appends old new piece
@@ -154,6 +161,7 @@ pub record Performed (host : Host) (d : Dat) (w w' : Standing) : Type 0 where
   pub answer : Result Value Stop
   pub left : ℕ
   pub answers : AnswersWith host (step d) w.state w.state.limits.steps w.answers answer w'.state left w'.answers
+  pub heard : Heard w.heard w.state w'.heard w'.state
 
 -- .. and then memory or the writer failed.
 abbrev pub FailsAfter : Host → Dat → Standing → Standing → RunFault → Type 0

@@ -3,5 +3,8 @@
 
 mod transcript;
 
-pub use clos_session::{ConditionKind, Limits, Native, Natives, Relation, Reply, Session, Values};
+pub use clos_session::{
+    Callback, ConditionKind, Dependent, Dependents, Handed, Limits, Listener, Native, Natives,
+    Notice, Recorder, Relation, Reply, Session, Values, print_notice,
+};
 pub use transcript::{RunFault, Summary, run};

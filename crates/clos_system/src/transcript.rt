@@ -7,7 +7,7 @@ ghost use Rattle.clos_session.specs.clos_world.World.{State, seen, names_of};
 ghost use Rattle.clos_session.specs.Session.{standing_of};
 ghost use Rattle.clos_system.specs.Transcript.{ends_line, fresh_line, condition_text, storage_text, told_for, counted_for, Finishes, Faults, Performs, FailsAfter, OverText, RunFaults, SourceFails};
 
-use clos_session::{Condition, Natives, Session, Stop, World};
+use clos_session::{Condition, Dependents, Natives, Session, Stop, World};
 use itoa::Buffer;
 use lisp_data::{Datum, Value, prin1};
 use lisp_reader::{ReadFault, read_form};
@@ -50,17 +50,17 @@ pub enum RunFault {
 
 /// Reads a source, performs its forms in the session, and writes their transcript: what they write, after each form
 /// that ended with a condition a line that tells it, and with `echo` the value of each other form.
-pub fn run<N: Natives, R: Read, W: Write>(
+pub fn run<N: Natives, D: Dependents, R: Read, W: Write>(
     alloc: Global,
-    session: &mut Session<N>,
+    session: &mut Session<N, D>,
     reader: &mut R,
     writer: &mut W,
     echo: bool,
 ) -> Result<Summary, RunFault>
     ensures finishes { IfOk result (λ n. OverText (R.remaining reader.old) (λ text.
-        Finishes (N.host session.old.natives) echo text (standing_of session.old) (standing_of session.new) (W.contents writer.old) (W.contents writer.new) n)) }
+        Finishes (N.host session.old.natives) echo text (standing_of (D.told session.old.dependents) session.old) (standing_of (D.told session.new.dependents) session.new) (W.contents writer.old) (W.contents writer.new) n)) }
     ensures faults { IfErr result (RunFaults (N.host session.old.natives) echo (R.remaining reader.old)
-        (standing_of session.old) (standing_of session.new)
+        (standing_of (D.told session.old.dependents) session.old) (standing_of (D.told session.new.dependents) session.new)
         (W.contents writer.old) (W.contents writer.new)) }
     ensures host { N.host session.new.natives ≡ N.host session.old.natives }
 {
@@ -101,17 +101,17 @@ fn read_source<R: Read>(alloc: Global, reader: &mut R) -> Result<Vec<u8>, RunFau
 }
 
 /// Performs the forms of a text and writes their transcript.
-fn run_text<N: Natives, W: Write>(
+fn run_text<N: Natives, D: Dependents, W: Write>(
     alloc: Global,
-    session: &mut Session<N>,
+    session: &mut Session<N, D>,
     text: &[u8],
     writer: &mut W,
     echo: bool,
 ) -> Result<Summary, RunFault>
     ensures finishes { IfOk result (Finishes (N.host session.old.natives) echo text.now
-        (standing_of session.old) (standing_of session.new) (W.contents writer.old) (W.contents writer.new)) }
+        (standing_of (D.told session.old.dependents) session.old) (standing_of (D.told session.new.dependents) session.new) (W.contents writer.old) (W.contents writer.new)) }
     ensures faults { IfErr result (Faults (N.host session.old.natives) echo text.now
-        (standing_of session.old) (standing_of session.new) (W.contents writer.old) (W.contents writer.new)) }
+        (standing_of (D.told session.old.dependents) session.old) (standing_of (D.told session.new.dependents) session.new) (W.contents writer.old) (W.contents writer.new)) }
     ensures host { N.host session.new.natives ≡ N.host session.old.natives }
 {
     let mut summary = Summary {
@@ -142,9 +142,9 @@ fn run_text<N: Natives, W: Write>(
 }
 
 /// Performs a form and writes what is told of it. Answers the counts with it, and whether a line has ended.
-fn run_form<N: Natives, W: Write>(
+fn run_form<N: Natives, D: Dependents, W: Write>(
     alloc: Global,
-    session: &mut Session<N>,
+    session: &mut Session<N, D>,
     datum: Datum,
     writer: &mut W,
     echo: bool,
@@ -155,11 +155,11 @@ fn run_form<N: Natives, W: Write>(
     requires conditions { summary.conditions ≤ summary.forms }
     requires storages { summary.storages ≤ summary.forms }
     ensures performs { IfOk result (λ r. Performs (N.host session.old.natives) echo (datum_of datum)
-        (standing_of session.old) (standing_of session.new)
+        (standing_of (D.told session.old.dependents) session.old) (standing_of (D.told session.new.dependents) session.new)
         (W.contents writer.old) (W.contents writer.new) summary r.0 fresh r.1) }
     ensures few { IfOk result (λ r. (r.0.conditions ≤ r.0.forms) × (r.0.storages ≤ r.0.forms) × (r.0.forms ≡ summary.forms + 1)) }
-    ensures fails { IfErr result (FailsAfter (N.host session.old.natives) (datum_of datum) (standing_of session.old)
-        (standing_of session.new)) }
+    ensures fails { IfErr result (FailsAfter (N.host session.old.natives) (datum_of datum) (standing_of (D.told session.old.dependents) session.old)
+        (standing_of (D.told session.new.dependents) session.new)) }
     ensures host { N.host session.new.natives ≡ N.host session.old.natives }
 {
     let from = session.written().len();

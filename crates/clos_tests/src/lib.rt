@@ -4,4 +4,6 @@
 #[cfg(test)]
 mod data;
 #[cfg(test)]
+mod dependents;
+#[cfg(test)]
 mod session;

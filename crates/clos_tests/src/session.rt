@@ -1,6 +1,6 @@
 //! What no text can state: readers and writers that fail, faults of reading, single data, and steps of one form.
 use crate::data::{datum, deepest, list, list_of};
-use clos_system::{Limits, Natives, Reply, RunFault, Session, Summary, run};
+use clos_system::{Dependents, Limits, Natives, Reply, RunFault, Session, Summary, run};
 use lisp_data::{Data, Datum, Dot, MAX_NESTING, MethodId, Value};
 use lisp_reader::ReadFault;
 use std::alloc::Global;
@@ -27,7 +27,12 @@ const WITHOUT_STEPS: [(&str, u64, u64); 13] = [
 
 #[test]
 fn the_count_of_forms(rt: HostRuntime) -> Result<(), Fail> {
-    let mut session = Session::new(rt.alloc(), Limits::default(), Vec::new(rt.alloc()))?;
+    let mut session = Session::new(
+        rt.alloc(),
+        Limits::default(),
+        Vec::new(rt.alloc()),
+        Vec::new(rt.alloc()),
+    )?;
     let mut source = b"(princ 1) (f) (defclass a () ()) (f) (princ 2)".as_slice();
     let mut output = Vec::new(rt.alloc());
     let summary = run(rt.alloc(), &mut session, &mut source, &mut output, false)?;
@@ -42,7 +47,7 @@ fn the_count_of_forms(rt: HostRuntime) -> Result<(), Fail> {
 
 /// The fault with which a run of a text ends, which writes this before.
 fn fault(alloc: Global, text: &[u8], output: &mut Vec<u8>) -> Result<Option<RunFault>, Fail> {
-    let mut session = Session::new(alloc, Limits::default(), Vec::new(alloc))?;
+    let mut session = Session::new(alloc, Limits::default(), Vec::new(alloc), Vec::new(alloc))?;
     let mut source = text;
     Ok(run(alloc, &mut session, &mut source, output, false).err())
 }
@@ -143,7 +148,12 @@ impl Read for OneByOne {
 
 #[test]
 fn the_longest_source_byte_by_byte(rt: HostRuntime) -> Result<(), Fail> {
-    let mut session = Session::new(rt.alloc(), Limits::default(), Vec::new(rt.alloc()))?;
+    let mut session = Session::new(
+        rt.alloc(),
+        Limits::default(),
+        Vec::new(rt.alloc()),
+        Vec::new(rt.alloc()),
+    )?;
     let mut longest = OneByOne { left: 16_777_216 };
     let mut output = Vec::new(rt.alloc());
     let summary = run(rt.alloc(), &mut session, &mut longest, &mut output, false)?;
@@ -152,9 +162,9 @@ fn the_longest_source_byte_by_byte(rt: HostRuntime) -> Result<(), Fail> {
 }
 
 /// Whether a run with this reader fails to read, and writes nothing to this output.
-fn fails_to_read<N: Natives>(
+fn fails_to_read<N: Natives, D: Dependents>(
     alloc: Global,
-    session: &mut Session<N>,
+    session: &mut Session<N, D>,
     left: u64,
     output: &mut Vec<u8>,
 ) -> bool {
@@ -165,7 +175,12 @@ fn fails_to_read<N: Natives>(
 #[test]
 fn readers_that_fail(rt: HostRuntime) -> Result<(), Fail> {
     for left in [0, 1, 2] {
-        let mut session = Session::new(rt.alloc(), Limits::default(), Vec::new(rt.alloc()))?;
+        let mut session = Session::new(
+            rt.alloc(),
+            Limits::default(),
+            Vec::new(rt.alloc()),
+            Vec::new(rt.alloc()),
+        )?;
         let mut output = Vec::new(rt.alloc());
         let fails = fails_to_read(rt.alloc(), &mut session, left, &mut output);
         assert!(rt; fails, "after {left} reads");
@@ -176,7 +191,11 @@ fn readers_that_fail(rt: HostRuntime) -> Result<(), Fail> {
 }
 
 /// Whether a run with a writer that takes so many writes fails to write.
-fn fails_to_write<N: Natives>(alloc: Global, session: &mut Session<N>, left: u64) -> bool {
+fn fails_to_write<N: Natives, D: Dependents>(
+    alloc: Global,
+    session: &mut Session<N, D>,
+    left: u64,
+) -> bool {
     let mut source = b"(princ 1) (defclass a () ()) (princ 2) (princ 3)".as_slice();
     let ended = run(alloc, session, &mut source, &mut Failing { left }, false);
     matches!(ended, Err(RunFault::Write))
@@ -185,7 +204,12 @@ fn fails_to_write<N: Natives>(alloc: Global, session: &mut Session<N>, left: u64
 #[test]
 fn writers_that_fail(rt: HostRuntime) -> Result<(), Fail> {
     for (left, written) in [(0, "1"), (1, "12"), (2, "123")] {
-        let mut session = Session::new(rt.alloc(), Limits::default(), Vec::new(rt.alloc()))?;
+        let mut session = Session::new(
+            rt.alloc(),
+            Limits::default(),
+            Vec::new(rt.alloc()),
+            Vec::new(rt.alloc()),
+        )?;
         let fails = fails_to_write(rt.alloc(), &mut session, left);
         assert!(rt; fails, "after {left} writes");
         assert_eq!(rt; str::from_utf8(session.written())?, written);
@@ -210,17 +234,21 @@ fn integer_in(reply: &Reply) -> Option<i64> {
 }
 
 /// The number of the condition that ends a form, or 0.
-fn condition<N: Natives>(session: &mut Session<N>, datum: &Datum) -> u64 {
+fn condition<N: Natives, D: Dependents>(session: &mut Session<N, D>, datum: &Datum) -> u64 {
     number_in(&session.submit(datum))
 }
 
 /// The number of the condition that ends a form that may take so many steps, or 0.
-fn condition_within<N: Natives>(session: &mut Session<N>, datum: &Datum, steps: u64) -> u64 {
+fn condition_within<N: Natives, D: Dependents>(
+    session: &mut Session<N, D>,
+    datum: &Datum,
+    steps: u64,
+) -> u64 {
     number_in(&session.submit_within(datum, steps))
 }
 
 /// The integer that a form gives.
-fn integer<N: Natives>(session: &mut Session<N>, datum: &Datum) -> Option<i64> {
+fn integer<N: Natives, D: Dependents>(session: &mut Session<N, D>, datum: &Datum) -> Option<i64> {
     integer_in(&session.submit(datum))
 }
 
@@ -247,7 +275,7 @@ fn dotted_method(alloc: Global) -> Result<Datum, Fail> {
 #[test]
 fn submitted_data(rt: HostRuntime) -> Result<(), Fail> {
     let alloc = rt.alloc();
-    let mut session = Session::new(alloc, Limits::default(), Vec::new(alloc))?;
+    let mut session = Session::new(alloc, Limits::default(), Vec::new(alloc), Vec::new(alloc))?;
     assert_eq!(rt; integer(&mut session, &datum(alloc, "(princ 1)")?), Some(1));
     assert_eq!(rt; session.written(), b"1".as_slice());
     for (text, number) in [("(1 . 2)", 1), ("'(1 . 2)", 28)] {
@@ -271,7 +299,12 @@ fn three_steps() -> Limits {
 /// Steps, and the number of the condition of `(princ 1)` within them, in a session that allows three.
 #[test]
 fn submitted_within_steps(rt: HostRuntime) -> Result<(), Fail> {
-    let mut session = Session::new(rt.alloc(), three_steps(), Vec::new(rt.alloc()))?;
+    let mut session = Session::new(
+        rt.alloc(),
+        three_steps(),
+        Vec::new(rt.alloc()),
+        Vec::new(rt.alloc()),
+    )?;
     let form = datum(rt.alloc(), "(princ 1)")?;
     for (steps, number, written) in [(0, 29, 0), (2, 29, 0), (3, 0, 1), (u64::MAX, 0, 2)] {
         assert_eq!(rt; condition_within(&mut session, &form, steps), number);
@@ -282,7 +315,12 @@ fn submitted_within_steps(rt: HostRuntime) -> Result<(), Fail> {
 
 #[test]
 fn effective_methods_that_were_worked_out(rt: HostRuntime) -> Result<(), Fail> {
-    let mut session = Session::new(rt.alloc(), Limits::default(), Vec::new(rt.alloc()))?;
+    let mut session = Session::new(
+        rt.alloc(),
+        Limits::default(),
+        Vec::new(rt.alloc()),
+        Vec::new(rt.alloc()),
+    )?;
     assert_eq!(rt; session.built(), 0);
     for (text, built) in [
         ("(defmethod g ((x integer)) x)", 0),
@@ -298,7 +336,12 @@ fn effective_methods_that_were_worked_out(rt: HostRuntime) -> Result<(), Fail> {
 
 #[test]
 fn the_deepest_datum(rt: HostRuntime) -> Result<(), Fail> {
-    let mut session = Session::new(rt.alloc(), Limits::default(), Vec::new(rt.alloc()))?;
+    let mut session = Session::new(
+        rt.alloc(),
+        Limits::default(),
+        Vec::new(rt.alloc()),
+        Vec::new(rt.alloc()),
+    )?;
     let call = deepest(rt.alloc(), "F")?;
     assert_eq!(rt; call.nesting(), MAX_NESTING);
     assert_eq!(rt; condition(&mut session, &call), 30);
@@ -307,7 +350,12 @@ fn the_deepest_datum(rt: HostRuntime) -> Result<(), Fail> {
 
 #[test]
 fn the_deepest_quoted_datum(rt: HostRuntime) -> Result<(), Fail> {
-    let mut session = Session::new(rt.alloc(), Limits::default(), Vec::new(rt.alloc()))?;
+    let mut session = Session::new(
+        rt.alloc(),
+        Limits::default(),
+        Vec::new(rt.alloc()),
+        Vec::new(rt.alloc()),
+    )?;
     let quoted = deepest(rt.alloc(), "QUOTE")?;
     assert_eq!(rt; quoted.nesting(), MAX_NESTING);
     assert!(rt; is_list(&session.submit(&quoted)));
@@ -316,7 +364,12 @@ fn the_deepest_quoted_datum(rt: HostRuntime) -> Result<(), Fail> {
 
 #[test]
 fn the_deepest_and_the_longest_form(rt: HostRuntime) -> Result<(), Fail> {
-    let mut session = Session::new(rt.alloc(), Limits::default(), Vec::new(rt.alloc()))?;
+    let mut session = Session::new(
+        rt.alloc(),
+        Limits::default(),
+        Vec::new(rt.alloc()),
+        Vec::new(rt.alloc()),
+    )?;
     let deep = deepest(rt.alloc(), "PROGN")?;
     assert_eq!(rt; condition(&mut session, &deep), 30);
     let mut long = Data::new();
@@ -332,7 +385,7 @@ fn the_deepest_and_the_longest_form(rt: HostRuntime) -> Result<(), Fail> {
 #[test]
 fn lists_of_no_elements(rt: HostRuntime) -> Result<(), Fail> {
     let alloc = rt.alloc();
-    let mut session = Session::new(alloc, Limits::default(), Vec::new(alloc))?;
+    let mut session = Session::new(alloc, Limits::default(), Vec::new(alloc), Vec::new(alloc))?;
     let none = || Datum::List(Data::new());
     assert!(rt; is_list(&session.submit(&none())));
     let clause = list_of(alloc, "COND", none(), Data::new())?;
@@ -343,9 +396,9 @@ fn lists_of_no_elements(rt: HostRuntime) -> Result<(), Fail> {
 }
 
 /// Defines a class that can never have a precedence list, and one that waits for its superclass.
-fn define_incomplete_classes<N: Natives>(
+fn define_incomplete_classes<N: Natives, D: Dependents>(
     alloc: Global,
-    session: &mut Session<N>,
+    session: &mut Session<N, D>,
 ) -> Result<(), Fail> {
     condition(
         session,
@@ -363,7 +416,7 @@ fn definitions_without_steps(rt: HostRuntime) -> Result<(), Fail> {
         "(prin1 (list (find-class 'b nil) (find-class 'c nil) (find-class 'q nil)))",
     )?;
     for (text, without, within) in WITHOUT_STEPS {
-        let mut session = Session::new(alloc, Limits::default(), Vec::new(alloc))?;
+        let mut session = Session::new(alloc, Limits::default(), Vec::new(alloc), Vec::new(alloc))?;
         define_incomplete_classes(alloc, &mut session)?;
         let definition = datum(alloc, text)?;
         assert_eq!(rt;

@@ -1,10 +1,10 @@
 -- What dependents in a list heard, and have room for, by their places.
 use Rattle.std.proofs.Common.{◌≡◌, ℕ, zero, suc, ◌+◌, ◌<◌, ◌≤◌, ◌++◌, Bool, true, false, List, [], ◌∷◌, Option, Some, None, Result, Ok, Err, length, append_assoc, append-nil, arith, refl, ap, sym, subst, ◌∙◌}
-use Rattle.std.specs.Prelude.{OnOk, drop, map, option_map, slice_get, take, if◌then◌else◌}
+use Rattle.std.specs.Prelude.{OnOk, drop, map, option_map, slice_get, take, unwrap_or, if◌then◌else◌}
 use Rattle.std.proofs.lemmas.List.{length-map}
 use Rattle.lisp_data.specs.Name.{Name, same_name}
 use Rattle.clos_watch.specs.Handed.{at_place, place_of}
-use Rattle.clos_watch.specs.Watching.{Watching, heard_by, hears, times_told}
+use Rattle.clos_watch.specs.Watching.{Watching, heard_after, heard_by, heard_from, hears, times_told}
 use Rattle.clos_watch.specs.declared.notice.Notice.{Notice}
 use Rattle.clos_watch.proofs.Handed.{got_below}
 
@@ -79,22 +79,61 @@ module _ {D : Type 0} where
       let m : length (map name ds) ≡ length ds = length-map ds name in
       subst (λ o. want p ≤ at_place room 0 o) e (h p (omega (arith, l, m)))
 
+  -- what one has heard, in the list of what each has heard
+  pub told_there : (told : D → List Notice) (ds : List D) (p : ℕ) (d : D) → slice_get ds p ≡ Some d
+      → unwrap_or (slice_get (map told ds) p) [] ≡ told d
+  told_there told [] p d e = absurd (cc e)
+  told_there told (x ∷ ds) zero d e = cc e
+  told_there told (x ∷ ds) (suc p) d e = told_there told ds p d e
+
+  pub told_nowhere : (told : D → List Notice) (ds : List D) (p : ℕ) → slice_get ds p ≡ None → unwrap_or (slice_get (map told ds) p) [] ≡ []
+  told_nowhere told [] p e = refl
+  told_nowhere told (x ∷ ds) zero e = absurd (cc e)
+  told_nowhere told (x ∷ ds) (suc p) e = told_nowhere told ds p e
+
+  -- where each has heard what it had heard
+  same_told : (told : D → List Notice) (old now : List D) → length now ≡ length old
+      → ((p : ℕ) (d e : D) → slice_get old p ≡ Some d → slice_get now p ≡ Some e → told e ≡ told d) → map told now ≡ map told old
+  same_told told [] [] l h = refl
+  same_told told [] (e ∷ es) l h = absurd (omega (arith, l))
+  same_told told (d ∷ ds) [] l h = absurd (omega (arith, l))
+  same_told told (d ∷ ds) (e ∷ es) l h =
+      ap (λ x. x ∷ map told es) (h 0 d e refl refl)
+      ∙ ap (λ xs. told d ∷ xs) (same_told told ds es (omega (arith, l)) (λ p x y f g. h (suc p) x y f g))
+
+  -- where each has heard those of these notices that it hears
+  all_told : (told : D → List Notice) (w : Watching) (all : List Notice) (n : ℕ) (old now : List D) → length now ≡ length old
+      → ((p : ℕ) (d e : D) → slice_get old p ≡ Some d → slice_get now p ≡ Some e → told e ≡ told d ++ heard_by w all (n + p))
+      → map told now ≡ heard_from w all n (map told old)
+  all_told told w all n [] [] l h = refl
+  all_told told w all n [] (e ∷ es) l h = absurd (omega (arith, l))
+  all_told told w all n (d ∷ ds) [] l h = absurd (omega (arith, l))
+  all_told told w all n (d ∷ ds) (e ∷ es) l h =
+      let z : n + 0 ≡ n = omega arith in
+      ap (λ x. x ∷ map told es) (h 0 d e refl refl ∙ ap (λ k. told d ++ heard_by w all k) z)
+      ∙ ap (λ xs. (told d ++ heard_by w all n) ∷ xs)
+      (all_told told w all (suc n) ds es (omega (arith, l))
+      (λ p x y f g. let s : n + suc p ≡ suc n + p = omega arith in h (suc p) x y f g ∙ ap (λ k. told x ++ heard_by w all k) s))
+
   module _ (told : D → List Notice) (room : D → ℕ) (old now : List D)
       (h : (p : ℕ) (d e : D) → slice_get old p ≡ Some d → slice_get now p ≡ Some e → (told e ≡ told d) × (room d ≤ room e)) where
     kept_by : (p : ℕ) (o n : Option D) → length now ≡ length old → slice_get old p ≡ o → slice_get now p ≡ n
-        → (at_place told [] n ≡ at_place told [] o) × (at_place room 0 o ≤ at_place room 0 n)
-    kept_by p None None l e f = (refl, omega arith)
-    kept_by p None (Some d) l e f = let m : p < length now = got_below now p d f in absurd (not_there old p (omega (arith, l, m)) e)
+        → at_place room 0 o ≤ at_place room 0 n
+    kept_by p None n l e f = omega arith
     kept_by p (Some d) None l e f = let m : p < length old = got_below old p d e in absurd (not_there now p (omega (arith, l, m)) f)
-    kept_by p (Some d) (Some x) l e f = h p d x e f
+    kept_by p (Some d) (Some x) l e f = (h p d x e f).1
 
-    pub kept_at : {N : Type 0} (name : D → N) (ds : List D) → ds ≡ now → map name now ≡ map name old → (p : ℕ)
-        → (at_place told [] (slice_get ds p) ≡ at_place told [] (slice_get old p))
-        × (at_place room 0 (slice_get old p) ≤ at_place room 0 (slice_get ds p))
-    kept_at name ds e m p =
-        subst (λ xs. (at_place told [] (slice_get xs p) ≡ at_place told [] (slice_get old p))
-        × (at_place room 0 (slice_get old p) ≤ at_place room 0 (slice_get xs p))) (sym e)
-        (kept_by p (slice_get old p) (slice_get now p) (sym (length-map now name) ∙ ap length m ∙ length-map old name) refl refl)
+    module _ {N : Type 0} (name : D → N) (ds : List D) (e : ds ≡ now) (m : map name now ≡ map name old) where
+      as_long : length now ≡ length old
+      as_long = sym (length-map now name) ∙ ap length m ∙ length-map old name
+
+      pub room_kept : (p : ℕ) → at_place room 0 (slice_get old p) ≤ at_place room 0 (slice_get ds p)
+      room_kept p =
+          subst (λ xs. at_place room 0 (slice_get old p) ≤ at_place room 0 (slice_get xs p)) (sym e)
+          (kept_by p (slice_get old p) (slice_get now p) as_long refl refl)
+
+      pub told_kept : map told ds ≡ map told old
+      told_kept = ap (map told) e ∙ same_told told old now as_long (λ p d x f g. (h p d x f g).0)
 
   -- ---- of these notices, so many are left to be told
 
@@ -187,16 +226,7 @@ module _ {D : Type 0} where
     told_last now [] g z p d e f h = sym (append-nil (told e)) ∙ (g.heard p d e f h).0
     told_last now (x ∷ rest) g z p d e f h = absurd (omega (arith, z))
 
-    last_by : (now : List D) (left : List Notice) (p : ℕ) (o n : Option D) → TellsOn now left → length left ≡ 0 → p < length old
-        → slice_get old p ≡ o → slice_get now p ≡ n
-        → at_place told [] n ≡ at_place told [] o ++ heard_by w all p
-    last_by now left p None n g z l e f = absurd (not_there old p l e)
-    last_by now left p (Some d) None g z l e f =
-        let m : length now ≡ length old = sym (length-map now name) ∙ ap length g.names ∙ length-map old name in absurd
-        (not_there now p (omega (arith, l, m)) f)
-    last_by now left p (Some d) (Some x) g z l e f = told_last now left g z p d x e f
-
-    pub tells_on_last : (now : List D) (left : List Notice) → TellsOn now left → length left ≡ 0 → (p : ℕ) → p < length (map name old)
-        → at_place told [] (slice_get now p) ≡ at_place told [] (slice_get old p) ++ heard_by w all p
-    tells_on_last now left g z p l = let e : length (map name old) ≡ length old = length-map old name in last_by now left p
-        (slice_get old p) (slice_get now p) g z (omega (arith, l, e)) refl refl
+    pub tells_on_last : (now : List D) (left : List Notice) → TellsOn now left → length left ≡ 0 → map told now ≡ heard_after w all (map told old)
+    tells_on_last now left g z =
+        all_told told w all 0 old now (sym (length-map now name) ∙ ap length g.names ∙ length-map old name)
+        (λ p d e f h. let n : p ≡ 0 + p = omega arith in told_last now left g z p d e f h ∙ ap (λ k. told d ++ heard_by w all k) n)

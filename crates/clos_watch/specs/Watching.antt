@@ -73,3 +73,12 @@ times_told w (x ∷ xs) n = if hears w x n then suc (times_told w xs n) else tim
 abbrev pub heard_by : Watching → List Notice → ℕ → List Notice
 heard_by w [] n = []
 heard_by w (x ∷ xs) n = if hears w x n then x ∷ heard_by w xs n else heard_by w xs n
+
+-- what each has heard after these notices, where this is what each had heard; the first list is that of the dependent at this place
+abbrev pub heard_from : Watching → List Notice → ℕ → List (List Notice) → List (List Notice)
+heard_from w xs n [] = []
+heard_from w xs n (h ∷ hs) = (h ++ heard_by w xs n) ∷ heard_from w xs (suc n) hs
+
+-- by their places
+abbrev pub heard_after : Watching → List Notice → List (List Notice) → List (List Notice)
+heard_after w xs hs = heard_from w xs 0 hs

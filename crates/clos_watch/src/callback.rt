@@ -1,5 +1,5 @@
-//! A dependent that calls a box.
-ghost use Rattle.std.specs.Prelude.{◌≡◌, ℕ, ℤ, [], true, length};
+//! A dependent that answers.
+ghost use Rattle.std.specs.Prelude.{◌≡◌, ℤ, [], true, length};
 ghost use Rattle.std.specs.List.{list_all};
 ghost use Rattle.clos_watch.specs.Answers.{is_within, least};
 
@@ -8,56 +8,49 @@ use crate::notice::Notice;
 use crate::reserved::Reserved;
 use std::alloc::{AllocError, Global};
 
-/// What answers to notices.
-pub type Listener = Box<dyn Fn(&Notice) -> i64>;
+/// What answers to notices, with a number within its bounds.
+pub trait Listener: Drop {
+    ghost lo: { Self → ℤ };
 
-/// Keeps what it hears, and what a box answers to each notice. All answers are within its bounds.
-#[derive(Drop)]
-pub struct Callback {
-    lo: i64,
-    hi: i64,
-    listener: Listener,
-    heard: Reserved<Notice>,
-    answers: Reserved<i64>,
-    ghost callable: { (notice : _) → Listener.pre listener notice },
-    ghost bounded: { (notice : _) (answer : _) → Listener.post listener notice answer → is_within lo hi answer ≡ true },
-    ghost each: { (length answers.items ≡ length heard.items) × (list_all (is_within lo hi) answers.items ≡ true) },
+    ghost hi: { Self → ℤ };
+
+    /// The answer to a notice.
+    fn answer(&self, notice: &Notice) -> i64
+        ensures { is_within (lo self.now) (hi self.now) result ≡ true };
 }
 
-impl Callback {
-    /// One that heard nothing, and calls this box, which may be called on each notice and answers within these bounds.
-    pub fn new(alloc: Global, lo: i64, hi: i64, listener: Listener) -> Callback
-        requires callable { (notice : _) → Listener.pre listener notice }
-        requires bounded { (notice : _) (answer : _) → Listener.post listener notice answer → is_within lo hi answer ≡ true }
-        ensures { (result.heard.items ≡ []) × (result.answers.items ≡ []) × (result.lo ≡ lo) × (result.hi ≡ hi) }
+/// Keeps what it hears, and what a listener answers to each notice. All answers are within the bounds of the listener.
+#[derive(Drop)]
+pub struct Callback<L: Listener> {
+    listener: L,
+    heard: Reserved<Notice>,
+    answers: Reserved<i64>,
+    ghost each: { (length answers.items ≡ length heard.items) × (list_all (is_within (L.lo listener) (L.hi listener)) answers.items ≡ true) },
+}
+
+impl<L: Listener> Callback<L> {
+    /// One that heard nothing, and has this listener answer.
+    pub fn new(alloc: Global, listener: L) -> Callback<L>
+        ensures { (result.heard.items ≡ []) × (result.answers.items ≡ []) × (result.listener ≡ listener) }
     {
         Callback {
-            lo,
-            hi,
             listener,
             heard: Reserved::new(alloc),
             answers: Reserved::new(alloc),
         }
     }
 
-    /// What the box answers to a notice.
-    fn answer(&self, notice: &Notice) -> i64
-        ensures { is_within self.now.lo self.now.hi result ≡ true }
-    {
-        (self.listener)(notice)
-    }
-
-    /// What the box answered, one answer for each notice, in order.
+    /// What the listener answered, one answer for each notice, in order.
     pub fn answers(&self) -> &[i64]
         ensures answers { result.now ≡ self.now.answers.items }
         ensures each { length result.now ≡ length self.now.heard.items }
-        ensures within { list_all (is_within self.now.lo self.now.hi) result.now ≡ true }
+        ensures within { list_all (is_within (L.lo self.now.listener) (L.hi self.now.listener)) result.now ≡ true }
     {
         self.answers.as_slice()
     }
 }
 
-impl Dependent for Callback {
+impl<L: Listener> Dependent for Callback<L> {
     ghost told = { λ it. it.heard.items };
 
     ghost room = { λ it. least it.heard.room it.answers.room };
@@ -68,7 +61,7 @@ impl Dependent for Callback {
     }
 
     fn tell(&mut self, notice: &Notice) -> i64 {
-        let answer = self.answer(notice);
+        let answer = self.listener.answer(notice);
         self.heard.push(*notice);
         self.answers.push(answer);
         answer

@@ -12,7 +12,8 @@ mod watchers;
 
 pub use callback::{Callback, Listener};
 pub use dependent::Dependent;
-pub use dependents::Dependents;
+pub use dependents::{Dependents, place_of};
 pub use notice::{Metaobject, Notice};
 pub use recorder::Recorder;
+pub use reserved::Reserved;
 pub use watchers::{Handed, Watchers};

@@ -1,5 +1,5 @@
 //! A list with places that are reserved in it.
-ghost use Rattle.std.specs.Prelude.{◌≡◌, ◌<◌, ◌≤◌, ◌∷◌, ◌++◌, suc, [], OnOk};
+ghost use Rattle.std.specs.Prelude.{◌≡◌, ◌<◌, ◌≤◌, ◌∷◌, ◌++◌, suc, [], OnOk, length};
 
 use std::alloc::{AllocError, Global};
 use std::marker::Model;
@@ -55,6 +55,13 @@ impl<T: Drop> Reserved<T> {
     {
         self.room -= 1;
         let _ = self.items.push(item);
+    }
+
+    /// How many stand in it.
+    pub fn len(&self) -> usize
+        ensures { result ≡ length self.now.items }
+    {
+        self.items.len()
     }
 
     /// What stands in it.

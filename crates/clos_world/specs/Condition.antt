@@ -2,7 +2,7 @@
 use Rattle.std.specs.Prelude.{ℕ, List, false, codes}
 use Rattle.lisp_data.specs.Name.{Name}
 use Rattle.clos_world.specs.declared.condition.ConditionKind.{ConditionKind}
-use Rattle.clos_world.specs.declared.condition.ConditionKind.TheVariants.{ProgramError, UnboundVariable, UndefinedFunction, TypeError, IntegerRange, DivisionByZero, UndefinedClass, InvalidSuperclass, InconsistentPrecedence, SuperclassCycle, IncompleteClass, LambdaListCongruence, UndefinedCombination, NoApplicableMethod, RequiredGroupEmpty, InvalidMethod, AmbiguousMethods, BadExpansion, ExpansionLimit, NoNextMethod, NextArguments, UnboundSlot, MissingSlot, InvalidInitarg, UnknownNative, NoSuchMethod, Unsupported, StepLimit, DepthLimit, TableLimit}
+use Rattle.clos_world.specs.declared.condition.ConditionKind.TheVariants.{ProgramError, UnboundVariable, UndefinedFunction, TypeError, IntegerRange, DivisionByZero, UndefinedClass, InvalidSuperclass, InconsistentPrecedence, SuperclassCycle, IncompleteClass, LambdaListCongruence, UndefinedCombination, NoApplicableMethod, RequiredGroupEmpty, InvalidMethod, AmbiguousMethods, BadExpansion, ExpansionLimit, NoNextMethod, NextArguments, UnboundSlot, MissingSlot, InvalidInitarg, UnknownNative, UnknownDependent, NoSuchMethod, Unsupported, StepLimit, DepthLimit, TableLimit}
 
 abbrev pub number_of : ConditionKind → ℕ
 number_of ProgramError = 1
@@ -30,6 +30,7 @@ number_of UnboundSlot = 22
 number_of MissingSlot = 23
 number_of InvalidInitarg = 24
 number_of UnknownNative = 25
+number_of UnknownDependent = 26
 number_of NoSuchMethod = 27
 number_of Unsupported = 28
 number_of StepLimit = 29
@@ -62,6 +63,7 @@ condition_name UnboundSlot = codes "UNBOUND-SLOT"
 condition_name MissingSlot = codes "MISSING-SLOT"
 condition_name InvalidInitarg = codes "INVALID-INITARG"
 condition_name UnknownNative = codes "UNKNOWN-NATIVE"
+condition_name UnknownDependent = codes "UNKNOWN-DEPENDENT"
 condition_name NoSuchMethod = codes "NO-SUCH-METHOD"
 condition_name Unsupported = codes "UNSUPPORTED"
 condition_name StepLimit = codes "STEP-LIMIT"

@@ -1,3 +1,4 @@
+pub mod Hearing
 pub mod Limits
 pub mod Values
 pub mod Class
@@ -18,3 +19,4 @@ pub use Rattle.clos_method.specs as clos_method
 pub use Rattle.clos_generic.specs as clos_generic
 pub use Rattle.clos_comb.specs as clos_comb
 pub use Rattle.clos_lambda.specs as clos_lambda
+pub use Rattle.clos_watch.specs as clos_watch

@@ -15,6 +15,7 @@ use Rattle.clos_hierarchy.specs.Initial.{number, class_of_class}
 use Rattle.clos_class.specs.Table.{Table}
 use Rattle.clos_store.specs.Store.{Contents}
 use Rattle.clos_store.specs.Store as store
+use Rattle.clos_world.specs.Hearing.{Hearing, hearing_of}
 use Rattle.clos_world.specs.Class.{class_name}
 
 -- what a lexical name denotes: a variable that holds a value (3.1.2.1.1), or the slot of this name of an object (7.7 with-slots)
@@ -33,6 +34,7 @@ pub record State : Type 0 where
   pub functions : List (Name × Function)  -- by symbols, in order of definition
   pub setters : List (Name × Function)  -- the functions (setf name), by that name
   pub globals : Variables  -- in order of definition
+  pub hearing : Hearing  -- the dependents of classes and generic functions, and the notices of all changes
   pub store : Contents  -- the instances, and the cells of shared slots
   pub written : List ℕ
   pub limits : Limits
@@ -47,6 +49,7 @@ seen w = record {
   functions = w.functions;
   setters = w.setters;
   globals = w.globals;
+  hearing = hearing_of w.hearing;
   store = w.objects.contents;
   written = w.written.items;
   limits = w.limits;

@@ -6,6 +6,7 @@ pub mod dispatch;
 pub mod function_name;
 pub mod functions;
 pub mod globals;
+pub mod hearing;
 pub mod limits;
 pub mod values;
 pub mod world;
@@ -20,6 +21,7 @@ pub use condition::{
 pub use function_name::{called_value, setter_value};
 pub use functions::{Function, Functions};
 pub use globals::Globals;
+pub use hearing::Hearing;
 pub use limits::Limits;
 pub use values::Values;
 pub use world::World;

@@ -8,6 +8,7 @@ ghost use Rattle.clos_world.specs.World.{seen, class_of, class_of_instance, name
 
 use crate::functions::Functions;
 use crate::globals::Globals;
+use crate::hearing::Hearing;
 use crate::limits::Limits;
 use clos_class::Classes;
 use clos_comb::{Combinations, Meter};
@@ -34,15 +35,17 @@ pub struct World {
     /// The functions `(setf name)`, by that name.
     pub setters: Functions,
     pub globals: Globals,
+    /// The dependents of classes and generic functions, and the notices of all changes.
+    pub hearing: Hearing,
     /// What forms wrote.
     pub written: Vec<u8>,
     pub limits: Limits,
 }
 
 impl World {
-    /// The tables of a session that begins, under these limits.
-    pub fn new(alloc: Global, limits: Limits) -> Result<World, AllocError>
-        ensures seen { IfOk result (λ r. seen r ≡ initial limits) }
+    /// The tables of a session that begins, under these limits, with dependents of these names.
+    pub fn new(alloc: Global, limits: Limits, dependents: Vec<Name>) -> Result<World, AllocError>
+        ensures seen { IfOk result (λ r. seen r ≡ initial limits dependents.items) }
         ensures meter { IfOk result (λ r. r.meter ≡ 0) }
     {
         let objects = Objects::new(alloc, limits.classes, limits.instances, limits.cells)?;
@@ -56,6 +59,7 @@ impl World {
             functions: Functions::new(alloc),
             setters: Functions::new(alloc),
             globals: Globals::new(alloc),
+            hearing: Hearing::new(alloc, dependents),
             written: Vec::new(alloc),
             limits,
         })

@@ -28,7 +28,7 @@ fn stored_functions_answer(rt: HostRuntime) -> Result<(), Fail> {
     natives.push(affine)?;
     natives.push(low)?;
     let words = settings(alloc, &["clos"])?;
-    let mut session = Session::new(alloc, limits(&words), natives)?;
+    let mut session = Session::new(alloc, limits(&words), natives, Vec::new(alloc))?;
     let mut text =
         "(princ (list (native-call 'affine 1 2) (native-call 'affine 1000 0) (native-call 'low 23)))
 (princ (native-call 'affine -9223372036854775808 9223372036854775807))"

@@ -82,7 +82,7 @@ fn status<R: Files + AllocGlobal, I: Read, O: Write>(
 ) -> Result<u8, Fail> {
     let alloc = rt.alloc();
     let settings = settings(alloc, words)?;
-    let mut session = Session::new(alloc, limits(&settings), Vec::new(alloc))?;
+    let mut session = Session::new(alloc, limits(&settings), Vec::new(alloc), Vec::new(alloc))?;
     Ok(program(rt, alloc, &mut session, &settings, input, output, errors))
 }
 

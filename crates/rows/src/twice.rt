@@ -3,7 +3,7 @@
 //! Where an allocation is refused in the first session, at most one of its replies tells of it, with the steps that its form
 //! had taken. The second session gives that form so many steps and all others their limit: then it writes the same, and its
 //! other replies are the same.
-use clos_system::{Limits, Native, Natives, Reply, Session};
+use clos_system::{Dependents, Handed, Limits, Native, Natives, Reply, Session};
 use lisp_data::{Datum, Value, equal};
 use lisp_reader::{ReadFault, read_form};
 use std::alloc::{AllocError, Global};
@@ -33,8 +33,8 @@ enum Outcome {
 
 /// A session that has performed the script, and its replies.
 #[derive(Drop)]
-struct Performance<N: Natives> {
-    session: Session<N>,
+struct Performance<N: Natives, D: Dependents> {
+    session: Session<N, D>,
     replies: Vec<Reply>,
 }
 
@@ -71,7 +71,11 @@ fn steps_at(cut: Option<Cut>, place: usize) -> Option<u64> {
     }
 }
 
-fn reply_to<N: Natives>(session: &mut Session<N>, datum: &Datum, steps: Option<u64>) -> Reply {
+fn reply_to<N: Natives, D: Dependents>(
+    session: &mut Session<N, D>,
+    datum: &Datum,
+    steps: Option<u64>,
+) -> Reply {
     match steps {
         Some(steps) => session.submit_within(datum, steps),
         None => session.submit(datum),
@@ -79,8 +83,8 @@ fn reply_to<N: Natives>(session: &mut Session<N>, datum: &Datum, steps: Option<u
 }
 
 /// Performs a script in which the form at the cut may take so many steps, and adds the replies.
-fn perform_all<N: Natives>(
-    performance: &mut Performance<N>,
+fn perform_all<N: Natives, D: Dependents>(
+    performance: &mut Performance<N, D>,
     script: &[Datum],
     cut: Option<Cut>,
 ) -> Result<(), AllocError> {
@@ -92,16 +96,17 @@ fn perform_all<N: Natives>(
     Ok(())
 }
 
-/// A session with these stored functions that performs a script, where the program first allocates so many times.
-fn perform<N: Natives>(
+/// A session with these stored functions and dependents that performs a script, where the program first allocates so many times.
+fn perform<N: Natives, D: Dependents>(
     alloc: Global,
     natives: N,
+    dependents: D,
     script: &[Datum],
     cut: Option<Cut>,
     times: u64,
-) -> Result<Performance<N>, AllocError> {
+) -> Result<Performance<N, D>, AllocError> {
     let mut performance = Performance {
-        session: Session::new(alloc, Limits::default(), natives)?,
+        session: Session::new(alloc, Limits::default(), natives, dependents)?,
         replies: Vec::new(alloc),
     };
     performance.replies.reserve(script.len())?;
@@ -155,15 +160,19 @@ fn agree(replies: &[Reply], others: &[Reply], cut: Option<Cut>) -> bool {
 }
 
 /// Whether two sessions came to the same, but for the reply at the cut.
-fn is_alike<N: Natives>(first: &Performance<N>, second: &Performance<N>, cut: Option<Cut>) -> bool {
+fn is_alike<N: Natives, D: Dependents>(
+    first: &Performance<N, D>,
+    second: &Performance<N, D>,
+    cut: Option<Cut>,
+) -> bool {
     first.session.written() == second.session.written()
         && agree(first.replies.as_slice(), second.replies.as_slice(), cut)
 }
 
 /// What came of two sessions, where neither is one that memory was refused for before its first form.
-fn outcome_of<N: Natives>(
-    first: &Performance<N>,
-    second: &Performance<N>,
+fn outcome_of<N: Natives, D: Dependents>(
+    first: &Performance<N, D>,
+    second: &Performance<N, D>,
     cut: Option<Cut>,
 ) -> Outcome {
     if cut_of(second.replies.as_slice()).is_some() {
@@ -177,14 +186,15 @@ fn outcome_of<N: Natives>(
 }
 
 /// Performs the script in a second session, and compares it with the first.
-fn compare_with<N: Natives>(
+fn compare_with<N: Natives, D: Dependents>(
     alloc: Global,
     natives: N,
+    dependents: D,
     script: &[Datum],
-    first: &Performance<N>,
+    first: &Performance<N, D>,
 ) -> Outcome {
     let cut = cut_of(first.replies.as_slice());
-    match &perform(alloc, natives, script, cut, 0) {
+    match &perform(alloc, natives, dependents, script, cut, 0) {
         Ok(second) => outcome_of(first, second, cut),
         Err(_) => Outcome::Later,
     }
@@ -194,10 +204,21 @@ fn none_stored(alloc: Global) -> Vec<Native> {
     Vec::new(alloc)
 }
 
+fn none_handed(alloc: Global) -> Vec<Handed> {
+    Vec::new(alloc)
+}
+
 /// Performs the script in two sessions, after so many allocations.
 fn compare(alloc: Global, script: &[Datum], times: u64) -> Outcome {
-    match &perform(alloc, none_stored(alloc), script, None, times) {
-        Ok(first) => compare_with(alloc, none_stored(alloc), script, first),
+    match &perform(
+        alloc,
+        none_stored(alloc),
+        none_handed(alloc),
+        script,
+        None,
+        times,
+    ) {
+        Ok(first) => compare_with(alloc, none_stored(alloc), none_handed(alloc), script, first),
         Err(_) => Outcome::Before,
     }
 }

@@ -1,4 +1,4 @@
-use Rattle.std.proofs.Common.{refl}
+use Rattle.std.proofs.Common.{refl, ◌∙◌}
 use Rattle.std.proofs.lemmas.Result.{err_from_is_err_and}
 use Rattle.clos_world.specs.World.{seen}
 use Rattle.clos_definition.specs.Class.{class_refusal}
@@ -30,3 +30,9 @@ pub returns-clause-effect : goal.returns-clause-effect
 returns-clause-effect c =
     effect_made c.args.definition.now (seen c.args.world.now) (seen c.reserve_class.new.world) c.in_ok-effect.effect c.in_ok-class.ensures.same c.in_ok-effect.ensures.changes
     c.in_ok-effect.ensures.methods
+
+pub returns-in_err-reserve_effect-clause-same : goal.returns-in_err-reserve_effect-clause-same
+returns-in_err-reserve_effect-clause-same c = c.in_err-reserve_effect.ensures.same ∙ c.in_ok-class.ensures.same
+
+pub returns-clause-same : goal.returns-clause-same
+returns-clause-same c = c.in_ok-reserve_effect.ensures.same ∙ c.in_ok-class.ensures.same

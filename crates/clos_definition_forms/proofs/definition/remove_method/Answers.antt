@@ -3,30 +3,52 @@ use Rattle.lisp_data.specs.Value.{Val}
 use Rattle.clos_machine.specs.clos_world.World.{seen}
 use Rattle.clos_machine.specs.Machine.{Answers}
 use Rattle.clos_definition_forms.specs.Definition.{values_removed}
-use Rattle.clos_definition_forms.proofs.Defining.{removal_forms_go_on, removal_forms_stop, removal_not_begun}
+use Rattle.clos_definition_forms.proofs.Defining.{two_go_on, two_not_begun, two_stop}
+use Rattle.clos_definition_forms.proofs.Hearing.{heard_with_values, unheard, unheard_before}
+use Rattle.clos_definition_forms.proofs.Quiet.{values_removed_quiet}
 use Rattle.clos_definition_forms.proofs.definition.remove_method.Goals as goal
 
-pub returns-in_default : goal.returns-in_default
-returns-in_default g c =
+pub returns-in_default-clause-answers : goal.returns-in_default-clause-answers
+returns-in_default-clause-answers g c =
     let host = g.N.Natives.host c.args.natives.now in
-    removal_not_begun host c.args.function c.args.method (seen c.args.world.now) (seen c.args.world.now) c.args.steps.now
-    c.args.answers.now.items c.args.answers.now.items refl
+    two_not_begun host c.args.function c.args.method values_removed values_removed_quiet (seen c.args.world.now) (seen c.args.world.now)
+    c.args.steps.now c.args.answers.now.items c.args.answers.now.items refl
 
-pub returns-in-Err : goal.returns-in-Err
-returns-in-Err g c =
+pub returns-in_default-clause-heard : goal.returns-in_default-clause-heard
+returns-in_default-clause-heard g c =
+    let told = g.D.Dependents.told c.args.dependents.now in unheard told told (seen c.args.world.now) (seen c.args.world.now) refl refl
+
+pub returns-in-Err-clause-answers : goal.returns-in-Err-clause-answers
+returns-in-Err-clause-answers g c =
     let evaluated = c.evaluate_forms.new in
-    removal_forms_stop (g.N.Natives.host c.args.natives.now) c.args.function c.args.method (seen c.args.world.now) (seen evaluated.world)
-    c.args.steps.now
-    c.args.answers.now.items evaluated.answers.items c.deref.result.now evaluated.steps c.in-Err.stop (c.deref.ensures.value
-    ∙ c.in-Ok.ensures) c.in-Err.ensures.stop
+    two_stop (g.N.Natives.host c.args.natives.now) c.args.function c.args.method values_removed values_removed_quiet (seen c.args.world.now)
+    (seen evaluated.world) c.args.steps.now c.args.answers.now.items evaluated.answers.items c.deref.result.now evaluated.steps c.in-Err.stop
+    (c.deref.ensures.value ∙ c.in-Ok.ensures) c.in-Err.ensures.stop
 
-pub returns : goal.returns
-returns g c =
+pub returns-in-Err-clause-heard : goal.returns-in-Err-clause-heard
+returns-in-Err-clause-heard g c =
+    let evaluated = c.evaluate_forms.new in
+    let told = g.D.Dependents.told c.args.dependents.now in
+    unheard_before told told (g.N.Natives.host c.args.natives.now) c.deref.result.now (seen c.args.world.now) (seen evaluated.world)
+    c.args.steps.now evaluated.steps c.args.answers.now.items evaluated.answers.items c.in-Err.stop refl c.in-Err.ensures.stop
+
+pub returns-clause-answers : goal.returns-clause-answers
+returns-clause-answers g c =
     let host = g.N.Natives.host c.args.natives.now in
-    removal_forms_go_on host c.args.function c.args.method (seen c.args.world.now) (seen c.evaluate_forms.new.world) c.args.steps.now
-    c.args.answers.now.items c.evaluate_forms.new.answers.items
-    c.deref.result.now c.evaluate_forms.new.steps c.in-Ok-evaluate_forms.values.items c.remove_evaluated.result
-    (seen c.remove_evaluated.new.world) c.remove_evaluated.new.steps
+    let evaluated = c.evaluate_forms.new in
+    let removed = c.remove_evaluated.new in
+    two_go_on host c.args.function c.args.method values_removed values_removed_quiet (seen c.args.world.now) (seen evaluated.world)
+    c.args.steps.now c.args.answers.now.items evaluated.answers.items
+    c.deref.result.now evaluated.steps c.in-Ok-evaluate_forms.values.items c.remove_evaluated.result (seen removed.world) removed.steps
     (c.deref.ensures.value ∙ c.in-Ok.ensures) c.in-Ok-evaluate_forms.ensures.values
-    (subst (λ (l : List (Option Val)). Answers (values_removed l) (seen c.evaluate_forms.new.world) c.evaluate_forms.new.steps c.remove_evaluated.result
-    (seen c.remove_evaluated.new.world) c.remove_evaluated.new.steps) c.deref-in-Ok-evaluate_forms.ensures.value c.remove_evaluated.ensures)
+    (subst (λ (l : List (Option Val)). Answers (values_removed l) (seen evaluated.world) evaluated.steps c.remove_evaluated.result
+    (seen removed.world) removed.steps) c.deref-in-Ok-evaluate_forms.ensures.value c.remove_evaluated.ensures.answers)
+
+pub returns-clause-heard : goal.returns-clause-heard
+returns-clause-heard g c =
+    let evaluated = c.evaluate_forms.new in
+    heard_with_values (g.D.Dependents.told c.args.dependents.now) (g.D.Dependents.told c.remove_evaluated.new.dependents)
+    (g.N.Natives.host c.args.natives.now) c.deref.result.now (seen c.args.world.now) (seen evaluated.world)
+    (seen c.remove_evaluated.new.world)
+    c.args.steps.now evaluated.steps c.args.answers.now.items evaluated.answers.items c.in-Ok-evaluate_forms.values.items
+    c.in-Ok-evaluate_forms.ensures.values c.remove_evaluated.ensures.heard

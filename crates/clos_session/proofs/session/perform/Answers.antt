@@ -1,14 +1,23 @@
-use Rattle.std.proofs.Common.{Err, arith}
+use Rattle.std.proofs.Common.{Err, arith, refl}
 use Rattle.lisp_data.specs.DatumView.{datum_of}
 use Rattle.clos_definition_forms.specs.clos_world.World.{seen}
 use Rattle.clos_definition_forms.specs.clos_world.declared.condition.Stop.TheVariants.{Storage}
 use Rattle.clos_definition_forms.proofs.clos_machine.Answering.{answers_with}
+use Rattle.clos_definition_forms.proofs.Hearing.{unheard}
 use Rattle.clos_session.specs.Step.{step}
 use Rattle.clos_session.proofs.StepQuiet.{step_quiet}
 use Rattle.clos_session.proofs.session.perform.Goals as goal
 
-pub returns-in-Err-Memory : goal.returns-in-Err-Memory
-returns-in-Err-Memory g c =
+pub returns-in-Err-Memory-clause-answers : goal.returns-in-Err-Memory-clause-answers
+returns-in-Err-Memory-clause-answers g c =
     answers_with (g.N.Natives.host c.args.natives.now) (step (datum_of c.args.datum.now)) (seen c.args.world.now) c.args.steps.now
     c.args.answers.now.items
     (Err Storage) (seen c.args.world.now) c.args.steps.now (0, omega arith, step_quiet (datum_of c.args.datum.now) c.args.world.now)
+
+pub returns-in-Err-Memory-clause-heard : goal.returns-in-Err-Memory-clause-heard
+returns-in-Err-Memory-clause-heard g c =
+    let told = g.D.Dependents.told c.args.dependents.now in unheard told told (seen c.args.world.now) (seen c.args.world.now) refl refl
+
+pub returns-in-Err-Program-clause-heard : goal.returns-in-Err-Program-clause-heard
+returns-in-Err-Program-clause-heard g c =
+    let told = g.D.Dependents.told c.args.dependents.now in unheard told told (seen c.args.world.now) (seen c.args.world.now) refl refl

@@ -18,6 +18,7 @@ returns-in_default-clause-fails g c =
           subst (λ s. AnswersWith (g.N.Natives.host old.natives) (step (datum_of c.args.datum)) (state_of old) s (answers_of old)
           c.perform-answer.result (state_of new.self) new.steps (answers_of new.self))
           (ap (λ (w : State). w.limits.steps) c.world.ensures) c.perform-answer.ensures.answers;
+      heard = c.perform-answer.ensures.heard;
     }
 
 pub returns-then-is_err-clause-fails : goal.returns-then-is_err-clause-fails
@@ -31,6 +32,7 @@ returns-then-is_err-clause-fails g c =
           subst (λ s. AnswersWith (g.N.Natives.host old.natives) (step (datum_of c.args.datum)) (state_of old) s (answers_of old)
           c.perform-answer.result (state_of new.self) new.steps (answers_of new.self))
           (ap (λ (w : State). w.limits.steps) c.world.ensures) c.perform-answer.ensures.answers;
+      heard = c.perform-answer.ensures.heard;
     }
 
 pub returns-clause-performs : goal.returns-clause-performs
@@ -46,6 +48,7 @@ returns-clause-performs g c =
           subst (λ s. AnswersWith (g.N.Natives.host old.natives) (step (datum_of c.args.datum)) (state_of old) s (answers_of old)
           c.perform-answer.result (state_of new.self) new.steps (answers_of new.self))
           (ap (λ (w : State). w.limits.steps) c.world.ensures) c.perform-answer.ensures.answers;
+      heard = c.perform-answer.ensures.heard;
       counts = c.counted-counts.ensures.counts;
       piece = c.in-Ok.piece.items;
       appends = search rules;

@@ -23,7 +23,7 @@ loop-found-preserved g c =
     let lt : c.loop-found.at < c.in-Ok-Some.found.1 = rw c.in-Ok-Some.field-0-is at c.in-Ok-Some.ensures.advances in
     stands_on (g.N.Natives.host c.args.session.now.natives) (g.N.Natives.host c.loop-found.session.natives)
     (g.N.Natives.host c.run_form.new.session.natives) c.args.echo c.args.text.now
-    (standing_of c.args.session.now) (standing_of c.loop-found.session) (standing_of c.run_form.new.session)
+    (standing_of (g.D.Dependents.told c.args.session.now.dependents) c.args.session.now) (standing_of (g.D.Dependents.told c.loop-found.session.dependents) c.loop-found.session) (standing_of (g.D.Dependents.told c.run_form.new.session.dependents) c.run_form.new.session)
     (g.W.Write.contents c.args.writer.now) (g.W.Write.contents c.loop-found.writer) (g.W.Write.contents c.run_form.new.writer)
     c.loop-found.at c.in-Ok-Some.found.1 c.loop-found.summary c.in-Ok.told.0 c.loop-found.fresh c.in-Ok.told.1 (datum_of c.in-Ok-Some.found.0)
     c.loop-found.invariant c.in-Ok.ensures.host h.1 lt h.0 c.in-Ok.ensures.performs c.in-Ok.ensures.few.0 c.in-Ok.ensures.few.1
@@ -33,7 +33,7 @@ pub returns-in-Err-run_form-clause-faults : goal.returns-in-Err-run_form-clause-
 returns-in-Err-run_form-clause-faults g c =
     let h : Answers c.args.text.now c.loop-found.at (Ok (Some c.in-Ok-Some.found)) = rw c.in-Ok-Some.field-0-is at c.in-Ok-Some.ensures.answer in
     fails_after (g.N.Natives.host c.args.session.now.natives) (g.N.Natives.host c.loop-found.session.natives) c.args.echo c.args.text.now
-    (standing_of c.args.session.now) (standing_of c.loop-found.session) (standing_of c.run_form.new.session)
+    (standing_of (g.D.Dependents.told c.args.session.now.dependents) c.args.session.now) (standing_of (g.D.Dependents.told c.loop-found.session.dependents) c.loop-found.session) (standing_of (g.D.Dependents.told c.run_form.new.session.dependents) c.run_form.new.session)
     (g.W.Write.contents c.args.writer.now) (g.W.Write.contents c.loop-found.writer) (g.W.Write.contents c.run_form.new.writer)
     c.loop-found.at c.in-Ok-Some.found.1 c.loop-found.summary c.loop-found.fresh (datum_of c.in-Ok-Some.found.0) c.in-Err-run_form.fault
     c.loop-found.invariant h.1 c.in-Err-run_form.ensures.fails

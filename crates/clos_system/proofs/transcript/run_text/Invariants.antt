@@ -5,8 +5,8 @@ use Rattle.clos_system.proofs.transcript.run_text.Given as goal
 
 abbrev pub invariant-loop-found : goal.invariant-loop-found
 invariant-loop-found g l =
-    Stands (g.N.Natives.host l.fn.session.natives) (g.N.Natives.host l.session.natives) l.echo l.text (standing_of l.fn.session)
-    (standing_of l.session)
+    Stands (g.N.Natives.host l.fn.session.natives) (g.N.Natives.host l.session.natives) l.echo l.text (standing_of (g.D.Dependents.told l.fn.session.dependents) l.fn.session)
+    (standing_of (g.D.Dependents.told l.session.dependents) l.session)
     (g.W.Write.contents l.fn.writer) (g.W.Write.contents l.writer) l.at l.summary l.fresh
 
 abbrev pub decreases-loop-found : goal.decreases-loop-found

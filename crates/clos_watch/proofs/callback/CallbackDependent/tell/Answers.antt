@@ -5,9 +5,7 @@ use Rattle.clos_watch.proofs.callback.CallbackDependent.tell.Goals as goal
 
 pub invariant_of-self : goal.invariant_of-self
 invariant_of-self g c = record {
-  callable = c.args.self.now.callable;
-  bounded = c.args.self.now.bounded;
-  each = each_now c.args.self.now.lo c.args.self.now.hi c.args.self.now.answers.items c.push-2.new.self.items c.args.self.now.heard.items c.push.new.self.items c.answer-answer.result c.args.notice.now
+  each = each_now (g.L.Listener.lo c.args.self.now.listener) (g.L.Listener.hi c.args.self.now.listener) c.args.self.now.answers.items c.push-2.new.self.items c.args.self.now.heard.items c.push.new.self.items c.answer-answer.result c.args.notice.now
       (c.push-2.ensures.items ∙ ap (λ v. c.args.self.now.answers.items ++ v ∷ []) (to_z-of_z w64 c.answer-answer.result (search rules))) c.push.ensures.items
       c.args.self.now.each c.answer-answer.ensures;
 }

@@ -1,0 +1,84 @@
+-- The forms that a definition evaluates define nothing.
+use Rattle.std.proofs.Common.{ℕ, ◌+◌, ◌++◌, List, [], ◌∷◌, Option, Some, None, Bool, true, false, refl, subst}
+use Rattle.std.specs.Prelude.{⊤, ℤ, option_map, if◌then◌else◌}
+use Rattle.lisp_data.specs.Value.{Val, list, nil}
+use Rattle.clos_forms.specs.Form.{Form}
+use Rattle.clos_machine.specs.clos_world.Definitions.{Same}
+use Rattle.clos_machine.specs.clos_world.World.{State}
+use Rattle.clos_machine.specs.clos_world.declared.condition.Stop.{Stop}
+use Rattle.clos_machine.specs.clos_world.declared.condition.Stop.TheVariants.{Refused, Storage}
+use Rattle.clos_machine.specs.clos_meaning.Host.{Host, answered_by, may_answer}
+use Rattle.clos_machine.specs.clos_meaning.Meaning.{evaluation}
+use Rattle.clos_machine.specs.clos_meaning.Outcome.{Asked, End, Given, Looked, Noted, Out, Gave, Signalled, Stopped, Run, ends_in, then_do}
+use Rattle.clos_machine.proofs.clos_meaning.Kept.{SameAfter, evaluation_kept, same, shifted}
+use Rattle.clos_definition_forms.specs.Forms.{EndsBefore, GoesOn, form_evaluated, forms_evaluated}
+use Rattle.clos_definition_forms.specs.Variable.{room_below}
+
+-- ---- forms, and then what defines nothing
+
+then_same : (w : State) (o : Out) (go : Val → Run) → SameAfter w o → ((v : Val) (u : State) (j : ℕ) → SameAfter u (go v u j)) → SameAfter w (then_do o go)
+then_same w (Gave v u j) go h g = shifted w u (go v u j) h (g v u j)
+then_same w (Stopped c u j) go h g = h
+then_same w (Noted n o) go h g = then_same w o go h g
+then_same w (Looked name more) go h g = λ n. then_same w (more n) go (h n) g
+then_same w (Asked name xs more) go h g = λ x. then_same w (more x) go (h x) g
+
+form_same : (o : Option Form) (go : Option Val → Run) (w : State) (k : ℕ) → ((v : Option Val) (u : State) (j : ℕ) → SameAfter u (go v u j))
+    → SameAfter w (form_evaluated o go w k)
+form_same None go w k g = g None w k
+form_same (Some f) go w k g =
+    then_same w (evaluation (room_below w) f w k) (λ v. go (Some v)) (evaluation_kept (room_below w) f w k) (λ v u j. g (Some v) u j)
+
+forms_same : (fs : List (Option Form)) (vs : List (Option Val)) (go : List (Option Val) → Run) (w : State) (k : ℕ)
+    → ((us : List (Option Val)) (u : State) (j : ℕ) → SameAfter u (go us u j))
+    → SameAfter w (forms_evaluated fs vs go w k)
+forms_same [] vs go w k g = g vs w k
+forms_same (f ∷ fs) vs go w k g =
+    form_same f (λ v. forms_evaluated fs (vs ++ v ∷ []) go) w k (λ v u j. forms_same fs (vs ++ v ∷ []) go u j g)
+
+-- ---- as it ends with the answers that came
+
+abbrev ends_same : State → Option End → Type 0
+ends_same w None = ⊤
+ends_same w (Some (Given v u k)) = Same w u
+ends_same w (Some (Signalled c u k)) = Same w u
+
+if_permitted : (w : State) (b : Bool) (o : Option End) → ends_same w o → ends_same w (if b then o else None)
+if_permitted w true o h = h
+if_permitted w false o h = tt
+
+answered_same : (host : Host) (w : State) (o : Out) (xs : List ℤ) → SameAfter w o → ends_same w (answered_by host o xs)
+answered_same host w (Gave v u k) [] h = h
+answered_same host w (Gave v u k) (x ∷ xs) h = tt
+answered_same host w (Stopped c u k) [] h = h
+answered_same host w (Stopped c u k) (x ∷ xs) h = tt
+answered_same host w (Noted n o) xs h = answered_same host w o xs h
+answered_same host w (Looked name more) xs h = answered_same host w (more (option_map (λ f. f.takes) (host name))) xs
+    (h (option_map (λ f. f.takes) (host name)))
+answered_same host w (Asked name ys more) [] h = tt
+answered_same host w (Asked name ys more) (x ∷ xs) h =
+    if_permitted w (may_answer (host name) ys x) (answered_by host (more x) xs) (answered_same host w (more x) xs (h x))
+
+left_same : (w u : State) (e : End) → ends_same w (Some e) → ends_in e u 0 → Same w u
+left_same w u (Given v x j) h g = subst (Same w) g.0 h
+left_same w u (Signalled c x j) h g = subst (Same w) g.0 h
+
+-- ---- the forms by themselves
+
+-- nothing follows
+abbrev nothing_more : List (Option Val) → Run
+nothing_more vs w k = Gave (list nil) w k
+
+module _ (host : Host) (fs : List (Option Form)) (w u : State) (s k : ℕ) (past past' : List ℤ) where
+  by_themselves : (j : ℕ) (xs : List ℤ) → ends_same w (answered_by host (forms_evaluated fs [] nothing_more w j) xs)
+  by_themselves j xs =
+      answered_same host w (forms_evaluated fs [] nothing_more w j) xs (forms_same fs [] nothing_more w j (λ vs v i. same v))
+
+  pub evaluated_same : (vs : List (Option Val)) → GoesOn host (forms_evaluated fs []) w s past vs u k past' → Same w u
+  evaluated_same vs h = subst (ends_same w) (h.4 nothing_more 0 []) (by_themselves (h.0 + 0) (h.1 ++ []))
+
+  pub stopped_same : (stop : Stop) → EndsBefore host (forms_evaluated fs []) w s past stop u k past' → Same w u
+  stopped_same (Refused c) h = subst (ends_same w) (h.2 nothing_more) (by_themselves s h.0)
+  stopped_same Storage h =
+      let y = h.4 nothing_more (λ vs. (refl, refl)) in
+      left_same w u y.0 (subst (ends_same w) y.1 (by_themselves h.0 h.1)) y.2

@@ -1,0 +1,8 @@
+use Rattle.std.proofs.Common.{refl}
+use Rattle.clos_machine.specs.clos_world.World.{seen}
+use Rattle.clos_definition_forms.proofs.Hearing.{unheard}
+use Rattle.clos_definition_forms.proofs.definition.defmethod.Goals as goal
+
+pub returns-in-Err-clause-heard : goal.returns-in-Err-clause-heard
+returns-in-Err-clause-heard g c =
+    let told = g.D.Dependents.told c.args.dependents.now in unheard told told (seen c.args.world.now) (seen c.args.world.now) refl refl
