@@ -4,8 +4,8 @@
 use clap::error::ErrorKind;
 use clos_command_line::Settings;
 use clos_program::{
-    Callback, Dependent, Fault, KindNumber, Native, Recorder, Relation, STATUS_DONE, STATUS_FAULT,
-    STATUS_USAGE, Session, affine, limits, low, program, reads_input, report,
+    Callback, Dependent, Fault, KindNumber, Native, Output, Recorder, Relation, STATUS_DONE,
+    STATUS_FAULT, STATUS_USAGE, Session, affine, limits, low, program, reads_input, report,
 };
 use lisp_data::Name;
 use std::alloc::AllocError;
@@ -72,7 +72,7 @@ fn run_session<O: Write>(
         &mut session,
         settings,
         &mut rt.reader(),
-        output,
+        &mut Output::new(output),
         &mut rt.stderr(),
     ))
 }

@@ -81,28 +81,29 @@ the_rules = clos_command.top.rules
 rules_are : (c : Command) → app_of c ≡ clos_command → map rule_of (args_of c) ≡ the_rules
 rules_are c e = ap (λ (a : App). a.top.rules) e
 
-four : (c : Command) → app_of c ≡ clos_command → length (args_of c) ≡ 4
+five : (c : Command) → app_of c ≡ clos_command → length (args_of c) ≡ 5
 unfolding clos_command
-four c e = sym (length-map (args_of c) rule_of) ∙ ap length (rules_are c e)
+five c e = sym (length-map (args_of c) rule_of) ∙ ap length (rules_are c e)
 
 rule_at : (c : Command) → app_of c ≡ clos_command → (k : ℕ) (d : Arg) → k < length (args_of c)
     → rule_of (slice_index_or (args_of c) k d) ≡ slice_index_or the_rules k (rule_of d)
 rule_at c e k d lt = sym (get_or-map rule_of (args_of c) k d (rule_of d) lt) ∙ ap (λ l. slice_index_or l k (rule_of d)) (rules_are c e)
 
-simple_at : (k : ℕ) (d : Rule) → k < 4 → ((slice_index_or the_rules k d).is_simple ≡ true) × ((slice_index_or the_rules k d).is_free ≡ true)
+simple_at : (k : ℕ) (d : Rule) → k < 5 → ((slice_index_or the_rules k d).is_simple ≡ true) × ((slice_index_or the_rules k d).is_free ≡ true)
 unfolding clos_command
 simple_at zero d lt = (refl, refl)
 simple_at (suc zero) d lt = (refl, refl)
 simple_at (suc (suc zero)) d lt = (refl, refl)
 simple_at (suc (suc (suc zero))) d lt = (refl, refl)
-simple_at (suc (suc (suc (suc n)))) d lt = absurd (omega arith)
+simple_at (suc (suc (suc (suc zero)))) d lt = (refl, refl)
+simple_at (suc (suc (suc (suc (suc n))))) d lt = absurd (omega arith)
 
 simple_arg : (c : Command) → app_of c ≡ clos_command → (k : ℕ) (d : Arg) → k < length (args_of c)
     → (is_simple_arg (slice_index_or (args_of c) k d) ≡ true) × (is_free_arg (slice_index_or (args_of c) k d) ≡ true)
 simple_arg c e k d lt =
     let at = rule_at c e k d lt in
-    let lt4 : k < 4 = subst (λ n. k < n) (four c e) lt in
-    let s = simple_at k (rule_of d) lt4 in
+    let lt5 : k < 5 = subst (λ n. k < n) (five c e) lt in
+    let s = simple_at k (rule_of d) lt5 in
     (ap (λ (r : Rule). r.is_simple) at ∙ s.0, ap (λ (r : Rule). r.is_free) at ∙ s.1)
 
 plain_fields : (c : Command) → app_of c ≡ clos_command → has_plain_fields (out-Command c) ≡ true
@@ -133,7 +134,7 @@ all_plain c e = (
   no_groups c e,
 )
 
-some_arg : (xs : List Arg) → length xs ≡ 4 → Arg
+some_arg : (xs : List Arg) → length xs ≡ 5 → Arg
 some_arg [] h = absurd (omega arith)
 some_arg (x ∷ xs) h = x
 
@@ -171,9 +172,9 @@ head_accepted P (v ∷ vs) lt h = (v, refl, All-get_or P (v ∷ vs) 0 v (omega a
 
 -- an option of the command: its place, and its rule there
 record IsOption (name : Text) (most : ℕ) (default : Text) (k : ℕ) : Type 0 where
-  low : k < 4
+  low : k < 5
   rule : (d : Rule) → slice_index_or the_rules k d ≡ number_rule name most default
-  unique : (j : ℕ) (d : Rule) → j < 4 → bytes_eq (slice_index_or the_rules j d).id name ≡ true → j ≡ k
+  unique : (j : ℕ) (d : Rule) → j < 5 → bytes_eq (slice_index_or the_rules j d).id name ≡ true → j ≡ k
   named : name ≡ [] → ⊥
   own : (name ≡ codes "help") ⊎ (name ≡ codes "version") → ⊥
 
@@ -182,7 +183,7 @@ module _ (old : Command) (m : ArgMatches) (p : IsParsedFrom old m) (e : app_of o
   arg = slice_index_or (args_of old) k d
 
   there : k < length (args_of old)
-  there = subst (λ n. k < n) (sym (four old e)) o.low
+  there = subst (λ n. k < n) (sym (five old e)) o.low
 
   arg_rule : rule_of (slice_index_or (args_of old) k d) ≡ number_rule name most default
   arg_rule = rule_at old e k d there ∙ o.rule (rule_of d)
@@ -217,7 +218,7 @@ module _ (old : Command) (m : ArgMatches) (p : IsParsedFrom old m) (e : app_of o
       → bytes_eq (slice_index_or (args_of old) j x).id.now (slice_index_or (args_of old) k d).id.now ≡ true → j ≡ k
   arg_unique j x lt same =
       let at : (slice_index_or (args_of old) j x).id.now ≡ (slice_index_or the_rules j (rule_of x)).id = ap (λ (r : Rule). r.id) (rule_at old e j x lt) in
-      o.unique j (rule_of x) (subst (λ n. j < n) (four old e) lt) (rw (← at, ← arg_id) same)
+      o.unique j (rule_of x) (subst (λ n. j < n) (five old e) lt) (rw (← at, ← arg_id) same)
 
   parsed : IsParsed p.built (found_of m) (has_subcommand m)
   parsed = p.parsed (p.from.globals ∙ no_globals old e)
@@ -291,7 +292,7 @@ module _ (old : Command) (m : ArgMatches) (p : IsParsedFrom old m) (e : app_of o
           let value : option_map (λ s. s.now) (slice_get x.vals.items 0) ≡ Some read.0 = rw got.1 at read.1 in
           (read.0, rw is value, read.2)
 
-steps_option : IsOption (codes "steps") 1000000000 (codes "1000000") 1
+steps_option : IsOption (codes "steps") 1000000000 (codes "1000000") 2
 unfolding clos_command
 steps_option = record {
   low = omega arith;
@@ -301,14 +302,15 @@ steps_option = record {
   own = λ h. elim h [ inl x ↦ cc | inr x ↦ cc ];
 }
   where
-    only : (j : ℕ) (d : Rule) → j < 4 → bytes_eq (slice_index_or the_rules j d).id (codes "steps") ≡ true → j ≡ 1
+    only : (j : ℕ) (d : Rule) → j < 5 → bytes_eq (slice_index_or the_rules j d).id (codes "steps") ≡ true → j ≡ 2
     only zero d lt h = cc
-    only (suc zero) d lt h = refl
-    only (suc (suc zero)) d lt h = cc
+    only (suc zero) d lt h = cc
+    only (suc (suc zero)) d lt h = refl
     only (suc (suc (suc zero))) d lt h = cc
-    only (suc (suc (suc (suc n)))) d lt h = absurd (omega arith)
+    only (suc (suc (suc (suc zero)))) d lt h = cc
+    only (suc (suc (suc (suc (suc n))))) d lt h = absurd (omega arith)
 
-depth_option : IsOption (codes "depth") 4000 (codes "1000") 2
+depth_option : IsOption (codes "depth") 4000 (codes "1000") 3
 unfolding clos_command
 depth_option = record {
   low = omega arith;
@@ -318,20 +320,21 @@ depth_option = record {
   own = λ h. elim h [ inl x ↦ cc | inr x ↦ cc ];
 }
   where
-    only : (j : ℕ) (d : Rule) → j < 4 → bytes_eq (slice_index_or the_rules j d).id (codes "depth") ≡ true → j ≡ 2
+    only : (j : ℕ) (d : Rule) → j < 5 → bytes_eq (slice_index_or the_rules j d).id (codes "depth") ≡ true → j ≡ 3
     only zero d lt h = cc
     only (suc zero) d lt h = cc
-    only (suc (suc zero)) d lt h = refl
-    only (suc (suc (suc zero))) d lt h = cc
-    only (suc (suc (suc (suc n)))) d lt h = absurd (omega arith)
+    only (suc (suc zero)) d lt h = cc
+    only (suc (suc (suc zero))) d lt h = refl
+    only (suc (suc (suc (suc zero)))) d lt h = cc
+    only (suc (suc (suc (suc (suc n))))) d lt h = absurd (omega arith)
 
 pub steps_value : (old : Command) (m : ArgMatches) → IsParsedFrom old m → app_of old ≡ clos_command
     → HasNumber (found_of m) (codes "steps") 1000000000
-steps_value old m p e = option_value old m p e (codes "steps") 1000000000 (codes "1000000") 1 steps_option (some_arg (args_of old) (four old e))
+steps_value old m p e = option_value old m p e (codes "steps") 1000000000 (codes "1000000") 2 steps_option (some_arg (args_of old) (five old e))
 
 pub depth_value : (old : Command) (m : ArgMatches) → IsParsedFrom old m → app_of old ≡ clos_command
     → HasNumber (found_of m) (codes "depth") 4000
-depth_value old m p e = option_value old m p e (codes "depth") 4000 (codes "1000") 2 depth_option (some_arg (args_of old) (four old e))
+depth_value old m p e = option_value old m p e (codes "depth") 4000 (codes "1000") 3 depth_option (some_arg (args_of old) (five old e))
 
 -- clap gives the matches of the command as a function of the words, and the kinds of its faults
 pub simple_command : (is_simple clos_command ≡ true) × (is_simple_and_free clos_command ≡ true)

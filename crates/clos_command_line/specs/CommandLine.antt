@@ -1,6 +1,6 @@
--- The command line `clos [--echo] [--steps N] [--depth N] [FILE..]`, as clap's definition of a parse
--- reads it, and the settings that a parse gives. It has a version to show, besides help.
-use Rattle.std.specs.Prelude.{◌≡◌, ◌≤◌, ℕ, false, true, List, [], ◌∷◌, Some, codes, map, unwrap_or}
+-- The command line `clos [--echo] [--notices] [--steps N] [--depth N] [FILE..]`, as clap's definition of a
+-- parse reads it, and the settings that a parse gives. It has a version to show, besides help.
+use Rattle.std.specs.Prelude.{◌≡◌, ◌≤◌, ℕ, Bool, false, true, List, [], ◌∷◌, Some, codes, map, unwrap_or}
 use Rattle.std.specs.Option.{option_map_or}
 use Rattle.std.specs.Str.{bytes_eq}
 use Rattle.std.specs.Str.Parse.{digits_value, without_leading_plus}
@@ -12,8 +12,8 @@ use Rattle.clap.specs.declared.builder.value_parser.ValueParser.TheVariants as v
 use Rattle.clos_command_line.specs.declared.options.Settings.{Settings}
 
 -- a flag
-abbrev pub echo_rule : Rule
-echo_rule = record (new_rule (codes "echo")) { long = Some (codes "echo"); action = Some SetTrue }
+abbrev pub flag_rule : Text → Rule
+flag_rule name = record (new_rule name) { long = Some name; action = Some SetTrue }
 
 -- an option with a number from 1 to `most`, and what stands for it where it is not given
 abbrev pub number_rule : Text → ℕ → Text → Rule
@@ -35,8 +35,8 @@ with_version a = record a { top = record a.top { has_version = true } }
 
 unfoldable pub clos_command : App
 clos_command =
-    with_rule (with_rule (with_rule (with_rule (with_version (new_app (codes "clos"))) echo_rule)
-    (number_rule (codes "steps") 1000000000 (codes "1000000")))
+    with_rule (with_rule (with_rule (with_rule (with_rule (with_version (new_app (codes "clos"))) (flag_rule (codes "echo")))
+    (flag_rule (codes "notices"))) (number_rule (codes "steps") 1000000000 (codes "1000000")))
     (number_rule (codes "depth") 4000 (codes "1000"))) files_rule
 
 -- the value of an option is the text of the number n
@@ -44,10 +44,14 @@ abbrev pub IsNumberOf : Text → List Row → ℕ → Type 0
 IsNumberOf id rows n =
     (t : Text) × (first_of id rows ≡ Some t) × (n ≡ digits_value 10 (without_leading_plus t))
 
+-- whether a flag was given
+abbrev pub is_given : Text → List Row → Bool
+is_given id rows = option_map_or (λ t. bytes_eq t (codes "true")) (first_of id rows) false
+
 -- the settings are what the matches say
 pub record AreMatched (rows : List Row) (s : Settings) : Type 0 where
-  pub echo : s.echo
-      ≡ option_map_or (λ t. bytes_eq t (codes "true")) (first_of (codes "echo") rows) false
+  pub echo : s.echo ≡ is_given (codes "echo") rows
+  pub notices : s.notices ≡ is_given (codes "notices") rows
   pub steps : IsNumberOf (codes "steps") rows s.steps
   pub depth : IsNumberOf (codes "depth") rows s.depth
   pub files : map (λ f. f.now) s.files.items ≡ unwrap_or (all_of (codes "files") rows) []

@@ -8,7 +8,7 @@ ghost use Rattle.clap.specs.Words.{FailsBy, IsUnsignedIn, app_of, fault_of, kind
 ghost use Rattle.clap.specs.Words.{first_value, found_of, matched_of, matches_of, raw_values};
 ghost use Rattle.clap.specs.Words.{rows_of, rule_of, takes};
 ghost use Rattle.clos_command_line.specs.CommandLine.{AreInRange, AreMatched, HasNumber, clos_command};
-ghost use Rattle.clos_command_line.specs.CommandLine.{echo_rule, files_rule, number_rule};
+ghost use Rattle.clos_command_line.specs.CommandLine.{files_rule, flag_rule, number_rule};
 
 use crate::options::{MAX_DEPTH, MAX_STEPS, Settings};
 use clap::builder::ValueParser;
@@ -22,6 +22,9 @@ pub const VERSION: &str = "0.1.0";
 
 const ECHO_HELP: &str =
     "Write the value of each top-level form on a line of its own [default: off]";
+
+const NOTICES_HELP: &str =
+    "Write what the dependents AUDIT and SECOND heard, after the last file [default: off]";
 
 const STEPS_HELP: &str = "Steps that one top-level form may take, from 1 to 1000000000";
 
@@ -40,14 +43,14 @@ const AFTER_HELP: &str = "Exit status:
 Example:
   clos --echo --steps 50000 animals.lisp";
 
-/// The flag `--echo`.
-fn echo_flag<'a>(alloc: Global) -> Arg<'a>
-    ensures { (rule_of result ≡ echo_rule) × (result.global ≡ false) }
+/// A flag `--NAME`.
+fn flag<'a>(alloc: Global, name: &'a str, help: &'a str) -> Arg<'a>
+    ensures { (rule_of result ≡ flag_rule name.entry.now) × (result.global ≡ false) }
 {
-    Arg::new(alloc, "echo")
-        .long("echo")
+    Arg::new(alloc, name)
+        .long(name)
         .action(ArgAction::SetTrue)
-        .help(ECHO_HELP)
+        .help(help)
 }
 
 /// An option `--NAME N` with a number from 1 to `most`.
@@ -84,13 +87,16 @@ fn files_argument<'a>(alloc: Global) -> Arg<'a>
 fn command<'a>(alloc: Global) -> Result<Command<'a>, AllocError>
     ensures { IfOk result (λ c. app_of c ≡ clos_command) }
 {
+    let echo = flag(alloc, "echo", ECHO_HELP);
+    let notices = flag(alloc, "notices", NOTICES_HELP);
     let steps = number_option(alloc, "steps", MAX_STEPS, "1000000", STEPS_HELP);
     let depth = number_option(alloc, "depth", MAX_DEPTH, "1000", DEPTH_HELP);
     Command::new(alloc, "clos")
         .about("Runs programs of a small Common Lisp with its object system")
         .version(VERSION)
         .after_help(AFTER_HELP)
-        .arg(echo_flag(alloc))?
+        .arg(echo)?
+        .arg(notices)?
         .arg(steps)?
         .arg(depth)?
         .arg(files_argument(alloc))
@@ -137,11 +143,13 @@ fn settings_found<'a>(alloc: Global, matches: &ArgMatches<'a>) -> Result<Setting
     ensures in_range { IfOk result AreInRange }
 {
     let echo = has_flag(matches, "echo");
+    let notices = has_flag(matches, "notices");
     let steps = number(matches.get_str("steps"));
     let depth = number(matches.get_str("depth"));
     let files = files(alloc, matches)?;
     Ok(Settings {
         echo,
+        notices,
         steps,
         depth,
         files,

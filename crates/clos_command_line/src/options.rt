@@ -11,6 +11,8 @@ pub const MAX_DEPTH: u64 = 4_000;
 pub struct Settings<'a> {
     /// Whether the values of top-level forms are written.
     pub echo: bool,
+    /// Whether what the program's dependents heard is written at the end.
+    pub notices: bool,
     /// Steps of one top-level form, from 1 to `MAX_STEPS`.
     pub steps: u64,
     /// How deep forms nest in evaluation, from 1 to `MAX_DEPTH`.

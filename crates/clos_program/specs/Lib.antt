@@ -1,2 +1,4 @@
+pub mod Lines
+pub mod Notices
 pub mod Program
 pub mod Dependents

@@ -4,12 +4,17 @@
 pub mod dependents;
 mod fault;
 pub mod natives;
+mod notices;
+mod output;
 mod running;
 
-pub use clos_system::{Callback, Dependent, Handed, Limits, Native, Recorder, Relation, Session};
+pub use clos_system::{
+    Callback, Dependent, Handed, Limits, Native, Notice, Recorder, Relation, Session,
+};
 pub use dependents::{KindNumber, kind_number};
 pub use fault::{Fault, report};
 pub use natives::{affine, low};
+pub use output::Output;
 pub use running::{
     STATUS_CONDITION, STATUS_DONE, STATUS_FAULT, STATUS_USAGE, limits, program, reads_input,
 };

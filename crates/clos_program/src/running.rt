@@ -4,9 +4,12 @@ ghost use Rattle.std.specs.List.{list_any};
 ghost use Rattle.std.specs.Io.KnownBytes.{Keeps};
 ghost use Rattle.clos_system.specs.clos_world.Limits.{standard};
 ghost use Rattle.clos_system.specs.clos_session.Session.{standing_of};
-ghost use Rattle.clos_program.specs.Program.{Failed, Ran, RunsInput, fault_status, is_input, is_input_alone, status_of};
+ghost use Rattle.clos_program.specs.Lines.{lined_of};
+ghost use Rattle.clos_program.specs.Program.{Failed, Ran, RunsInput, Tells, fault_status, is_input, is_input_alone, is_new, status_of};
 
 use crate::fault::{Fault, report};
+use crate::notices::notices_told;
+use crate::output::Output;
 use clos_command_line::Settings;
 use clos_system::{Dependents, Limits, Natives, Session, run};
 use std::alloc::Global;
@@ -81,10 +84,12 @@ fn run_text<'a, N: Natives, D: Dependents, I: Read, O: Write>(
     output: &mut O,
     echo: bool,
 ) -> Result<bool, Fault<'a>>
-    ensures finishes { IfOk result (Ran (N.host session.old.natives) echo (I.remaining input.old) (standing_of (D.told session.old.dependents) session.old)
-        (standing_of (D.told session.new.dependents) session.new) (O.contents output.old) (O.contents output.new)) }
-    ensures fails { IfErr result (λ _. Failed (N.host session.old.natives) echo (I.remaining input.old) (standing_of (D.told session.old.dependents) session.old)
-        (standing_of (D.told session.new.dependents) session.new) (O.contents output.old) (O.contents output.new)) }
+    ensures finishes { IfOk result (Ran (N.host session.old.natives) echo (I.remaining input.old)
+        (standing_of (D.told session.old.dependents) session.old) (standing_of (D.told session.new.dependents) session.new)
+        (O.contents output.old) (O.contents output.new)) }
+    ensures fails { IfErr result (λ _. Failed (N.host session.old.natives) echo (I.remaining input.old)
+        (standing_of (D.told session.old.dependents) session.old) (standing_of (D.told session.new.dependents) session.new)
+        (O.contents output.old) (O.contents output.new)) }
 {
     match run(alloc, session, input, output, echo) {
         Ok(summary) => Ok(summary.conditions > 0 || summary.storages > 0),
@@ -131,6 +136,30 @@ fn run_files<'a, N: Natives, D: Dependents, R: Files, I: Read, O: Write>(
     Ok(any)
 }
 
+/// Runs standard input, where it alone is to be run, and else the files.
+fn run_all<'a, N: Natives, D: Dependents, R: Files, I: Read, O: Write>(
+    rt: &R,
+    alloc: Global,
+    session: &mut Session<N, D>,
+    settings: &Settings<'a>,
+    input: &mut I,
+    output: &mut O,
+) -> Result<bool, Fault<'a>>
+    ensures finishes { is_input_alone (map (λ f. f.now) settings.now.files.items) ≡ true
+        → IfOk result (Ran (N.host session.old.natives) settings.now.echo (I.remaining input.old)
+        (standing_of (D.told session.old.dependents) session.old) (standing_of (D.told session.new.dependents) session.new)
+        (O.contents output.old) (O.contents output.new)) }
+    ensures fails { is_input_alone (map (λ f. f.now) settings.now.files.items) ≡ true
+        → IfErr result (λ _. Failed (N.host session.old.natives) settings.now.echo (I.remaining input.old)
+        (standing_of (D.told session.old.dependents) session.old) (standing_of (D.told session.new.dependents) session.new)
+        (O.contents output.old) (O.contents output.new)) }
+{
+    if is_input_alone(settings.files.as_slice()) {
+        return run_text(alloc, session, INPUT_NAME, input, output, settings.echo);
+    }
+    run_files(rt, alloc, session, settings, input, output)
+}
+
 /// Flushes the output, tells a fault in one line on `errors`, and gives the exit status.
 fn finish<O: Write, E: Write>(ran: Result<bool, Fault<'_>>, output: &mut O, errors: &mut E) -> u8
     ensures keeps { Keeps (O.contents output.old) (O.contents output.new) }
@@ -152,28 +181,52 @@ fn finish<O: Write, E: Write>(ran: Result<bool, Fault<'_>>, output: &mut O, erro
     }
 }
 
+/// What a run told, once what AUDIT and SECOND heard is written after it, where it is asked for and the run ended without a
+/// fault.
+fn tell_notices<'a, N: Natives, D: Dependents, W: Write>(
+    alloc: Global,
+    session: &Session<N, D>,
+    notices: bool,
+    ran: Result<bool, Fault<'a>>,
+    output: &mut Output<W>,
+) -> Result<bool, Fault<'a>>
+    ensures told { IfOk ran.entry (λ told. MatchResult result (λ r. (r ≡ told)
+        × Tells notices (standing_of (D.told session.now.dependents) session.now) output.old.fresh
+        (lined_of W.contents output.old) (lined_of W.contents output.new)) (λ _. notices ≡ true)) }
+    ensures passed { IfErr ran.entry (λ _. MatchResult result (λ _. ⊥) (λ _. output.new ≡ output.old)) }
+{
+    let told = ran?;
+    if !notices {
+        return Ok(told);
+    }
+    let Ok(text) = notices_told(alloc, session, output.is_fresh()) else {
+        return Err(Fault::Memory);
+    };
+    if output.write_all(text.as_slice()).is_err() {
+        return Err(Fault::Write);
+    }
+    Ok(told)
+}
+
 /// Runs the files of the settings in order in the session, or the input where there are none; the name `-` stands for the
-/// input. The output is flushed after each, and before a fault is told, in one line on `errors`, which ends the program. The
-/// answer is the exit status.
-pub fn program<N: Natives, D: Dependents, R: Files, I: Read, O: Write, E: Write>(
+/// input. Where the settings ask for notices, those that AUDIT and SECOND heard follow. The output is flushed after each file,
+/// and before a fault is told, in one line on `errors`, which ends the program. The answer is the exit status.
+pub fn program<N: Natives, D: Dependents, R: Files, I: Read, W: Write, E: Write>(
     rt: &R,
     alloc: Global,
     session: &mut Session<N, D>,
     settings: &Settings<'_>,
     input: &mut I,
-    output: &mut O,
+    output: &mut Output<W>,
     errors: &mut E,
 ) -> u8
     ensures status { (result ≡ STATUS_DONE) ⊎ (result ≡ STATUS_CONDITION) ⊎ (result ≡ STATUS_FAULT) }
-    ensures input { is_input_alone (map (λ f. f.now) settings.now.files.items) ≡ true
-        → RunsInput (N.host session.old.natives) settings.now.echo (I.remaining input.old) (standing_of (D.told session.old.dependents) session.old)
-        (standing_of (D.told session.new.dependents) session.new)
-        (O.contents output.old) (O.contents output.new) result }
+    ensures input { is_input_alone (map (λ f. f.now) settings.now.files.items) ≡ true → is_new output.old
+        → RunsInput (N.host session.old.natives) settings.now.echo settings.now.notices (I.remaining input.old)
+        (standing_of (D.told session.old.dependents) session.old) (standing_of (D.told session.new.dependents) session.new)
+        (W.contents output.old.writer) (W.contents output.new.writer) result }
 {
-    if is_input_alone(settings.files.as_slice()) {
-        let ran = run_text(alloc, session, INPUT_NAME, input, output, settings.echo);
-        return finish(ran, output, errors);
-    }
-    let ran = run_files(rt, alloc, session, settings, input, output);
-    finish(ran, output, errors)
+    let ran = run_all(rt, alloc, session, settings, input, output);
+    let told = tell_notices(alloc, session, settings.notices, ran, output);
+    finish(told, output, errors)
 }

@@ -1,30 +1,36 @@
 //! Dependents that a host makes itself.
-ghost use Rattle.std.specs.Prelude.{[]};
+ghost use Rattle.std.specs.Prelude.{◌-◌, vec_capacity, vec_len};
 
 use clos_system::{Dependent, Limits, Notice, Session, run};
 use lisp_data::Name;
 use std::alloc::AllocError;
 use std::test::Fail;
 
-/// A dependent that never has room for a notice.
+/// A dependent that keeps what it hears, and takes no memory for it.
 #[derive(Drop)]
-struct Full;
+struct Full {
+    notices: Vec<Notice>,
+}
 
 impl Dependent for Full {
-    ghost told = { λ it. [] };
+    ghost told = { λ it. it.notices.items };
 
-    ghost room = { λ it. 0 };
+    ghost room = { λ it. vec_capacity it.notices - vec_len it.notices };
 
     fn prepare(&mut self, count: usize) -> Result<(), AllocError> {
-        if count == 0 { Ok(()) } else { Err(AllocError) }
+        if self.notices.capacity() - self.notices.len() < count {
+            return Err(AllocError);
+        }
+        Ok(())
     }
 
-    fn tell(&mut self, _: &Notice) -> i64 {
+    fn tell(&mut self, notice: &Notice) -> i64 {
+        let _ = self.notices.push(*notice);
         0
     }
 
     fn heard(&self) -> &[Notice] {
-        &[]
+        self.notices.as_slice()
     }
 }
 
@@ -32,7 +38,8 @@ impl Dependent for Full {
 #[test]
 fn a_dependent_without_room(rt: HostRuntime) -> Result<(), Fail> {
     let alloc = rt.alloc();
-    let full: Box<dyn Dependent> = Box::new(alloc, Full)?;
+    let notices = Vec::new(alloc);
+    let full: Box<dyn Dependent> = Box::new(alloc, Full { notices })?;
     let mut dependents = Vec::new(alloc);
     dependents.push((Name::fixed(&"FULL"), full))?;
     let mut session = Session::new(alloc, Limits::default(), Vec::new(alloc), dependents)?;

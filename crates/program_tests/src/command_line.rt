@@ -9,7 +9,7 @@ fn reads_the_command_line(rt: HostRuntime) -> Result<(), Fail> {
     let alloc = rt.alloc();
     let limits = Limits::default();
     let none = settings(alloc, &["clos"])?;
-    assert!(rt; !none.echo && none.files.is_empty());
+    assert!(rt; !none.echo && !none.notices && none.files.is_empty());
     assert!(rt; none.steps == limits.steps && none.depth == limits.depth);
     let words = [
         "clos",
@@ -17,11 +17,12 @@ fn reads_the_command_line(rt: HostRuntime) -> Result<(), Fail> {
         "7",
         "a.lisp",
         "--echo",
+        "--notices",
         "--depth=4000",
         "-",
     ];
     let all = settings(alloc, &words)?;
-    assert!(rt; all.echo && all.steps == 7 && all.depth == 4_000);
+    assert!(rt; all.echo && all.notices && all.steps == 7 && all.depth == 4_000);
     assert!(rt; all.files.as_slice() == ["a.lisp", "-"].as_slice());
     Ok(())
 }
@@ -36,6 +37,7 @@ fn refuses_what_is_no_command_line(rt: HostRuntime) {
         ["clos", "--depth=0"],
         ["clos", "--depth=4001"],
         ["clos", "--echo=x"],
+        ["clos", "--notices=1"],
         ["clos", "--version=1"],
     ];
     for words in &refused {
@@ -55,6 +57,7 @@ Arguments:
 
 Options:
       --echo       Write the value of each top-level form on a line of its own [default: off]
+      --notices    Write what the dependents AUDIT and SECOND heard, after the last file [default: off]
       --steps <N>  Steps that one top-level form may take, from 1 to 1000000000 [default: 1000000]
       --depth <N>  How deep forms may nest in evaluation, from 1 to 4000 [default: 1000]
   -h, --help       Print help

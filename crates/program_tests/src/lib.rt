@@ -4,6 +4,8 @@
 #[cfg(test)]
 mod command_line;
 #[cfg(test)]
+mod dependents;
+#[cfg(test)]
 mod natives;
 #[cfg(test)]
 mod program;

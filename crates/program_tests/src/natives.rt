@@ -1,6 +1,6 @@
 //! The functions that the program stores answer programs, and the session keeps their answers.
 use clos_command_line::settings;
-use clos_program::{Native, Relation, Session, affine, limits, low, program};
+use clos_program::{Native, Output, Relation, Session, affine, limits, low, program};
 use lisp_data::Name;
 use std::test::Fail;
 
@@ -41,7 +41,7 @@ fn stored_functions_answer(rt: HostRuntime) -> Result<(), Fail> {
         &mut session,
         &words,
         &mut text,
-        &mut output,
+        &mut Output::new(&mut output),
         &mut errors,
     );
     assert_eq!(rt; status, 0);

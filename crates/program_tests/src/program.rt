@@ -1,6 +1,6 @@
 //! What no clause says: the texts and statuses of the program, and the examples of the repository.
 use clos_command_line::settings;
-use clos_program::{Session, limits, program};
+use clos_program::{Output, Session, limits, program};
 use std::alloc::Global;
 use std::fs::{self, Files};
 use std::io::{self, Read, Write};
@@ -83,7 +83,16 @@ fn status<R: Files + AllocGlobal, I: Read, O: Write>(
     let alloc = rt.alloc();
     let settings = settings(alloc, words)?;
     let mut session = Session::new(alloc, limits(&settings), Vec::new(alloc), Vec::new(alloc))?;
-    Ok(program(rt, alloc, &mut session, &settings, input, output, errors))
+    let mut output = Output::new(output);
+    Ok(program(
+        rt,
+        alloc,
+        &mut session,
+        &settings,
+        input,
+        &mut output,
+        errors,
+    ))
 }
 
 fn new_bytes(alloc: Global) -> Vec<u8> {

@@ -8,6 +8,7 @@
 //! A line `twice N` ends the rows. The lines after it are the script, before which the program allocates N times.
 #![tactic(auto)]
 
+mod heard;
 mod rows;
 mod twice;
 

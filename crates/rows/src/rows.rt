@@ -1,9 +1,7 @@
 //! Groups of rows: texts, and what they write in a session.
+use crate::heard::{new_dependents, tell_heard};
 use clos_program::low;
-use clos_system::{
-    Dependent, Dependents, Limits, Native, Natives, Recorder, Relation, RunFault, Session, Summary,
-    print_notice, run,
-};
+use clos_system::{Limits, Native, Relation, RunFault, Session, Summary, run};
 use lisp_data::Name;
 use std::alloc::{AllocError, Global};
 use std::io;
@@ -43,22 +41,6 @@ fn limits(setting: &str) -> Limits {
     limits
 }
 
-/// Adds what the dependent of this name heard to the output, a line for each notice.
-fn tell_heard<N: Natives, D: Dependents>(
-    alloc: Global,
-    session: &Session<N, D>,
-    name: &'static &'static str,
-    output: &mut Vec<u8>,
-) -> Result<(), AllocError> {
-    for notice in session.heard(&Name::fixed(name)).unwrap_or(&[]) {
-        output.extend_from_slice(name.as_bytes())?;
-        output.push(b' ')?;
-        output.extend_from_slice(print_notice(alloc, session.world(), notice)?.as_slice())?;
-        output.push(b'\n')?;
-    }
-    Ok(())
-}
-
 /// Runs a text in a session of this setting, for which the function `low` is stored and which is handed the dependents `audit`
 /// and `second`, and adds what it writes to the output, and where the setting says so what they heard.
 fn run_stored(
@@ -71,17 +53,11 @@ fn run_stored(
     let native = Native::new(Name::fixed(&"LOW"), 1, relation, Box::new(alloc, low)?);
     let mut natives = Vec::new(alloc);
     natives.push(native)?;
-    let audit: Box<dyn Dependent> = Box::new(alloc, Recorder::new(alloc))?;
-    let second: Box<dyn Dependent> = Box::new(alloc, Recorder::new(alloc))?;
-    let mut dependents = Vec::new(alloc);
-    dependents.push((Name::fixed(&"AUDIT"), audit))?;
-    dependents.push((Name::fixed(&"SECOND"), second))?;
-    let mut session = Session::new(alloc, limits(setting), natives, dependents)?;
+    let mut session = Session::new(alloc, limits(setting), natives, new_dependents(alloc)?)?;
     let mut source = text.as_bytes();
     let ran = run(alloc, &mut session, &mut source, output, setting == "echo");
     if setting == "heard" {
-        tell_heard(alloc, &session, &"AUDIT", output)?;
-        tell_heard(alloc, &session, &"SECOND", output)?;
+        tell_heard(alloc, &session, output)?;
     }
     Ok(ran)
 }

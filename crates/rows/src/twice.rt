@@ -1,9 +1,10 @@
 //! A script that is performed in two sessions.
 //!
 //! Where an allocation is refused in the first session, at most one of its replies tells of it, with the steps that its form
-//! had taken. The second session gives that form so many steps and all others their limit: then it writes the same, and its
-//! other replies are the same.
-use clos_system::{Dependents, Handed, Limits, Native, Natives, Reply, Session};
+//! had taken. The second session gives that form so many steps and all others their limit: then it writes the same, its other
+//! replies are the same, and its dependents hear the same.
+use crate::heard::{new_dependents, tell_heard};
+use clos_system::{Dependents, Limits, Native, Natives, Reply, Session};
 use lisp_data::{Datum, Value, equal};
 use lisp_reader::{ReadFault, read_form};
 use std::alloc::{AllocError, Global};
@@ -159,30 +160,48 @@ fn agree(replies: &[Reply], others: &[Reply], cut: Option<Cut>) -> bool {
             || is_same(reply, other))
 }
 
+/// Whether the dependents of two sessions heard the same.
+fn hear_alike<N: Natives, D: Dependents>(
+    alloc: Global,
+    first: &Performance<N, D>,
+    second: &Performance<N, D>,
+) -> Result<bool, AllocError> {
+    let mut heard = Vec::new(alloc);
+    let mut other = Vec::new(alloc);
+    tell_heard(alloc, &first.session, &mut heard)?;
+    tell_heard(alloc, &second.session, &mut other)?;
+    Ok(heard.as_slice() == other.as_slice())
+}
+
 /// Whether two sessions came to the same, but for the reply at the cut.
 fn is_alike<N: Natives, D: Dependents>(
+    alloc: Global,
     first: &Performance<N, D>,
     second: &Performance<N, D>,
     cut: Option<Cut>,
-) -> bool {
-    first.session.written() == second.session.written()
-        && agree(first.replies.as_slice(), second.replies.as_slice(), cut)
+) -> Result<bool, AllocError> {
+    Ok(
+        first.session.written() == second.session.written()
+            && agree(first.replies.as_slice(), second.replies.as_slice(), cut)
+            && hear_alike(alloc, first, second)?,
+    )
 }
 
 /// What came of two sessions, where neither is one that memory was refused for before its first form.
 fn outcome_of<N: Natives, D: Dependents>(
+    alloc: Global,
     first: &Performance<N, D>,
     second: &Performance<N, D>,
     cut: Option<Cut>,
-) -> Outcome {
+) -> Result<Outcome, AllocError> {
     if cut_of(second.replies.as_slice()).is_some() {
-        return Outcome::Later;
+        return Ok(Outcome::Later);
     }
-    match cut {
-        _ if !is_alike(first, second, cut) => Outcome::Differs,
+    Ok(match cut {
+        _ if !is_alike(alloc, first, second, cut)? => Outcome::Differs,
         Some(cut) => Outcome::Cut(cut),
         None => Outcome::Whole,
-    }
+    })
 }
 
 /// Performs the script in a second session, and compares it with the first.
@@ -192,35 +211,28 @@ fn compare_with<N: Natives, D: Dependents>(
     dependents: D,
     script: &[Datum],
     first: &Performance<N, D>,
-) -> Outcome {
+) -> Result<Outcome, AllocError> {
     let cut = cut_of(first.replies.as_slice());
-    match &perform(alloc, natives, dependents, script, cut, 0) {
-        Ok(second) => outcome_of(first, second, cut),
-        Err(_) => Outcome::Later,
-    }
+    let second = perform(alloc, natives, dependents, script, cut, 0)?;
+    outcome_of(alloc, first, &second, cut)
 }
 
 fn none_stored(alloc: Global) -> Vec<Native> {
     Vec::new(alloc)
 }
 
-fn none_handed(alloc: Global) -> Vec<Handed> {
-    Vec::new(alloc)
-}
-
 /// Performs the script in two sessions, after so many allocations.
 fn compare(alloc: Global, script: &[Datum], times: u64) -> Outcome {
-    match &perform(
-        alloc,
-        none_stored(alloc),
-        none_handed(alloc),
-        script,
-        None,
-        times,
-    ) {
-        Ok(first) => compare_with(alloc, none_stored(alloc), none_handed(alloc), script, first),
-        Err(_) => Outcome::Before,
-    }
+    let Ok(dependents) = new_dependents(alloc) else {
+        return Outcome::Before;
+    };
+    let Ok(first) = perform(alloc, none_stored(alloc), dependents, script, None, times) else {
+        return Outcome::Before;
+    };
+    let Ok(dependents) = new_dependents(alloc) else {
+        return Outcome::Later;
+    };
+    compare_with(alloc, none_stored(alloc), dependents, script, &first).unwrap_or(Outcome::Later)
 }
 
 fn tell(rt: &HostRuntime, outcome: Outcome) -> io::Result<()> {

@@ -12,6 +12,8 @@ returns-clause-matched c =
     let s = c.requires.steps in
     let d = c.requires.depth in record {
       echo = c.has_flag-echo.ensures ∙ ap (λ o. option_map_or (λ t. bytes_eq t (codes "true")) o false) (first_value-rows found (codes "echo"));
+      notices = c.has_flag-notices.ensures
+          ∙ ap (λ o. option_map_or (λ t. bytes_eq t (codes "true")) o false) (first_value-rows found (codes "notices"));
       steps = (s.0, sym (first_value-rows found (codes "steps")) ∙ s.1, c.number-steps.ensures s.0 1000000000 (c.get_str.ensures ∙ s.1) s.2);
       depth = (d.0, sym (first_value-rows found (codes "depth")) ∙ d.1, c.number-depth.ensures d.0 4000 (c.get_str-2.ensures ∙ d.1) d.2);
       files = c.in_ok-files.ensures ∙ ap (λ o. unwrap_or o []) (raw_values-rows found (codes "files"));
