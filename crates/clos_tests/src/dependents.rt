@@ -1,30 +1,34 @@
 //! Dependents that a host makes itself.
-ghost use Rattle.std.specs.Prelude.{◌-◌, vec_capacity, vec_len};
+ghost use Rattle.std.specs.Prelude.{◌≤◌, ◌+◌, vec_capacity, vec_len};
 
 use clos_system::{Dependent, Limits, Notice, Session, run};
 use lisp_data::Name;
 use std::alloc::AllocError;
 use std::test::Fail;
 
-/// A dependent that keeps what it hears, and takes no memory for it.
+/// A dependent that keeps what it hears, as long as it has room.
 #[derive(Drop)]
 struct Full {
     notices: Vec<Notice>,
+    room: usize,
+    ghost reserved: { vec_len notices + room ≤ vec_capacity notices },
 }
 
 impl Dependent for Full {
     ghost told = { λ it. it.notices.items };
 
-    ghost room = { λ it. vec_capacity it.notices - vec_len it.notices };
+    ghost room = { λ it. it.room };
 
     fn prepare(&mut self, count: usize) -> Result<(), AllocError> {
-        if self.notices.capacity() - self.notices.len() < count {
-            return Err(AllocError);
+        if count <= self.room {
+            Ok(())
+        } else {
+            Err(AllocError)
         }
-        Ok(())
     }
 
     fn tell(&mut self, notice: &Notice) -> i64 {
+        self.room -= 1;
         let _ = self.notices.push(*notice);
         0
     }
@@ -39,7 +43,7 @@ impl Dependent for Full {
 fn a_dependent_without_room(rt: HostRuntime) -> Result<(), Fail> {
     let alloc = rt.alloc();
     let notices = Vec::new(alloc);
-    let full: Box<dyn Dependent> = Box::new(alloc, Full { notices })?;
+    let full: Box<dyn Dependent> = Box::new(alloc, Full { notices, room: 0 })?;
     let mut dependents = Vec::new(alloc);
     dependents.push((Name::fixed(&"FULL"), full))?;
     let mut session = Session::new(alloc, Limits::default(), Vec::new(alloc), dependents)?;

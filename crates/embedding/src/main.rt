@@ -1,13 +1,13 @@
 //! A program that performs forms in a session of its own, to which it hands a function and a dependent (docs/EMBEDDING.md).
 #![tactic(auto)]
 
-ghost use Rattle.std.specs.Prelude.{◌≡◌, ◌-◌, pos, false, int_lt, length, vec_capacity, vec_len};
+ghost use Rattle.std.specs.Prelude.{◌≡◌, ◌≤◌, ◌+◌, pos, false, int_lt, length, vec_capacity, vec_len};
 
 use clos_system::{
     Dependent, Dependents, Limits, Native, Natives, Notice, Relation, Reply, Session, print_notice,
 };
 use lisp_data::{Name, Value, prin1};
-use lisp_reader::{ReadFault, read_form};
+use lisp_reader::read_form;
 use std::alloc::{AllocError, Global};
 use std::io;
 
@@ -32,18 +32,26 @@ fn percent(arguments: &[i64]) -> i64
 #[derive(Drop)]
 struct Log {
     notices: Vec<Notice>,
+    /// How many more it has room for.
+    room: usize,
+    ghost reserved: { vec_len notices + room ≤ vec_capacity notices },
 }
 
 impl Dependent for Log {
     ghost told = { λ it. it.notices.items };
 
-    ghost room = { λ it. vec_capacity it.notices - vec_len it.notices };
+    ghost room = { λ it. it.room };
 
     fn prepare(&mut self, count: usize) -> Result<(), AllocError> {
-        self.notices.reserve(count)
+        if count > self.room {
+            self.notices.reserve(count)?;
+            self.room = count;
+        }
+        Ok(())
     }
 
     fn tell(&mut self, notice: &Notice) -> i64 {
+        self.room -= 1;
         let _ = self.notices.push(*notice);
         0
     }
@@ -88,8 +96,8 @@ fn submit_all<N: Natives, D: Dependents>(
     session: &mut Session<N, D>,
 ) -> io::Result<()> {
     let mut at = 0;
-    loop {
-        match read_form(rt.alloc(), SOURCE, at) {
+    for _ in 0..SOURCE.len() {
+        match read_form(rt.alloc(), SOURCE, at.min(SOURCE.len())) {
             Ok(Some((datum, next))) => {
                 let reply = session.submit(&datum);
                 print_reply(rt, session, &reply)?;
@@ -99,6 +107,7 @@ fn submit_all<N: Natives, D: Dependents>(
             Err(fault) => return println!(rt; "{fault}"),
         }
     }
+    Ok(())
 }
 
 fn main(rt: HostRuntime) -> io::Result<()> {
@@ -116,6 +125,7 @@ fn main(rt: HostRuntime) -> io::Result<()> {
         alloc,
         Log {
             notices: Vec::new(alloc),
+            room: 0,
         },
     )?;
     let mut dependents = Vec::new(alloc);

@@ -1,17 +1,7 @@
-//! The dependents of a session, and what they heard.
-use clos_system::{Dependent, Dependents, Handed, Natives, Recorder, Session, print_notice};
+//! What the dependents of a session heard.
+use clos_system::{Dependents, Natives, Session, print_notice};
 use lisp_data::Name;
 use std::alloc::{AllocError, Global};
-
-/// The dependents `audit` and `second`, which heard nothing yet.
-pub fn new_dependents(alloc: Global) -> Result<Vec<Handed>, AllocError> {
-    let audit: Box<dyn Dependent> = Box::new(alloc, Recorder::new(alloc))?;
-    let second: Box<dyn Dependent> = Box::new(alloc, Recorder::new(alloc))?;
-    let mut dependents = Vec::new(alloc);
-    dependents.push((Name::fixed(&"AUDIT"), audit))?;
-    dependents.push((Name::fixed(&"SECOND"), second))?;
-    Ok(dependents)
-}
 
 /// Adds what the dependent of this name heard to the output, a line for each notice.
 fn tell_heard_by<N: Natives, D: Dependents>(
@@ -29,7 +19,7 @@ fn tell_heard_by<N: Natives, D: Dependents>(
     Ok(())
 }
 
-/// Adds what they heard to the output.
+/// Adds what the dependents `audit` and `second` heard to the output.
 pub fn tell_heard<N: Natives, D: Dependents>(
     alloc: Global,
     session: &Session<N, D>,

@@ -1,7 +1,7 @@
 //! Groups of rows: texts, and what they write in a session.
-use crate::heard::{new_dependents, tell_heard};
+use crate::heard::tell_heard;
 use clos_program::low;
-use clos_system::{Limits, Native, Relation, RunFault, Session, Summary, run};
+use clos_system::{Dependent, Limits, Native, Recorder, Relation, RunFault, Session, Summary, run};
 use lisp_data::Name;
 use std::alloc::{AllocError, Global};
 use std::io;
@@ -53,7 +53,12 @@ fn run_stored(
     let native = Native::new(Name::fixed(&"LOW"), 1, relation, Box::new(alloc, low)?);
     let mut natives = Vec::new(alloc);
     natives.push(native)?;
-    let mut session = Session::new(alloc, limits(setting), natives, new_dependents(alloc)?)?;
+    let audit: Box<dyn Dependent> = Box::new(alloc, Recorder::new(alloc))?;
+    let second: Box<dyn Dependent> = Box::new(alloc, Recorder::new(alloc))?;
+    let mut dependents = Vec::new(alloc);
+    dependents.push((Name::fixed(&"AUDIT"), audit))?;
+    dependents.push((Name::fixed(&"SECOND"), second))?;
+    let mut session = Session::new(alloc, limits(setting), natives, dependents)?;
     let mut source = text.as_bytes();
     let ran = run(alloc, &mut session, &mut source, output, setting == "echo");
     if setting == "heard" {

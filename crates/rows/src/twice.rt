@@ -3,9 +3,9 @@
 //! Where an allocation is refused in the first session, at most one of its replies tells of it, with the steps that its form
 //! had taken. The second session gives that form so many steps and all others their limit: then it writes the same, its other
 //! replies are the same, and its dependents hear the same.
-use crate::heard::{new_dependents, tell_heard};
-use clos_system::{Dependents, Limits, Native, Natives, Reply, Session};
-use lisp_data::{Datum, Value, equal};
+use crate::heard::tell_heard;
+use clos_system::{Dependent, Dependents, Limits, Native, Natives, Recorder, Reply, Session};
+use lisp_data::{Datum, Name, Value, equal};
 use lisp_reader::{ReadFault, read_form};
 use std::alloc::{AllocError, Global};
 use std::io;
@@ -26,17 +26,19 @@ enum Outcome {
     Cut(Cut),
     /// No reply tells that it was refused, and all is the same.
     Whole,
-    /// It was refused in the second session.
+    /// It was refused after the first session, as in the second one.
     Later,
     /// More than one reply tells that it was refused, or something else is not the same.
     Differs,
 }
 
-/// A session that has performed the script, and its replies.
+/// What came of a session that performed the script.
 #[derive(Drop)]
-struct Performance<N: Natives, D: Dependents> {
-    session: Session<N, D>,
+struct Performance {
     replies: Vec<Reply>,
+    written: Vec<u8>,
+    /// What its dependents heard, a line for each notice.
+    heard: Vec<u8>,
 }
 
 /// The data of a text, unless it has one that can't be read.
@@ -85,35 +87,54 @@ fn reply_to<N: Natives, D: Dependents>(
 
 /// Performs a script in which the form at the cut may take so many steps, and adds the replies.
 fn perform_all<N: Natives, D: Dependents>(
-    performance: &mut Performance<N, D>,
+    session: &mut Session<N, D>,
+    replies: &mut Vec<Reply>,
     script: &[Datum],
     cut: Option<Cut>,
 ) -> Result<(), AllocError> {
     for (place, datum) in script.iter().enumerate() {
-        let steps = steps_at(cut, place);
-        let reply = reply_to(&mut performance.session, datum, steps);
-        performance.replies.push(reply)?;
+        let reply = reply_to(session, datum, steps_at(cut, place));
+        replies.push(reply)?;
     }
     Ok(())
 }
 
-/// A session with these stored functions and dependents that performs a script, where the program first allocates so many times.
-fn perform<N: Natives, D: Dependents>(
+/// What came of a session that gave these replies.
+fn performance_of<N: Natives, D: Dependents>(
     alloc: Global,
-    natives: N,
-    dependents: D,
+    session: &Session<N, D>,
+    replies: Vec<Reply>,
+) -> Result<Performance, AllocError> {
+    let written = Vec::from_slice(alloc, session.written())?;
+    let mut heard = Vec::new(alloc);
+    tell_heard(alloc, session, &mut heard)?;
+    Ok(Performance {
+        replies,
+        written,
+        heard,
+    })
+}
+
+/// What comes of a session with the dependents `audit` and `second` that performs a script, where the program first allocates
+/// so many times; nothing where memory was refused after the script.
+fn perform(
+    alloc: Global,
     script: &[Datum],
     cut: Option<Cut>,
     times: u64,
-) -> Result<Performance<N, D>, AllocError> {
-    let mut performance = Performance {
-        session: Session::new(alloc, Limits::default(), natives, dependents)?,
-        replies: Vec::new(alloc),
-    };
-    performance.replies.reserve(script.len())?;
+) -> Result<Option<Performance>, AllocError> {
+    let natives: Vec<Native> = Vec::new(alloc);
+    let audit: Box<dyn Dependent> = Box::new(alloc, Recorder::new(alloc))?;
+    let second: Box<dyn Dependent> = Box::new(alloc, Recorder::new(alloc))?;
+    let mut dependents = Vec::new(alloc);
+    dependents.push((Name::fixed(&"AUDIT"), audit))?;
+    dependents.push((Name::fixed(&"SECOND"), second))?;
+    let mut session = Session::new(alloc, Limits::default(), natives, dependents)?;
+    let mut replies = Vec::new(alloc);
+    replies.reserve(script.len())?;
     allocate(alloc, times)?;
-    perform_all(&mut performance, script, cut)?;
-    Ok(performance)
+    perform_all(&mut session, &mut replies, script, cut)?;
+    Ok(performance_of(alloc, &session, replies).ok())
 }
 
 /// The first reply that tells of refused memory.
@@ -160,79 +181,37 @@ fn agree(replies: &[Reply], others: &[Reply], cut: Option<Cut>) -> bool {
             || is_same(reply, other))
 }
 
-/// Whether the dependents of two sessions heard the same.
-fn hear_alike<N: Natives, D: Dependents>(
-    alloc: Global,
-    first: &Performance<N, D>,
-    second: &Performance<N, D>,
-) -> Result<bool, AllocError> {
-    let mut heard = Vec::new(alloc);
-    let mut other = Vec::new(alloc);
-    tell_heard(alloc, &first.session, &mut heard)?;
-    tell_heard(alloc, &second.session, &mut other)?;
-    Ok(heard.as_slice() == other.as_slice())
-}
-
 /// Whether two sessions came to the same, but for the reply at the cut.
-fn is_alike<N: Natives, D: Dependents>(
-    alloc: Global,
-    first: &Performance<N, D>,
-    second: &Performance<N, D>,
-    cut: Option<Cut>,
-) -> Result<bool, AllocError> {
-    Ok(
-        first.session.written() == second.session.written()
-            && agree(first.replies.as_slice(), second.replies.as_slice(), cut)
-            && hear_alike(alloc, first, second)?,
-    )
+fn is_alike(first: &Performance, second: &Performance, cut: Option<Cut>) -> bool {
+    first.written.as_slice() == second.written.as_slice()
+        && first.heard.as_slice() == second.heard.as_slice()
+        && agree(first.replies.as_slice(), second.replies.as_slice(), cut)
 }
 
 /// What came of two sessions, where neither is one that memory was refused for before its first form.
-fn outcome_of<N: Natives, D: Dependents>(
-    alloc: Global,
-    first: &Performance<N, D>,
-    second: &Performance<N, D>,
-    cut: Option<Cut>,
-) -> Result<Outcome, AllocError> {
+fn outcome_of(first: &Performance, second: &Performance, cut: Option<Cut>) -> Outcome {
     if cut_of(second.replies.as_slice()).is_some() {
-        return Ok(Outcome::Later);
+        return Outcome::Later;
     }
-    Ok(match cut {
-        _ if !is_alike(alloc, first, second, cut)? => Outcome::Differs,
+    match cut {
+        _ if !is_alike(first, second, cut) => Outcome::Differs,
         Some(cut) => Outcome::Cut(cut),
         None => Outcome::Whole,
-    })
-}
-
-/// Performs the script in a second session, and compares it with the first.
-fn compare_with<N: Natives, D: Dependents>(
-    alloc: Global,
-    natives: N,
-    dependents: D,
-    script: &[Datum],
-    first: &Performance<N, D>,
-) -> Result<Outcome, AllocError> {
-    let cut = cut_of(first.replies.as_slice());
-    let second = perform(alloc, natives, dependents, script, cut, 0)?;
-    outcome_of(alloc, first, &second, cut)
-}
-
-fn none_stored(alloc: Global) -> Vec<Native> {
-    Vec::new(alloc)
+    }
 }
 
 /// Performs the script in two sessions, after so many allocations.
 fn compare(alloc: Global, script: &[Datum], times: u64) -> Outcome {
-    let Ok(dependents) = new_dependents(alloc) else {
-        return Outcome::Before;
+    let first = match perform(alloc, script, None, times) {
+        Ok(Some(first)) => first,
+        Ok(None) => return Outcome::Later,
+        Err(_) => return Outcome::Before,
     };
-    let Ok(first) = perform(alloc, none_stored(alloc), dependents, script, None, times) else {
-        return Outcome::Before;
-    };
-    let Ok(dependents) = new_dependents(alloc) else {
-        return Outcome::Later;
-    };
-    compare_with(alloc, none_stored(alloc), dependents, script, &first).unwrap_or(Outcome::Later)
+    let cut = cut_of(first.replies.as_slice());
+    match &perform(alloc, script, cut, 0) {
+        Ok(Some(second)) => outcome_of(&first, second, cut),
+        _ => Outcome::Later,
+    }
 }
 
 fn tell(rt: &HostRuntime, outcome: Outcome) -> io::Result<()> {
