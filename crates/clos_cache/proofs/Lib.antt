@@ -1,0 +1,5 @@
+pub mod Places
+pub mod Finding
+pub mod Keeping
+pub mod Dropping
+pub mod Counting
