@@ -28,13 +28,15 @@ kept_with most first keys u key true h rest =
     rest u ∙ same_or (same_key first key) (u.kept key) (list_any (λ k. same_key k key) keys)
     (λ e. ap u.kept (sym ((same_key-Decides first key).0 e)) ∙ h)
 kept_with most first keys u key false h rest =
-    rest (record { kept = keeping first u.kept; built = min (u.built + 1) most }) ∙ moved_or (same_key first key) (u.kept key) (list_any (λ k. same_key k key) keys)
+    rest (record { kept = keeping first u.kept; built = min (u.built + 1) most })
+        ∙ moved_or (same_key first key) (u.kept key) (list_any (λ k. same_key k key) keys)
 
 or_nothing : (b : Bool) → b ≡ (b || false)
 or_nothing true = refl
 or_nothing false = refl
 
-kept_after : (most : ℕ) (keys : List Key) (u : Uses) (key : Key) → (after most keys u).kept key ≡ (u.kept key || list_any (λ k. same_key k key) keys)
+kept_after : (most : ℕ) (keys : List Key) (u : Uses) (key : Key)
+    → (after most keys u).kept key ≡ (u.kept key || list_any (λ k. same_key k key) keys)
 kept_after most [] u key = or_nothing (u.kept key)
 kept_after most (first ∷ keys) u key = kept_with most first keys u key (u.kept first) refl (λ v. kept_after most keys v key)
 
@@ -55,7 +57,8 @@ built_with most first keys u false h rest =
     let more : length (first ∷ first_uses (keeping first u.kept) keys) ≡ 1 + n = omega arith in
     rest v small ∙ one_less u.built n most h ∙ ap (λ m. min (u.built + m) most) (sym more)
 
-built_after : (most : ℕ) (keys : List Key) (u : Uses) → u.built ≤ most → (after most keys u).built ≡ min (u.built + length (first_uses u.kept keys)) most
+built_after : (most : ℕ) (keys : List Key) (u : Uses) → u.built ≤ most
+    → (after most keys u).built ≡ min (u.built + length (first_uses u.kept keys)) most
 built_after most [] u h = grind (arith, h)
 built_after most (first ∷ keys) u h = built_with most first keys u (u.kept first) h (λ v k. built_after most keys v k)
 

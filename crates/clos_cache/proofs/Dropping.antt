@@ -15,14 +15,16 @@ use Rattle.clos_cache.proofs.Places.{looked_up, moved, one_item, one_key}
 
 module _ {T : Type 0} (change : Change) where
   -- the loop over the places has come down to this one
-  pub record Dropping (first : List (Key × ℕ)) (old : Slab (Entry T)) (es : List (Key × ℕ)) (now : Slab (Entry T)) (left : ℕ) : Type 0 where
+  pub record Dropping (first : List (Key × ℕ)) (old : Slab (Entry T)) (es : List (Key × ℕ)) (now : Slab (Entry T))
+      (left : ℕ) : Type 0 where
     pub there : AreThere es now
     pub apart : AreApart es
     pub as_many : AsMany es now
     pub same : (q : Key) → left_of change q (found (kept_in es now) q) ≡ left_of change q (found (kept_in first old) q)
     pub none : (i : ℕ) → left ≤ i → concerned_at change es now i ≡ false
 
-  pub begins : (es : List (Key × ℕ)) (entries : Slab (Entry T)) (n : ℕ) → AreThere es entries → AreApart es → AsMany es entries → n ≡ length es → Dropping es entries es entries n
+  pub begins : (es : List (Key × ℕ)) (entries : Slab (Entry T)) (n : ℕ) → AreThere es entries → AreApart es
+      → AsMany es entries → n ≡ length es → Dropping es entries es entries n
   begins es entries n there apart many h = record {
     there = there;
     apart = apart;
@@ -31,7 +33,8 @@ module _ {T : Type 0} (change : Change) where
     none = λ i k. ap (concerns_place change entries) (slice_get_past es i (subst (λ m. m ≤ i) h k));
   }
 
-  module _ (first es : List (Key × ℕ)) (old now : Slab (Entry T)) (left i : ℕ) (d : Dropping first old es now left) (next : i + 1 ≡ left) where
+  module _ (first es : List (Key × ℕ)) (old now : Slab (Entry T)) (left i : ℕ) (d : Dropping first old es now left)
+      (next : i + 1 ≡ left) where
     pub passes : concerned_at change es now i ≡ false → Dropping first old es now i
     passes h = record {
       there = d.there;
@@ -46,8 +49,10 @@ module _ {T : Type 0} (change : Change) where
           let apart : j ≢ i = λ p. true≢false (sym (eq-eqb j i p) ∙ t) in d.none j (omega (arith, apart, k, next))
 
     -- an entry that it concerns goes, and its key with it
-    module _ (c : ConcernedAt change es now i) (es' : List (Key × ℕ)) (now' : Slab (Entry T)) (gone : es' ≡ swap_remove es i (c.key, c.place))
-        (looked : (q : Key) → lookup (same_key q) es' ≡ cond (same_key c.key q) None (lookup (same_key q) es)) (updates : Updates now now' c.place None) (shorter : length es' + 1 ≡ length es)
+    module _ (c : ConcernedAt change es now i) (es' : List (Key × ℕ)) (now' : Slab (Entry T))
+        (gone : es' ≡ swap_remove es i (c.key, c.place))
+        (looked : (q : Key) → lookup (same_key q) es' ≡ cond (same_key c.key q) None (lookup (same_key q) es))
+            (updates : Updates now now' c.place None) (shorter : length es' + 1 ≡ length es)
         (fewer : slab_len now' + 1 ≡ slab_len now) where
       within : i < length es
       within = slice_get_within es i (c.key, c.place) c.there
@@ -108,7 +113,8 @@ module _ {T : Type 0} (change : Change) where
       none_there j None h k = refl
       none_there j (Some f) h k =
           let m = from j f h in
-          ap (concerns_entry change f.0) (kept_same j f m) ∙ ap (concerns_place change now) (sym m.there) ∙ d.none m.place (is_later j f m k)
+          ap (concerns_entry change f.0) (kept_same j f m) ∙ ap (concerns_place change now) (sym m.there)
+              ∙ d.none m.place (is_later j f m k)
 
       same_for : (q : Key) (b : Bool) (o : Option ℕ) → same_key c.key q ≡ b → lookup (same_key q) es ≡ o
           → left_of change q (at now' (cond b None o)) ≡ left_of change q (at now o)
@@ -122,7 +128,9 @@ module _ {T : Type 0} (change : Change) where
       same_for q false None t h = refl
       same_for q false (Some r) t h =
           ap (λ x. left_of change q (option_map kept_of x))
-          (updates.others r (λ p. true≢false (sym ((same_key-Decides c.key q).1 (one_key es d.apart c.key q c.place c.first (h ∙ ap Some p))) ∙ t)))
+          (updates.others r
+              (λ p. true≢false
+                  (sym ((same_key-Decides c.key q).1 (one_key es d.apart c.key q c.place c.first (h ∙ ap Some p))) ∙ t)))
 
       pub removes : Dropping first old es' now' i
       removes = record {
@@ -138,17 +146,21 @@ module _ {T : Type 0} (change : Change) where
       }
 
     -- .. as it was taken from the index and the slab
-    pub takes : (c : ConcernedAt change es now i) (z : Key × ℕ) (es' : List (Key × ℕ)) (now' : Slab (Entry T)) → Some z ≡ slice_get es i → es' ≡ swap_remove es i z
-        → ((q : Key) → lookup (same_key q) es' ≡ cond (same_key z.0 q) None (lookup (same_key q) es)) → Updates now now' z.1 None → length es' + 1 ≡ length es
+    pub takes : (c : ConcernedAt change es now i) (z : Key × ℕ) (es' : List (Key × ℕ)) (now' : Slab (Entry T))
+        → Some z ≡ slice_get es i → es' ≡ swap_remove es i z
+        → ((q : Key) → lookup (same_key q) es' ≡ cond (same_key z.0 q) None (lookup (same_key q) es))
+            → Updates now now' z.1 None → length es' + 1 ≡ length es
         → (o : Option (Entry T)) → o ≡ get now z.1 → OnSome o (slab_len now' + 1 ≡ slab_len now) → Dropping first old es' now' i
     takes c z es' now' at gone looked updates shorter o is fewer =
         let one = one_item z (c.key, c.place) (at ∙ c.there) in
-        removes c es' now' (gone ∙ ap (swap_remove es i) one) (λ q. looked q ∙ ap (λ (y : Key × ℕ). cond (same_key y.0 q) None (lookup (same_key q) es)) one)
+        removes c es' now' (gone ∙ ap (swap_remove es i) one)
+            (λ q. looked q ∙ ap (λ (y : Key × ℕ). cond (same_key y.0 q) None (lookup (same_key q) es)) one)
         (subst (λ (y : Key × ℕ). Updates now now' y.1 None) one updates) shorter
         (subst (λ o. OnSome o (slab_len now' + 1 ≡ slab_len now)) (is ∙ ap (λ (y : Key × ℕ). get now y.1) one ∙ c.holds) fewer)
 
   module _ (first es : List (Key × ℕ)) (old now : Slab (Entry T)) (d : Dropping first old es now 0) where
-    unconcerned : (q : Key) (x : Option (Entry T)) → concerns_entry change q x ≡ false → left_of change q (option_map kept_of x) ≡ option_map kept_of x
+    unconcerned : (q : Key) (x : Option (Entry T)) → concerns_entry change q x ≡ false
+        → left_of change q (option_map kept_of x) ≡ option_map kept_of x
     unconcerned q None h = refl
     unconcerned q (Some x) h = ap (λ b. cond b None (Some (kept_of x))) h
 
@@ -159,7 +171,8 @@ module _ {T : Type 0} (change : Change) where
         let keys = (same_key-Decides q a.entry.0).0 a.passes in
         let at_place = sym (ap (concerns_place change now) a.there) ∙ d.none a.place (omega arith) in
         unconcerned q (get now p)
-        (subst (λ r. concerns_entry change q (get now r) ≡ false) a.is (subst (λ k. concerns_entry change k (get now a.entry.1) ≡ false) (sym keys) at_place))
+        (subst (λ r. concerns_entry change q (get now r) ≡ false) a.is
+            (subst (λ k. concerns_entry change k (get now a.entry.1) ≡ false) (sym keys) at_place))
 
     pub ends : Drops change (kept_in first old) (kept_in es now)
     ends q =

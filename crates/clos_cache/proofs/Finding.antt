@@ -32,7 +32,8 @@ module _ {T : Type 0} where
       (found_in es entries q (λ i f h. there (suc i) f h))
       ∙ sym (at_either entries (same_key q e.0) e.1 (lookup (same_key q) es))
 
-  pub there_at : (es : List (Key × ℕ)) (entries : Slab (Entry T)) (test : Key → Bool) (p : ℕ) → AreThere es entries → lookup test es ≡ Some p
+  pub there_at : (es : List (Key × ℕ)) (entries : Slab (Entry T)) (test : Key → Bool) (p : ℕ) → AreThere es entries
+      → lookup test es ≡ Some p
       → IsSome (get entries p)
   there_at es entries test p there h =
       let a = looked_up test es p h in subst (λ q. IsSome (get entries q)) a.is (there a.place a.entry a.there)

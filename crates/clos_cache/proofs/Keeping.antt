@@ -14,28 +14,34 @@ use Rattle.clos_cache.specs.declared.cache.Entry.{Entry}
 use Rattle.clos_cache.proofs.Finding.{at, found_in}
 use Rattle.clos_cache.proofs.Places.{looked_up, one_key, pushed}
 
-added_to : (e : Key × ℕ) (es more : List (Key × ℕ)) (key : Key) (p : ℕ) (b : Bool) → same_key key e.0 ≡ b → cond b (Some e.1) (lookup (same_key key) es) ≡ None
-    → (lookup (same_key key) es ≡ None → more ≡ es ++ (key, p) ∷ []) → (if b then (e.0, p) ∷ es else e ∷ more) ≡ e ∷ (es ++ (key, p) ∷ [])
+added_to : (e : Key × ℕ) (es more : List (Key × ℕ)) (key : Key) (p : ℕ) (b : Bool) → same_key key e.0 ≡ b
+    → cond b (Some e.1) (lookup (same_key key) es) ≡ None
+    → (lookup (same_key key) es ≡ None → more ≡ es ++ (key, p) ∷ [])
+        → (if b then (e.0, p) ∷ es else e ∷ more) ≡ e ∷ (es ++ (key, p) ∷ [])
 added_to e es more key p true t h rest = absurd (none-some e.1 (sym h))
 added_to e es more key p false t h rest = ap (λ l. e ∷ l) (rest h)
 
 -- a key that is not there goes last
-pub added : (es : List (Key × ℕ)) (key : Key) (p : ℕ) → lookup (same_key key) es ≡ None → insert_entry same_key es key p ≡ es ++ (key, p) ∷ []
+pub added : (es : List (Key × ℕ)) (key : Key) (p : ℕ) → lookup (same_key key) es ≡ None
+    → insert_entry same_key es key p ≡ es ++ (key, p) ∷ []
 added [] key p h = refl
 added (e ∷ es) key p h = added_to e es (insert_entry same_key es key p) key p (same_key key e.0) refl h (added es key p)
 
 module _ {T : Type 0} where
   -- a slab with the same entries keeps the same
-  pub same_kept : (es : List (Key × ℕ)) (old new : Slab (Entry T)) → ((p : ℕ) → get new p ≡ get old p) → kept_in es new ≡ kept_in es old
+  pub same_kept : (es : List (Key × ℕ)) (old new : Slab (Entry T)) → ((p : ℕ) → get new p ≡ get old p)
+      → kept_in es new ≡ kept_in es old
   same_kept [] old new same = refl
   same_kept (e ∷ es) old new same = λ i. with_entry e.0 (same e.1 i) (same_kept es old new same i)
 
-  pub still_there : (es : List (Key × ℕ)) (old new : Slab (Entry T)) → ((p : ℕ) → get new p ≡ get old p) → AreThere es old → AreThere es new
+  pub still_there : (es : List (Key × ℕ)) (old new : Slab (Entry T)) → ((p : ℕ) → get new p ≡ get old p) → AreThere es old
+      → AreThere es new
   still_there es old new same there i e h = subst IsSome (sym (same e.1)) (there i e h)
 
   -- ---- another entry at the place of a key
 
-  module _ (es : List (Key × ℕ)) (old new : Slab (Entry T)) (key : Key) (p : ℕ) (x : Entry T) (there : AreThere es old) (apart : AreApart es)
+  module _ (es : List (Key × ℕ)) (old new : Slab (Entry T)) (key : Key) (p : ℕ) (x : Entry T) (there : AreThere es old)
+      (apart : AreApart es)
       (here : lookup (same_key key) es ≡ Some p) (updates : Updates old new p (Some x)) where
     replaced_at : (q : ℕ) (b : Bool) → (p == q) ≡ b → IsSome (get old q) → IsSome (get new q)
     replaced_at q true t h = subst IsSome (sym updates.changed ∙ ap (get new) (eqb-true p q t)) refl
@@ -44,13 +50,16 @@ module _ {T : Type 0} where
     pub replaced_there : AreThere es new
     replaced_there i e h = replaced_at e.1 (p == e.1) refl (there i e h)
 
-    replaced_for : (q : Key) (b : Bool) (o : Option ℕ) → same_key key q ≡ b → lookup (same_key q) es ≡ o → at new o ≡ (if b then Some (kept_of x) else at old o)
+    replaced_for : (q : Key) (b : Bool) (o : Option ℕ) → same_key key q ≡ b → lookup (same_key q) es ≡ o
+        → at new o ≡ (if b then Some (kept_of x) else at old o)
     replaced_for q true o t h =
         let same = ap (λ k. lookup (same_key k) es) ((same_key-Decides key q).0 t) in
         ap (at new) (sym h ∙ sym same ∙ here) ∙ ap (option_map kept_of) updates.changed
     replaced_for q false None t h = refl
     replaced_for q false (Some r) t h =
-        ap (option_map kept_of) (updates.others r (λ e. true≢false (sym ((same_key-Decides key q).1 (one_key es apart key q p here (h ∙ ap Some e))) ∙ t)))
+        ap (option_map kept_of)
+            (updates.others r
+                (λ e. true≢false (sym ((same_key-Decides key q).1 (one_key es apart key q p here (h ∙ ap Some e))) ∙ t)))
 
     pub replaced : Keeps key (kept_of x) (kept_in es old) (kept_in es new)
     replaced q =
@@ -60,7 +69,8 @@ module _ {T : Type 0} where
 
   -- ---- a key more, with an entry more
 
-  module _ (es more : List (Key × ℕ)) (old new : Slab (Entry T)) (key : Key) (p : ℕ) (x : Entry T) (there : AreThere es old) (apart : AreApart es)
+  module _ (es more : List (Key × ℕ)) (old new : Slab (Entry T)) (key : Key) (p : ℕ) (x : Entry T) (there : AreThere es old)
+      (apart : AreApart es)
       (last : more ≡ es ++ (key, p) ∷ []) (nowhere : get old p ≡ None) (updates : Updates old new p (Some x)) where
     -- the place is no other key's
     no_other : (i : ℕ) (e : Key × ℕ) → slice_get es i ≡ Some e → e.1 ≢ p
@@ -90,7 +100,8 @@ module _ {T : Type 0} where
         ]
 
     module _ (looked : (q : Key) → lookup (same_key q) more ≡ cond (same_key key q) (Some p) (lookup (same_key q) es)) where
-      kept_for : (q : Key) (b : Bool) (o : Option ℕ) → lookup (same_key q) es ≡ o → at new (cond b (Some p) o) ≡ (if b then Some (kept_of x) else at old o)
+      kept_for : (q : Key) (b : Bool) (o : Option ℕ) → lookup (same_key q) es ≡ o
+          → at new (cond b (Some p) o) ≡ (if b then Some (kept_of x) else at old o)
       kept_for q true o h = ap (option_map kept_of) updates.changed
       kept_for q false None h = refl
       kept_for q false (Some r) h =
@@ -105,8 +116,10 @@ module _ {T : Type 0} where
           ∙ ap (λ o. if same_key key q then Some (kept_of x) else o) (sym (found_in es old q there))
 
   -- .. after room was made for both
-  module _ (es roomy more : List (Key × ℕ)) (first old new : Slab (Entry T)) (key : Key) (p : ℕ) (x : Entry T) (there : AreThere es first) (apart : AreApart es)
-      (none : lookup (same_key key) es ≡ None) (same_index : roomy ≡ es) (same : (q : ℕ) → get old q ≡ get first q) (nowhere : get old p ≡ None)
+  module _ (es roomy more : List (Key × ℕ)) (first old new : Slab (Entry T)) (key : Key) (p : ℕ) (x : Entry T)
+      (there : AreThere es first) (apart : AreApart es)
+      (none : lookup (same_key key) es ≡ None) (same_index : roomy ≡ es) (same : (q : ℕ) → get old q ≡ get first q)
+          (nowhere : get old p ≡ None)
       (updates : Updates old new p (Some x)) (last : more ≡ insert_entry same_key roomy key p)
       (looked : (q : Key) → lookup (same_key q) more ≡ cond (same_key key q) (Some p) (lookup (same_key q) roomy)) where
     at_end : more ≡ es ++ (key, p) ∷ []

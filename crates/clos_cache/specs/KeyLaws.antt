@@ -26,7 +26,8 @@ from_same_argument a b h = λ i. record {
 }
 
 argument_itself : (a : Argument) → same_argument a a ≡ true
-argument_itself a = both_so (a.class == a.class) (same_object a.object a.object) (eq-eqb a.class a.class refl) (object_itself a.object)
+argument_itself a = both_so (a.class == a.class) (same_object a.object a.object) (eq-eqb a.class a.class refl)
+    (object_itself a.object)
 
 pub same_argument-Decides : (a b : Argument) → Decides (same_argument a b) (a ≡ b)
 same_argument-Decides a b = (from_same_argument a b, λ p. subst (λ c. same_argument a c ≡ true) p (argument_itself a))

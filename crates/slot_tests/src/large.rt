@@ -61,22 +61,52 @@ fn definition(alloc: Global, shape: Shape, place: u64) -> Result<ClassDefinition
     })
 }
 
+/// Defines the class of a place, with this as the first new cell.
+fn define(
+    alloc: Global,
+    classes: &mut Classes,
+    shape: Shape,
+    place: u64,
+    cell: CellId,
+) -> Result<(), ClassFault> {
+    let definition = definition(alloc, shape, place)?;
+    classes.define(alloc, &definition, cell)?;
+    Ok(())
+}
+
+/// How many local slots the class of this name has, where this one of its slots has the cell 7.
+fn slots_of(classes: &Classes, class: &Name, slot: &Name) -> Option<usize> {
+    let class = classes.hierarchy().named(class)?;
+    let layout = classes.layout(class)?;
+    if layout.cell(slot)?.0 == 7 {
+        Some(layout.len())
+    } else {
+        None
+    }
+}
+
+/// Defines so many classes of a shape, the first one twice.
+fn define_all(
+    alloc: Global,
+    classes: &mut Classes,
+    shape: Shape,
+    count: u64,
+) -> Result<(), ClassFault> {
+    for place in 0..count {
+        define(alloc, classes, shape, place, CellId(7))?;
+    }
+    define(alloc, classes, shape, 0, CellId(8))
+}
+
 /// So many classes of a shape, the first one defined twice: how many local slots the last one has.
 fn slots_of_last(alloc: Global, shape: Shape, count: u64) -> Result<Option<usize>, ClassFault> {
-    let mut classes = Classes::new(alloc, count)?;
-    for place in 0..count {
-        classes.define(alloc, &definition(alloc, shape, place)?, CellId(7))?;
-    }
-    classes.define(alloc, &definition(alloc, shape, 0)?, CellId(8))?;
+    let first = name(alloc, 0)?;
     let last = name(alloc, count.saturating_sub(1))?;
-    let layout = match classes.hierarchy().named(&last) {
-        Some(class) => classes.layout(class),
-        None => None,
-    };
-    Ok(match layout {
-        Some(layout) if layout.cell(&name(alloc, 0)?) == Some(CellId(7)) => Some(layout.len()),
-        _ => None,
-    })
+    let mut classes = Classes::new(alloc, count)?;
+    match define_all(alloc, &mut classes, shape, count) {
+        Ok(()) => Ok(slots_of(&classes, &last, &first)),
+        Err(fault) => Err(fault),
+    }
 }
 
 #[test]

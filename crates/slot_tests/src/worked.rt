@@ -106,18 +106,30 @@ const REFUSED: &str = "(defclass a () ((x :allocation :class))) => X: A
 ? C => W
 ";
 
-/// The definition that a text reads as.
-fn definition(alloc: Global, text: &str) -> Result<Option<ClassDefinition>, AllocError> {
-    let Ok(Some((datum, _))) = read_form(alloc, text.as_bytes(), 0) else {
-        return Ok(None);
-    };
-    match &datum {
-        Datum::List(form) => match form.split_first() {
-            Some((_, rest)) => Ok(parse_class(alloc, rest).ok()),
-            None => Ok(None),
-        },
-        _ => Ok(None),
+/// The datum that a text begins with.
+fn datum(alloc: Global, text: &str) -> Option<Datum> {
+    match read_form(alloc, text.as_bytes(), 0) {
+        Ok(Some((datum, _))) => Some(datum),
+        _ => None,
     }
+}
+
+/// The definition that a datum stands for.
+fn parsed(alloc: Global, datum: &Datum) -> Option<ClassDefinition> {
+    let Datum::List(form) = datum else {
+        return None;
+    };
+    let (_, rest) = form.split_first()?;
+    match parse_class(alloc, rest) {
+        Ok(definition) => Some(definition),
+        Err(_) => None,
+    }
+}
+
+/// The definition that a text reads as.
+fn definition(alloc: Global, text: &str) -> Option<ClassDefinition> {
+    let datum = datum(alloc, text)?;
+    parsed(alloc, &datum)
 }
 
 fn write_name(line: &mut String, name: &Name) -> Result<(), AllocError> {
@@ -359,7 +371,7 @@ fn outcome(
         write_slots(alloc, &mut line, classes, &Name::new(alloc, name, false)?)?;
         return Ok(line);
     }
-    match definition(alloc, form)? {
+    match definition(alloc, form) {
         None => line.push_str(" no definition")?,
         Some(definition) => define(alloc, &mut line, classes, &definition, made)?,
     }
@@ -407,7 +419,7 @@ fn held_slots_stay(rt: HostRuntime) -> Result<(), Fail> {
     let mut line = String::new(alloc);
     let mut made = 0;
     let first = "(defclass a () ((x :initform 1) y) (:default-initargs :y 2))";
-    if let Some(first) = definition(alloc, first)? {
+    if let Some(first) = definition(alloc, first) {
         define(alloc, &mut line, &mut classes, &first, &mut made)?;
     }
     let held = match classes.hierarchy().named(&Name::fixed(&"A")) {
@@ -417,7 +429,7 @@ fn held_slots_stay(rt: HostRuntime) -> Result<(), Fail> {
             Some(effective) => Some(effective.clone()?),
         },
     };
-    if let Some(second) = definition(alloc, "(defclass a () (z))")? {
+    if let Some(second) = definition(alloc, "(defclass a () (z))") {
         define(alloc, &mut line, &mut classes, &second, &mut made)?;
     }
     if let Some(held) = &held {
@@ -428,23 +440,34 @@ fn held_slots_stay(rt: HostRuntime) -> Result<(), Fail> {
     Ok(())
 }
 
-/// The answer of a table to this definition, to which the slots and default initargs of another were added.
-fn answer(alloc: Global, text: &str, more: &str) -> Result<String, AllocError> {
-    let mut line = String::new(alloc);
-    let (Some(mut first), Some(second)) = (definition(alloc, text)?, definition(alloc, more)?)
-    else {
-        return Ok(line);
-    };
+/// Adds the slots and default initargs of a definition to those of another.
+fn add_to(first: &mut ClassDefinition, second: ClassDefinition) -> Result<(), AllocError> {
     let ClassDefinition {
         slots,
         defaults,
         ..
     } = second;
     first.slots.append(slots)?;
-    first.defaults.append(defaults)?;
+    first.defaults.append(defaults)
+}
+
+/// The answer of a table to this definition.
+fn answer_to(alloc: Global, definition: &ClassDefinition) -> Result<String, AllocError> {
+    let mut line = String::new(alloc);
     let mut classes = Classes::new(alloc, 8)?;
-    define(alloc, &mut line, &mut classes, &first, &mut 0)?;
+    define(alloc, &mut line, &mut classes, definition, &mut 0)?;
     Ok(line)
+}
+
+/// The answer of a table to this definition, to which the slots and default initargs of another were added.
+fn answer(alloc: Global, text: &str, more: &str) -> Result<String, AllocError> {
+    let Some(mut first) = definition(alloc, text) else {
+        return Ok(String::new(alloc));
+    };
+    if let Some(second) = definition(alloc, more) {
+        add_to(&mut first, second)?;
+    }
+    answer_to(alloc, &first)
 }
 
 #[test]

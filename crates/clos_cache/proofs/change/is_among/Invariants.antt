@@ -5,7 +5,8 @@ use Rattle.clos_cache.proofs.change.is_among.Given as goal
 
 -- it is among them where it is among what is left of them
 abbrev pub invariant-loop-first : goal.invariant-loop-first
-invariant-loop-first l = list_any (nat_eq l.fn.class.0) (numbers_of l.left) ≡ list_any (nat_eq l.fn.class.0) (numbers_of l.fn.classes)
+invariant-loop-first l = list_any (nat_eq l.fn.class.0) (numbers_of l.left) ≡ list_any (nat_eq l.fn.class.0)
+    (numbers_of l.fn.classes)
 
 abbrev pub decreases-loop-first : goal.decreases-loop-first
 decreases-loop-first l = length l.left

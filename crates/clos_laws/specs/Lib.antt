@@ -1,0 +1,4 @@
+pub mod Sound
+pub mod Predefined
+pub mod Reached
+pub mod Laws
