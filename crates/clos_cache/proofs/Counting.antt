@@ -29,7 +29,7 @@ kept_with most first keys u key true h rest =
     (λ e. ap u.kept (sym ((same_key-Decides first key).0 e)) ∙ h)
 kept_with most first keys u key false h rest =
     rest (record { kept = keeping first u.kept; built = min (u.built + 1) most })
-        ∙ moved_or (same_key first key) (u.kept key) (list_any (λ k. same_key k key) keys)
+    ∙ moved_or (same_key first key) (u.kept key) (list_any (λ k. same_key k key) keys)
 
 or_nothing : (b : Bool) → b ≡ (b || false)
 or_nothing true = refl

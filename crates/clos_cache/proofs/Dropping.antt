@@ -52,7 +52,7 @@ module _ {T : Type 0} (change : Change) where
     module _ (c : ConcernedAt change es now i) (es' : List (Key × ℕ)) (now' : Slab (Entry T))
         (gone : es' ≡ swap_remove es i (c.key, c.place))
         (looked : (q : Key) → lookup (same_key q) es' ≡ cond (same_key c.key q) None (lookup (same_key q) es))
-            (updates : Updates now now' c.place None) (shorter : length es' + 1 ≡ length es)
+        (updates : Updates now now' c.place None) (shorter : length es' + 1 ≡ length es)
         (fewer : slab_len now' + 1 ≡ slab_len now) where
       within : i < length es
       within = slice_get_within es i (c.key, c.place) c.there
@@ -114,7 +114,7 @@ module _ {T : Type 0} (change : Change) where
       none_there j (Some f) h k =
           let m = from j f h in
           ap (concerns_entry change f.0) (kept_same j f m) ∙ ap (concerns_place change now) (sym m.there)
-              ∙ d.none m.place (is_later j f m k)
+          ∙ d.none m.place (is_later j f m k)
 
       same_for : (q : Key) (b : Bool) (o : Option ℕ) → same_key c.key q ≡ b → lookup (same_key q) es ≡ o
           → left_of change q (at now' (cond b None o)) ≡ left_of change q (at now o)
@@ -129,8 +129,8 @@ module _ {T : Type 0} (change : Change) where
       same_for q false (Some r) t h =
           ap (λ x. left_of change q (option_map kept_of x))
           (updates.others r
-              (λ p. true≢false
-                  (sym ((same_key-Decides c.key q).1 (one_key es d.apart c.key q c.place c.first (h ∙ ap Some p))) ∙ t)))
+          (λ p. true≢false
+          (sym ((same_key-Decides c.key q).1 (one_key es d.apart c.key q c.place c.first (h ∙ ap Some p))) ∙ t)))
 
       pub removes : Dropping first old es' now' i
       removes = record {
@@ -149,12 +149,12 @@ module _ {T : Type 0} (change : Change) where
     pub takes : (c : ConcernedAt change es now i) (z : Key × ℕ) (es' : List (Key × ℕ)) (now' : Slab (Entry T))
         → Some z ≡ slice_get es i → es' ≡ swap_remove es i z
         → ((q : Key) → lookup (same_key q) es' ≡ cond (same_key z.0 q) None (lookup (same_key q) es))
-            → Updates now now' z.1 None → length es' + 1 ≡ length es
+        → Updates now now' z.1 None → length es' + 1 ≡ length es
         → (o : Option (Entry T)) → o ≡ get now z.1 → OnSome o (slab_len now' + 1 ≡ slab_len now) → Dropping first old es' now' i
     takes c z es' now' at gone looked updates shorter o is fewer =
         let one = one_item z (c.key, c.place) (at ∙ c.there) in
         removes c es' now' (gone ∙ ap (swap_remove es i) one)
-            (λ q. looked q ∙ ap (λ (y : Key × ℕ). cond (same_key y.0 q) None (lookup (same_key q) es)) one)
+        (λ q. looked q ∙ ap (λ (y : Key × ℕ). cond (same_key y.0 q) None (lookup (same_key q) es)) one)
         (subst (λ (y : Key × ℕ). Updates now now' y.1 None) one updates) shorter
         (subst (λ o. OnSome o (slab_len now' + 1 ≡ slab_len now)) (is ∙ ap (λ (y : Key × ℕ). get now y.1) one ∙ c.holds) fewer)
 
@@ -172,7 +172,7 @@ module _ {T : Type 0} (change : Change) where
         let at_place = sym (ap (concerns_place change now) a.there) ∙ d.none a.place (omega arith) in
         unconcerned q (get now p)
         (subst (λ r. concerns_entry change q (get now r) ≡ false) a.is
-            (subst (λ k. concerns_entry change k (get now a.entry.1) ≡ false) (sym keys) at_place))
+        (subst (λ k. concerns_entry change k (get now a.entry.1) ≡ false) (sym keys) at_place))
 
     pub ends : Drops change (kept_in first old) (kept_in es now)
     ends q =

@@ -17,7 +17,7 @@ use Rattle.clos_cache.proofs.Places.{looked_up, one_key, pushed}
 added_to : (e : Key × ℕ) (es more : List (Key × ℕ)) (key : Key) (p : ℕ) (b : Bool) → same_key key e.0 ≡ b
     → cond b (Some e.1) (lookup (same_key key) es) ≡ None
     → (lookup (same_key key) es ≡ None → more ≡ es ++ (key, p) ∷ [])
-        → (if b then (e.0, p) ∷ es else e ∷ more) ≡ e ∷ (es ++ (key, p) ∷ [])
+    → (if b then (e.0, p) ∷ es else e ∷ more) ≡ e ∷ (es ++ (key, p) ∷ [])
 added_to e es more key p true t h rest = absurd (none-some e.1 (sym h))
 added_to e es more key p false t h rest = ap (λ l. e ∷ l) (rest h)
 
@@ -58,8 +58,8 @@ module _ {T : Type 0} where
     replaced_for q false None t h = refl
     replaced_for q false (Some r) t h =
         ap (option_map kept_of)
-            (updates.others r
-                (λ e. true≢false (sym ((same_key-Decides key q).1 (one_key es apart key q p here (h ∙ ap Some e))) ∙ t)))
+        (updates.others r
+        (λ e. true≢false (sym ((same_key-Decides key q).1 (one_key es apart key q p here (h ∙ ap Some e))) ∙ t)))
 
     pub replaced : Keeps key (kept_of x) (kept_in es old) (kept_in es new)
     replaced q =
@@ -119,7 +119,7 @@ module _ {T : Type 0} where
   module _ (es roomy more : List (Key × ℕ)) (first old new : Slab (Entry T)) (key : Key) (p : ℕ) (x : Entry T)
       (there : AreThere es first) (apart : AreApart es)
       (none : lookup (same_key key) es ≡ None) (same_index : roomy ≡ es) (same : (q : ℕ) → get old q ≡ get first q)
-          (nowhere : get old p ≡ None)
+      (nowhere : get old p ≡ None)
       (updates : Updates old new p (Some x)) (last : more ≡ insert_entry same_key roomy key p)
       (looked : (q : Key) → lookup (same_key q) more ≡ cond (same_key key q) (Some p) (lookup (same_key q) roomy)) where
     at_end : more ≡ es ++ (key, p) ∷ []

@@ -34,7 +34,7 @@ module _ {X : Type 0} where
       let taken : j < length xs - 1 = omega (arith, fits) in
       let last = get_or xs (length xs - 1) d in
       let is_last = sym (get_or-set_at xs i j last y (eqb-true j i t) h)
-          ∙ sym (get_or-take (length xs - 1) (set xs i last) j y taken) ∙ e in
+      ∙ sym (get_or-take (length xs - 1) (set xs i last) j y taken) ∙ e in
       (fits, inl (eqb-true j i t, slice_get-get_or xs (length xs - 1) d within ∙ ap Some is_last))
   moved_there xs i j d y false t h k e =
       let fits : j + 1 < length xs = below_last xs i j d k in
@@ -50,7 +50,7 @@ module _ {X : Type 0} where
       → (j + 1 < length xs) × (((j ≡ i) × (slice_get xs (length xs - 1) ≡ Some y)) ⊎ ((j ≡ i → ⊥) × (slice_get xs j ≡ Some y)))
   moved xs i j d y h k =
       moved_there xs i j d y (j == i) refl h (slice_get_within (swap_remove xs i d) j y k)
-          (get_or_from_slice_get (swap_remove xs i d) j y y k)
+      (get_or_from_slice_get (swap_remove xs i d) j y y k)
 
 -- the place at which a test of keys finds one
 pub record At (test : Key → Bool) (es : List (Key × ℕ)) (p : ℕ) : Type 0 where

@@ -93,7 +93,7 @@ as_many : (rs : List Removal) (t : Table) → length (without_all rs t).function
 as_many [] t = refl
 as_many (r ∷ rs) t =
     as_many rs (without_method r.generic.0 r.method.0 t)
-        ∙ length_of_changed (table.with_methods (without (λ n. n == r.method.0))) t.functions r.generic.0
+    ∙ length_of_changed (table.with_methods (without (λ n. n == r.method.0))) t.functions r.generic.0
 
 pub removals_sound : (rs : List Removal) (t : Table) → IsSound t → IsSound (without_all rs t)
 removals_sound [] t s = s
@@ -124,7 +124,7 @@ from_one t r rs g f s o (here x e h k) = record {
   left = λ n i.
       none_of (is_removal_of g n r) (list_any (is_removal_of g n) rs)
       (not_removed r g n x.methods (s.functions g x h).distinct
-          (subst (λ ms. IsMember ms n) (ap (λ y. y.methods) k) (o.stays n i))) (o.left n i);
+      (subst (λ ms. IsMember ms n) (ap (λ y. y.methods) k) (o.stays n i))) (o.left n i);
 }
 from_one t r rs g f s o (elsewhere e h) = record {
   origin = o.origin;
@@ -142,19 +142,19 @@ from [] t g f s h = record { origin = f; there = h; shape = refl; stays = λ n i
 from (r ∷ rs) t g f s h =
     let o = from rs (without_method r.generic.0 r.method.0 t) g f (sound_without t r.generic.0 r.method.0 s) h in
     from_one t r rs g f s o
-        (at_changed (table.with_methods (without (λ n. n == r.method.0))) r.generic.0 t.functions g o.origin o.there)
+    (at_changed (table.with_methods (without (λ n. n == r.method.0))) r.generic.0 t.functions g o.origin o.there)
 
 -- what stays of the methods of a function fits where those that stay were asked
 fit_of : (rs : List Removal) (t : Table) (shape : Shape) (g n : ℕ) (o : Option Function) → IsSound t
     → slice_get (without_all rs t).functions g ≡ o
     → list_all (fits_or_goes t rs g shape) (methods_of t g) ≡ true → IsMember (methods_in o) n
-        → fits_in shape (slice_get t.methods n) ≡ true
+    → fits_in shape (slice_get t.methods n) ≡ true
 fit_of rs t shape g n None s h k i = absurd i
 fit_of rs t shape g n (Some f) s h k i =
     let o = from rs t g f s h in
     let there = subst (λ p. IsMember (methods_in p) n) (sym o.there) (o.stays n i) in
     the_other (list_any (is_removal_of g n) rs) (fits_in shape (slice_get t.methods n))
-        (all_at (fits_or_goes t rs g shape) (methods_of t g) n k there) (o.left n i)
+    (all_at (fits_or_goes t rs g shape) (methods_of t g) n k there) (o.left n i)
 
 fit_named : (rs : List Removal) (t : Table) (shape : Shape) (found : Option ℕ) → IsSound t → staying_fit t rs shape found ≡ true
     → (n : ℕ) → IsMember (methods_named (without_all rs t) found) n → fits_in shape (slice_get t.methods n) ≡ true
@@ -166,7 +166,7 @@ definition_fit : (rs : List Removal) (t : Table) (d : Definition) → IsSound t 
 definition_fit rs t d s h n i =
     ap (λ ms. fits_in d.options.shape (slice_get ms n)) (methods_stay rs t)
     ∙ fit_named rs t d.options.shape (named t d.name) s h n
-        (subst (λ o. IsMember (methods_named (without_all rs t) o) n) (named_still rs t d.name) i)
+    (subst (λ o. IsMember (methods_named (without_all rs t) o) n) (named_still rs t d.name) i)
 
 -- ---- functions are defined
 
@@ -191,12 +191,12 @@ pub named_new : (t : Table) (d : Definition) (x : FunctionName) → named t d.na
     → named (after d t) x ≡ option_or (named t x) (last_if (same_function d.name x) (length t.functions))
 named_new t d x h =
     ap (λ o. named_in (defined_at o d.name d.options t.functions) x) h
-        ∙ with_last (λ f. same_function f.name x) t.functions (made d.name d.options)
+    ∙ with_last (λ f. same_function f.name x) t.functions (made d.name d.options)
 
 named_old : (t : Table) (d : Definition) (x : FunctionName) (g : ℕ) → named t d.name ≡ Some g → named (after d t) x ≡ named t x
 named_old t d x g h =
     ap (λ o. named_in (defined_at o d.name d.options t.functions) x) h
-        ∙ same_names (redefined d.options) (λ f. refl) t.functions g x
+    ∙ same_names (redefined d.options) (λ f. refl) t.functions g x
 
 -- a method of the function of this name after it is one before it
 old_new : (t : Table) (d : Definition) (x : FunctionName) (n : ℕ) (o : Option ℕ) (b : Bool) → named t x ≡ o → named t d.name ≡ None
@@ -214,7 +214,7 @@ old_named_by : (t : Table) (d : Definition) (x : FunctionName) (n : ℕ) (o : Op
     → IsMember (methods_named t (named t x)) n
 old_named_by t d x n None h i =
     old_new t d x n (named t x) (same_function d.name x) refl h
-        (subst (λ o. IsMember (methods_named (after d t) o) n) (named_new t d x h) i)
+    (subst (λ o. IsMember (methods_named (after d t) o) n) (named_new t d x h) i)
 old_named_by t d x n (Some g) h i =
     old_at (named t x) (subst (λ o. IsMember (methods_named (after d t) o) n) (named_old t d x g h) i) where
       old_at : (o : Option ℕ) → IsMember (methods_named (after d t) o) n → IsMember (methods_named t o) n
@@ -261,7 +261,7 @@ shape_old now d o i g f known (elsewhere e h) = known f h
 shape_next : (t now : Table) (d : Definition) (o : Option Shape) (added g : ℕ) (f : Function) (found : Option ℕ)
     → length now.functions ≡ length t.functions + added
     → ((f : Function) → slice_get now.functions g ≡ Some f → Some f.shape ≡ o)
-        → slice_get (defined_at found d.name d.options now.functions) g ≡ Some f
+    → slice_get (defined_at found d.name d.options now.functions) g ≡ Some f
     → Some f.shape ≡ shape_if (has_number t found added g) d.options.shape o
 shape_next t now d o added g f None l known h =
     shape_new now d o (length t.functions + added) g f l known (at_pushed now.functions (made d.name d.options) g f h)
@@ -276,15 +276,15 @@ count_next t now d added (Some g) h = length_of_changed (redefined d.options) no
 shapes_known : (t : Table) (g : ℕ) (ds : List Definition) (now : Table) (added : ℕ) (o : Option Shape)
     → length now.functions ≡ length t.functions + added → Apart t now ds
     → ((f : Function) → slice_get now.functions g ≡ Some f → Some f.shape ≡ o) → (f : Function)
-        → slice_get (with_definitions ds now).functions g ≡ Some f
+    → slice_get (with_definitions ds now).functions g ≡ Some f
     → Some f.shape ≡ shape_after t added ds g o
 shapes_known t g [] now added o l a known f h = known f h
 shapes_known t g (d ∷ ds) now added o l a known f h =
     shapes_known t g ds (after d now) (one_more_if_new (named t d.name) added)
-        (shape_if (has_number t (named t d.name) added g) d.options.shape o)
+    (shape_if (has_number t (named t d.name) added g) d.options.shape o)
     (ap (λ x. length (defined_at x d.name d.options now.functions)) a.0 ∙ count_next t now d added (named t d.name) l) a.1
     (λ e k. shape_next t now d o added g e (named t d.name) l known
-        (ap (λ x. slice_get (defined_at x d.name d.options now.functions) g) (sym a.0) ∙ k)) f h
+    (ap (λ x. slice_get (defined_at x d.name d.options now.functions) g) (sym a.0) ∙ k)) f h
 
 -- ---- methods come
 
@@ -304,9 +304,11 @@ takes_still t g m k f h (elsewhere e i) = h f i
 
 takes_after : (t : Table) (m : Method) (ms : List Method) → Each (Takes t) ms → Each (Takes (with_method m.generic.0 m t)) ms
 takes_after t m [] h = tt
-takes_after t m (k ∷ ms) h =
-    ((λ f i. takes_still t m.generic.0 m k f h.0 (at_changed
-        (table.with_methods (added t.methods m)) m.generic.0 t.functions k.generic.0 f i)), takes_after t m ms h.1)
+takes_after t m (k ∷ ms) h = (
+  (λ f i. takes_still t m.generic.0 m k f h.0 (at_changed
+      (table.with_methods (added t.methods m)) m.generic.0 t.functions k.generic.0 f i)),
+  takes_after t m ms h.1,
+)
 
 pub methods_sound : (ms : List Method) (t : Table) → IsSound t → Each HasOwn ms → Each (Takes t) ms → IsSound (with_methods ms t)
 methods_sound [] t s h k = s
@@ -320,7 +322,7 @@ own_takes : (t : Table) (rs : List Removal) (ds : List Definition) (m : Method) 
     → Takes (with_definitions ds (without_all rs t)) m
 own_takes t rs ds m s a h f k =
     let known = shapes_known t m.generic.0 ds (without_all rs t) 0 (shape_in (slice_get t.functions m.generic.0))
-        (omega (arith, as_many rs t)) a
+    (omega (arith, as_many rs t)) a
     (λ e i. let o = from rs t m.generic.0 e s i in ap Some o.shape ∙ ap shape_in (sym o.there)) f k in
     same_required f.shape m.shape (ap (λ o. takes_shape o m.shape) known ∙ h)
 
@@ -353,7 +355,7 @@ changes_sound t rs ds ms s os own a h =
     let additions = second_so (list_all (definition_fits t rs) ds) (list_all (addition_fits t ds) (map addition_of ms)) fit in
     methods_sound ms (with_definitions ds (without_all rs t))
     (definitions_sound ds (without_all rs t) (removals_sound rs t s) os (all_fit t rs ds s definitions)) own
-        (all_take t rs ds ms s a additions)
+    (all_take t rs ds ms s a additions)
 
 -- ---- definitions whose names are apart
 

@@ -103,7 +103,7 @@ pub generic_sound : (d : GenericDefinition) (vs : List (Option Val)) (w : State)
 generic_sound d vs w o h s none =
     let rs = earlier_methods w.generics (named w.generics d.name) in
     changes_sound w.generics rs (definition_of d ∷ []) (initial_methods d vs w) s (o, tt)
-        (all_own w.classes (number w.generics d.name) d.methods vs h)
+    (all_own w.classes (number w.generics d.name) d.methods vs h)
     (one_apart w.generics rs (definition_of d)) (not_told d.name _ (last_none _ _ none))
 
 -- ---- classes: their accessors
@@ -131,7 +131,7 @@ sound_functions : (t : Table) (more : List SlotAccessor) (ds : List Definition) 
 sound_functions t [] ds h = h
 sound_functions t (a ∷ more) ds h =
     sound_functions t more (if is_there t ds (function_of a) then ds else ds ++ function_made a ∷ [])
-        (sound_next (is_there t ds (function_of a)) ds a h)
+    (sound_next (is_there t ds (function_of a)) ds a h)
 
 -- a name that no function has and none of these definitions is not found after them
 abbrev Unknown : Table → Table → List Definition → Type 0
@@ -159,10 +159,10 @@ unknown_end : (t now : Table) (ds : List Definition) (d : Definition) → Unknow
     → named (with_definitions ds now) d.name ≡ None → Unknown t now (ds ++ d ∷ [])
 unknown_end t now ds d u h x k l =
     let both = none_or (place_of x ds) (same_function d.name x) (length ds)
-        (sym (with_last (λ e. same_function e.name x) ds d) ∙ l) in
+    (sym (with_last (λ e. same_function e.name x) ds d) ∙ l) in
     ap (λ y. named y x) (with_end now ds d) ∙ named_new (with_definitions ds now) d x h
     ∙ none_after (named (with_definitions ds now) x) (same_function d.name x) (length (with_definitions ds now).functions)
-        (u x k both.0) both.1
+    (u x k both.0) both.1
 
 not_some : (o : Option ℕ) → is_some o ≡ false → o ≡ None
 not_some None h = refl
@@ -184,15 +184,18 @@ fresh_next t now ds a false e f =
     let both = neither (is_some (named t (function_of a))) (is_some (place_of (function_of a) ds)) e in
     let new = not_some (named t (function_of a)) both.0 in
     let none = f.unknown (function_of a) new (not_some (place_of (function_of a) ds) both.1) in
-    record { apart = apart_end t now ds (function_made a) f.apart (none ∙ sym new); unknown =
-        unknown_end t now ds (function_made a) f.unknown none }
+    record {
+      apart = apart_end t now ds (function_made a) f.apart (none ∙ sym new);
+      unknown =
+          unknown_end t now ds (function_made a) f.unknown none;
+    }
 
 fresh_functions : (t now : Table) (more : List SlotAccessor) (ds : List Definition) → Fresh t now ds
     → Fresh t now (with_functions t ds more)
 fresh_functions t now [] ds f = f
 fresh_functions t now (a ∷ more) ds f =
     fresh_functions t now more (if is_there t ds (function_of a) then ds else ds ++ function_made a ∷ [])
-        (fresh_next t now ds a (is_there t ds (function_of a)) refl f)
+    (fresh_next t now ds a (is_there t ds (function_of a)) refl f)
 
 changes_allowed : (d : ClassDefinition) (cells : ℕ) (w : State) → class_refusal d cells w ≡ None
     → changes_refusal w.generics (class_changes d w) ≡ None
@@ -209,10 +212,10 @@ pub class_sound : (d : ClassDefinition) (cells : ℕ) (vs : List (Option Val)) (
 class_sound d cells vs w s none =
     let rs = class_removals d w in
     changes_sound w.generics rs (class_functions d w) (class_methods d w) s
-        (sound_functions w.generics (accessors_of d.slots) [] tt)
+    (sound_functions w.generics (accessors_of d.slots) [] tt)
     (own_accessors (class_number d w) w.generics (class_functions d w) (accessors_of d.slots))
     (fresh_functions w.generics (without_all rs w.generics) (accessors_of d.slots) []
-        (record { apart = tt; unknown = λ x h k. named_still rs w.generics x ∙ h })).apart
+    (record { apart = tt; unknown = λ x h k. named_still rs w.generics x ∙ h })).apart
     (changes_allowed d cells w none)
 
 -- ---- methods that are taken out

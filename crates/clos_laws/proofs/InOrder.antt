@@ -40,18 +40,26 @@ counted : (w : State) (g : ℕ) (vs : List Val) → required_by w g ≤ length v
     → length (arguments w (take (required_by w g) vs)) ≡ required_by w g
 counted w g vs h =
     as_many_arguments w.classes (map (class_of w) (take (required_by w g) vs)) (take (required_by w g) vs)
-        (length-map (take (required_by w g) vs) (class_of w))
+    (length-map (take (required_by w g) vs) (class_of w))
     ∙ taken (required_by w g) vs h
 
 is_call_of : (w : State) (g : ℕ) (vs : List Val) (o : Option Function) → IsSound w.generics
     → slice_get w.generics.functions g ≡ o → length (arguments w (take (required_by w g) vs)) ≡ required_in o
     → IsCall w.generics.methods (precedence_in o) (arguments w (take (required_by w g) vs)) (methods_in o)
-is_call_of w g vs None s h n = record { distinct = tt; specialized = λ m i. absurd i; each_place =
-    λ p i. absurd (omega (arith, n, i)) }
+is_call_of w g vs None s h n = record {
+  distinct = tt;
+  specialized = λ m i. absurd i;
+  each_place =
+      λ p i. absurd (omega (arith, n, i));
+}
 is_call_of w g vs (Some f) s h n =
     let k = s.functions g f h in
-    record { distinct = k.distinct; specialized = λ m i. k.specialized m i ∙ sym n; each_place =
-        λ p i. k.places p (omega (arith, n, i)) }
+    record {
+      distinct = k.distinct;
+      specialized = λ m i. k.specialized m i ∙ sym n;
+      each_place =
+          λ p i. k.places p (omega (arith, n, i));
+    }
 
 pub calls_are_in_order : CallsAreInOrder
 calls_are_in_order limits names w r g vs h =

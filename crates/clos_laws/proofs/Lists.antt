@@ -81,7 +81,7 @@ place_or : (n p : ℕ) (b : Bool) → (n == p) ≡ b → p < suc n → (p < n �
 place_or n p true t h rest = last (left_to_right n) n p (eqb-true n p t)
 place_or n p false t h rest =
     let apart : n ≢ p = λ e. true≢false (sym (eq-eqb n p e) ∙ t) in before_last (left_to_right n) n p
-        (rest (omega (arith, h, apart)))
+    (rest (omega (arith, h, apart)))
 
 -- from left to right each place is named
 pub each_place : (n p : ℕ) → p < n → IsMember (left_to_right n) p

@@ -49,13 +49,13 @@ found_at : (ns : List Name) (i : ℕ) (r : Name) → slice_get ns i ≡ Some r �
 found_at [] i r h k = absurd (none-some r h)
 found_at (n ∷ ns) zero r h k =
     let same : same_name r n ≡ true = (same_name-Decides r n).1
-        (sym (one_item n r h)) in ap (λ b. if not b then 1 + position_or_len (same_name r) ns else 0) same
+    (sym (one_item n r h)) in ap (λ b. if not b then 1 + position_or_len (same_name r) ns else 0) same
 found_at (n ∷ ns) (suc i) r h k =
     let other : same_name r n ≡ false =
     not_here (same_name r n) n r ns i refl h (first_so (not (list_any (λ m. same_name m n) ns)) (are_distinct ns) k) in
     let rest = found_at ns i r h (second_so (not (list_any (λ m. same_name m n) ns)) (are_distinct ns) k) in
     let step : position_or_len (same_name r) (n ∷ ns) ≡ 1 + position_or_len (same_name r) ns =
-        ap (λ b. if not b then 1 + position_or_len (same_name r) ns else 0) other in
+    ap (λ b. if not b then 1 + position_or_len (same_name r) ns else 0) other in
     omega (arith, step, rest)
 
 within_length : (k n : ℕ) → k < n → unwrap_or (if nat_lt k n then Some k else None) n ≡ k
@@ -64,7 +64,7 @@ within_length k n h = grind (arith, h)
 placed : (ns : List Name) (i : ℕ) (r : Name) → slice_get ns i ≡ Some r → are_distinct ns ≡ true → place_in ns r ≡ i
 placed ns i r h k =
     ap (λ j. unwrap_or (if nat_lt j (length ns) then Some j else None) (length ns)) (found_at ns i r h k)
-        ∙ within_length i (length ns) (slice_get_within ns i r h)
+    ∙ within_length i (length ns) (slice_get_within ns i r h)
 
 -- ---- where each name is among others, each place is among theirs
 
@@ -73,13 +73,13 @@ among_at : (ns ms : List Name) (i : ℕ) (r : Name) → are_among ns ms ≡ true
 among_at [] ms i r h k = absurd (none-some r k)
 among_at (n ∷ ns) ms zero r h k =
     ap (λ x. list_any (λ m. same_name m x) ms) (sym (one_item n r k))
-        ∙ first_so (list_any (λ m. same_name m n) ms) (are_among ns ms) h
+    ∙ first_so (list_any (λ m. same_name m n) ms) (are_among ns ms) h
 among_at (n ∷ ns) ms (suc i) r h k = among_at ns ms i r (second_so (list_any (λ m. same_name m n) ms) (are_among ns ms) h) k
 
 place_here : (required : List Name) (m r : Name) (ms : List Name) (i : ℕ) (b : Bool) → same_name m r ≡ b
     → place_in required r ≡ i → (b || list_any (λ x. same_name x r) ms) ≡ true
     → (list_any (λ x. same_name x r) ms ≡ true → IsMember (map (place_in required) ms) i)
-        → IsMember (map (place_in required) (m ∷ ms)) i
+    → IsMember (map (place_in required) (m ∷ ms)) i
 place_here required m r ms i true t h k rest = inl (ap (place_in required) ((same_name-Decides m r).0 t) ∙ h)
 place_here required m r ms i false t h k rest = inr (rest k)
 
@@ -125,7 +125,7 @@ distinct_before [] ys h = refl
 distinct_before (x ∷ xs) ys h =
     both_so (not (list_any (λ m. same_name m x) xs)) (are_distinct xs)
     (not_any_before (λ m. same_name m x) xs ys (first_so (not (list_any (λ m. same_name m x) (xs ++ ys)))
-        (are_distinct (xs ++ ys)) h))
+    (are_distinct (xs ++ ys)) h))
     (distinct_before xs ys (second_so (not (list_any (λ m. same_name m x) (xs ++ ys))) (are_distinct (xs ++ ys)) h))
 
 where_true : {A : Type 0} (P : A → Type 0) (b : Bool) (x : A) → (b ≡ true → P x) → IfSome (if b then Some x else None) P
@@ -144,7 +144,7 @@ distinct_list l =
 distinct_keys : (ns : List Name) (os : List Optional) (r : Option Name) (l : Dats) → IfSome (with_keys ns os r l) Distinct
 distinct_keys ns os r l =
     passes Distinct (keys_from (after (codes "&KEY") l) l)
-        (λ ks. if_distinct (record { required = ns; optional = os; rest = r; keys = ks }))
+    (λ ks. if_distinct (record { required = ns; optional = os; rest = r; keys = ks }))
     (λ ks. distinct_list (record { required = ns; optional = os; rest = r; keys = ks }))
 
 distinct_rest : (ns : List Name) (os : List Optional) (l : Dats) → IfSome (with_rest ns os l) Distinct
@@ -164,7 +164,7 @@ distinct_ordinary l = passes Distinct (each parameter_in (front l)) (λ required
 distinct_generic : (d : Dat) → IfSome (generic_lambda_list_in d) Distinct
 distinct_generic d =
     keeps Distinct Distinct (lambda_list_in d) (λ l. if has_inits l then None else Some l)
-        (passes Distinct (list_in d) ordinary distinct_ordinary)
+    (passes Distinct (list_in d) ordinary distinct_ordinary)
     (λ l h. where_false Distinct (has_inits l) l h)
 
 -- ---- generic functions
@@ -175,13 +175,13 @@ IsOrderly d = AreSoundOptions (options_of d)
 orderly_with : (name parameters : Dat) (options : Dats) → IfSome (generic_with name parameters options) IsOrderly
 orderly_with name parameters options =
     passes IsOrderly (new_function_in name)
-        (λ n. generic_lambda_list_in parameters >>= λ l. generic_options_in options >>= λ os.
-            (if fits l.required os.precedence then Some (generic n l os) else None))
+    (λ n. generic_lambda_list_in parameters >>= λ l. generic_options_in options >>= λ os.
+    (if fits l.required os.precedence then Some (generic n l os) else None))
     (λ n. keeps Distinct IsOrderly (generic_lambda_list_in parameters)
-        (λ l. generic_options_in options >>= λ os. (if fits l.required os.precedence then Some (generic n l os) else None))
-            (distinct_generic parameters)
+    (λ l. generic_options_in options >>= λ os. (if fits l.required os.precedence then Some (generic n l os) else None))
+    (distinct_generic parameters)
     (λ l h. passes IsOrderly (generic_options_in options)
-        (λ os. (if fits l.required os.precedence then Some (generic n l os) else None))
+    (λ os. (if fits l.required os.precedence then Some (generic n l os) else None))
     (λ os. where_true IsOrderly (fits l.required os.precedence) (generic n l os) (λ k. order_sound l.required os.precedence h k))))
 
 pub orderly : (l : Dats) → IfSome (generic_in l) IsOrderly

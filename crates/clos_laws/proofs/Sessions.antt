@@ -201,28 +201,28 @@ method_keeps name m h w k s =
     unless_sound (method_refusal name m None w) (forms_evaluated (map eql_form m.specializers) [] (method_made name m)) w k s
     (λ e. forms_sound (map eql_form m.specializers) [] (method_made name m)
     (λ vs u j i. unless_sound (method_refusal name m (Some vs) u)
-        (takes_effect (method (length u.generics.methods)) (with_defined_method name m vs u)) u j i
+    (takes_effect (method (length u.generics.methods)) (with_defined_method name m vs u)) u j i
     (λ none. effect_sound (method (length u.generics.methods)) (with_defined_method name m vs u) u j i
-        (method_sound name m vs u h i none))) w k s)
+    (method_sound name m vs u h i none))) w k s)
 
 generic_keeps : (d : GenericDefinition) → IsOrderly d → Each IsSpecialized d.methods → Keeps (define_generic d)
 generic_keeps d o h w k s =
     unless_sound (generic_refusal d None w) (forms_evaluated (eql_forms d.methods) [] (generic_made d)) w k s
     (λ e. forms_sound (eql_forms d.methods) [] (generic_made d)
     (λ vs u j i. unless_sound (generic_refusal d (Some vs) u)
-        (takes_effect (generic (number u.generics d.name)) (with_defined_generic d vs u)) u j i
+    (takes_effect (generic (number u.generics d.name)) (with_defined_generic d vs u)) u j i
     (λ none. effect_sound (generic (number u.generics d.name)) (with_defined_generic d vs u) u j i
-        (generic_sound d vs u o h i none))) w k s)
+    (generic_sound d vs u o h i none))) w k s)
 
 class_keeps : (d : ClassDefinition) → Keeps (define_class d)
 class_keeps d w k s =
     unless_sound (class_refusal d (length (cells_needed d w)) w)
-        (forms_evaluated (initforms (cells_needed d w)) [] (class_made d)) w k s
+    (forms_evaluated (initforms (cells_needed d w)) [] (class_made d)) w k s
     (λ e. forms_sound (initforms (cells_needed d w)) [] (class_made d)
     (λ vs u j i. unless_sound (class_refusal d (length vs) u)
-        (takes_effect (class (class_number d u)) (with_defined_class d vs u)) u j i
+    (takes_effect (class (class_number d u)) (with_defined_class d vs u)) u j i
     (λ none. effect_sound (class (class_number d u)) (with_defined_class d vs u) u j i
-        (class_sound d (length vs) vs u i none))) w k s)
+    (class_sound d (length vs) vs u i none))) w k s)
 
 removed_keeps : (v : Val) (r : Result (ℕ × ℕ) Condition) → Keeps (removed_if v r)
 removed_keeps v (Err c) w k s = s
@@ -231,7 +231,7 @@ removed_keeps v (Ok p) w k s = effect_sound v (with_removed p.0 p.1 w) w k s (re
 removal_keeps : (f m : Form) → Keeps (remove_method f m)
 removal_keeps f m w k s =
     forms_sound (Some f ∷ Some m ∷ []) [] values_removed
-        (λ vs u j i. removed_keeps (value_at vs 0) (removable (value_at vs 0) (value_at vs 1)) u j i) w k s
+    (λ vs u j i. removed_keeps (value_at vs 0) (removable (value_at vs 0) (value_at vs 1)) u j i) w k s
 
 changed_keeps : (c : Change) (r : Result (Metaobject × ℕ) Condition) → Keeps (changed_if c r)
 changed_keeps c (Err e) w k s = s

@@ -73,8 +73,13 @@ with_options t o f s places fit k = record {
 
 new_function : (methods : List Method) (name : FunctionName) (o : Options) → AreSoundOptions o
     → IsSoundFunction methods (made name o)
-new_function methods name o places = record { distinct = tt; there = λ n h. absurd h; specialized =
-    λ n h. absurd h; places = places }
+new_function methods name o places = record {
+  distinct = tt;
+  there = λ n h. absurd h;
+  specialized =
+      λ n h. absurd h;
+  places = places;
+}
 
 redefined_at : (t : Table) (g i : ℕ) (o : Options) (f : Function) → IsSound t → AreSoundOptions o
     → AllFit t o.shape (methods_named t (Some g))
@@ -83,7 +88,7 @@ redefined_at t g i o f s places fit (elsewhere e h) = s.functions i f h
 redefined_at t g i o f s places fit (here x e h k) =
     let own = ap methods_in (ap (slice_get t.functions) (sym e) ∙ h) in
     subst (IsSoundFunction t.methods) (sym k) (with_options t o x s places
-        (λ n j. fit n (subst (λ ms. IsMember ms n) (sym own) j)) (s.functions i x h))
+    (λ n j. fit n (subst (λ ms. IsMember ms n) (sym own) j)) (s.functions i x h))
 
 made_at : (t : Table) (i : ℕ) (name : FunctionName) (o : Options) (f : Function) → IsSound t → AreSoundOptions o
     → AtPushed t.functions (made name o) i f
@@ -94,7 +99,7 @@ made_at t i name o f s places (the_last e h) = subst (IsSoundFunction t.methods)
 defined_in : (t : Table) (found : Option ℕ) (i : ℕ) (name : FunctionName) (o : Options) (f : Function) → IsSound t
     → AreSoundOptions o
     → AllFit t o.shape (methods_named t found) → slice_get (defined_at found name o t.functions) i ≡ Some f
-        → IsSoundFunction t.methods f
+    → IsSoundFunction t.methods f
 defined_in t None i name o f s places fit h = made_at t i name o f s places (at_pushed t.functions (made name o) i f h)
 defined_in t (Some g) i name o f s places fit h = redefined_at t g i o f s places fit (at_changed (redefined o) g t.functions i f h)
 

@@ -19,7 +19,7 @@ use Rattle.clos_laws.specs.Reached.{IsReached}
 abbrev pub IsInOrder : State → ℕ → List Val → List ℕ → Type 0
 IsInOrder w g vs listed =
     IsOrdered w.generics.methods (precedence_in (slice_get w.generics.functions g))
-        (arguments w (take (required_by w g) vs)) (methods_of w.generics g) listed
+    (arguments w (take (required_by w g) vs)) (methods_of w.generics g) listed
 
 -- The methods that a call finds are in order, and no other list of methods is.
 abbrev pub CallsAreInOrder : Type 0

@@ -17,8 +17,8 @@ state_in (Signalled c w s) = w
 -- under these limits, with dependents of these names
 pub data IsReached (limits : Limits) (names : List Name) : State → Type 0 where
   begins : IsReached limits names (initial limits names)
--- by a form within so many steps, whatever the host's functions answered. Where memory is refused, the state is that after the
--- steps taken.
+  -- by a form within so many steps, whatever the host's functions answered. Where memory is refused, the state is that after the
+  -- steps taken.
   performs : (w : State) (d : Dat) (k : ℕ) (host : Host) (used : List ℤ) (e : End) → IsReached limits names w
       → answered_by host (step d w k) used ≡ Some e
       → IsReached limits names (state_in e)

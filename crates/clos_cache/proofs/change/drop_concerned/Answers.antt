@@ -8,10 +8,10 @@ loop-left-preserved-in-Some g c =
     let test = c.loop-left-test.true in
     let next : (c.loop-left.left - 1) + 1 ≡ c.loop-left.left = omega (arith, test) in
     takes (change_of c.args.change.now) c.args.index.now.entries c.loop-left.index.entries c.args.entries.now
-        c.loop-left.entries c.loop-left.left (c.loop-left.left - 1)
+    c.loop-left.entries c.loop-left.left (c.loop-left.left - 1)
     c.loop-left.invariant next (c.is_concerned_at.ensures.found c.if-is_concerned_at.true) (c.in-Some.key, c.in-Some.place)
     c.swap_remove_index.new.self.entries c.try_remove.new.self c.in-Some.ensures.entry c.in-Some.ensures.entries
-        c.in-Some.ensures.updates.0 c.try_remove.ensures.updates
+    c.in-Some.ensures.updates.0 c.try_remove.ensures.updates
     c.in-Some.ensures.len c.try_remove.result c.try_remove.ensures.value c.try_remove.ensures.len
 
 pub returns-clause-drops : goal.returns-clause-drops
@@ -20,4 +20,4 @@ returns-clause-drops g c =
     let none : c.loop-left.left ≡ 0 = omega (arith, test) in
     ends (change_of c.args.change.now) c.args.index.now.entries c.loop-left.index.entries c.args.entries.now c.loop-left.entries
     (subst (Dropping (change_of c.args.change.now) c.args.index.now.entries c.args.entries.now c.loop-left.index.entries
-        c.loop-left.entries) none c.loop-left.invariant)
+    c.loop-left.entries) none c.loop-left.invariant)

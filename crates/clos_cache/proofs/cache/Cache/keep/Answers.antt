@@ -17,5 +17,5 @@ returns-in-Some-clause-ok g c = λ other.
     (record { combination = c.args.combination; outcome = c.args.outcome }) c.self.invariant.0 c.self.invariant.1
     (sym c.get.ensures.value ∙ sym c.copied.ensures ∙ c.in-Some.is) c.replace.ensures.updates other
     ∙ ap (λ kept. if◌then◌else◌ (same_key c.args.key other)
-        (Some (record { combination = c.args.combination; outcome = c.args.outcome.value })) (found kept other))
+    (Some (record { combination = c.args.combination; outcome = c.args.outcome.value })) (found kept other))
     c.self.view_is
