@@ -16,16 +16,21 @@ pub struct Model {
     limit: usize,
 }
 
+/// The direct superclasses that a class of this place begins with.
+fn first_above(alloc: Global, class: u8) -> Result<Vec<u8>, AllocError> {
+    if class == 1 {
+        Vec::from_slice(alloc, &[0])
+    } else {
+        Ok(Vec::new(alloc))
+    }
+}
+
 impl Model {
     /// T and STANDARD-OBJECT, and room for so many more.
     pub fn new(alloc: Global, limit: usize) -> Result<Model, AllocError> {
         let mut above = Vec::new(alloc);
         for class in 0..7u8 {
-            above.push(if class == 1 {
-                vec![in alloc; 0]?
-            } else {
-                Vec::new(alloc)
-            })?;
+            above.push(first_above(alloc, class)?)?;
         }
         let defined = vec![in alloc; 0, 1]?;
         Ok(Model {

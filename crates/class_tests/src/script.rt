@@ -223,16 +223,25 @@ fn outcome(
     define(alloc, classes, form)
 }
 
-/// The lines again, each with what stands behind its arrow as it is in a new table with room for so many classes.
-pub fn transcript(alloc: Global, limit: u64, script: &'static str) -> Result<String, AllocError> {
-    let mut classes = Hierarchy::new(alloc, limit)?;
+/// The lines again, each with what stands behind its arrow as it is in this table.
+fn lines_in(
+    alloc: Global,
+    classes: &mut Hierarchy,
+    script: &'static str,
+) -> Result<String, AllocError> {
     let mut lines = String::new(alloc);
     for line in script.lines() {
         let (form, _) = line.split_once(" =>").unwrap_or((line, ""));
         lines.push_str(form)?;
         lines.push_str(" =>")?;
-        lines.push_str(outcome(alloc, &mut classes, form)?.as_str())?;
+        lines.push_str(outcome(alloc, classes, form)?.as_str())?;
         lines.push('\n')?;
     }
     Ok(lines)
+}
+
+/// The same in a new table with room for so many classes.
+pub fn transcript(alloc: Global, limit: u64, script: &'static str) -> Result<String, AllocError> {
+    let mut classes = Hierarchy::new(alloc, limit)?;
+    lines_in(alloc, &mut classes, script)
 }

@@ -6,6 +6,7 @@ use lisp_data::{CellId, ClassId, Datum, Name, Value};
 use lisp_reader::read_form;
 use std::alloc::{AllocError, Global};
 use std::process::Abort;
+use std::rc::Rc;
 use std::test::Fail;
 
 /// What is inherited, and by which class.
@@ -378,19 +379,28 @@ fn outcome(
     Ok(line)
 }
 
-/// The lines again, each with what stands behind its arrow as it is in a new table with room for so many classes.
-fn transcript(alloc: Global, limit: u64, script: &'static str) -> Result<String, AllocError> {
-    let mut classes = Classes::new(alloc, limit)?;
+/// The lines again, each with what stands behind its arrow as it is in this table.
+fn lines_in(
+    alloc: Global,
+    classes: &mut Classes,
+    script: &'static str,
+) -> Result<String, AllocError> {
     let mut made = 0;
     let mut lines = String::new(alloc);
     for line in script.lines() {
         let (form, _) = line.split_once(" =>").unwrap_or((line, ""));
         lines.push_str(form)?;
         lines.push_str(" =>")?;
-        lines.push_str(outcome(alloc, &mut classes, form, &mut made)?.as_str())?;
+        lines.push_str(outcome(alloc, classes, form, &mut made)?.as_str())?;
         lines.push('\n')?;
     }
     Ok(lines)
+}
+
+/// The same in a new table with room for so many classes.
+fn transcript(alloc: Global, limit: u64, script: &'static str) -> Result<String, AllocError> {
+    let mut classes = Classes::new(alloc, limit)?;
+    lines_in(alloc, &mut classes, script)
 }
 
 const SCRIPTS: &[(u64, &str)] = &[
@@ -411,31 +421,61 @@ fn classes_have_slots(rt: HostRuntime) -> Result<(), Fail> {
     Ok(())
 }
 
-/// What a class has stays with who holds it, when the class is defined again.
-#[test]
-fn held_slots_stay(rt: HostRuntime) -> Result<(), Fail> {
-    let alloc = rt.alloc();
+/// Defines the class of a text.
+fn define_text(
+    alloc: Global,
+    line: &mut String,
+    classes: &mut Classes,
+    text: &str,
+    made: &mut u64,
+) -> Result<(), AllocError> {
+    match definition(alloc, text) {
+        None => Ok(()),
+        Some(definition) => define(alloc, line, classes, &definition, made),
+    }
+}
+
+/// What the class of this name has, to be held.
+fn held(classes: &Classes, name: &Name) -> Result<Option<Rc<Effective>>, AllocError> {
+    let Some(class) = classes.hierarchy().named(name) else {
+        return Ok(None);
+    };
+    match classes.effective(class) {
+        None => Ok(None),
+        Some(effective) => Ok(Some(effective.clone()?)),
+    }
+}
+
+/// What the class A had before it is defined again, which is held meanwhile, and what it has then.
+fn defined_again(
+    alloc: Global,
+    line: &mut String,
+    classes: &mut Classes,
+    made: &mut u64,
+) -> Result<(), AllocError> {
+    let name = Name::fixed(&"A");
+    if let Some(held) = held(classes, &name)? {
+        define_text(alloc, line, classes, "(defclass a () (z))", made)?;
+        write_effective(alloc, line, &held)?;
+    }
+    write_slots(alloc, line, classes, &name)
+}
+
+/// The same of a class with slots and default initargs.
+fn slots_before_and_after(alloc: Global) -> Result<String, AllocError> {
     let mut classes = Classes::new(alloc, 1)?;
     let mut line = String::new(alloc);
     let mut made = 0;
     let first = "(defclass a () ((x :initform 1) y) (:default-initargs :y 2))";
-    if let Some(first) = definition(alloc, first) {
-        define(alloc, &mut line, &mut classes, &first, &mut made)?;
-    }
-    let held = match classes.hierarchy().named(&Name::fixed(&"A")) {
-        None => None,
-        Some(class) => match classes.effective(class) {
-            None => None,
-            Some(effective) => Some(effective.clone()?),
-        },
-    };
-    if let Some(second) = definition(alloc, "(defclass a () (z))") {
-        define(alloc, &mut line, &mut classes, &second, &mut made)?;
-    }
-    if let Some(held) = &held {
-        write_effective(alloc, &mut line, held)?;
-    }
-    write_slots(alloc, &mut line, &classes, &Name::fixed(&"A"))?;
+    define_text(alloc, &mut line, &mut classes, first, &mut made)?;
+    defined_again(alloc, &mut line, &mut classes, &mut made)?;
+    Ok(line)
+}
+
+/// What a class has stays with who holds it, when the class is defined again.
+#[test]
+fn held_slots_stay(rt: HostRuntime) -> Result<(), Fail> {
+    let line = slots_before_and_after(rt.alloc())?;
     assert_eq!(rt; line.as_str(), " A X=1 Y :Y 2 Z");
     Ok(())
 }
