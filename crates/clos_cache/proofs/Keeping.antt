@@ -7,7 +7,7 @@ use Rattle.std.proofs.lemmas.Option.{none-some}
 use Rattle.indexmap.specs.IndexMap.{insert_entry}
 use Rattle.slab.specs.Slab.{Slab, Updates, get, slab_len}
 use Rattle.clos_cache.specs.Cache.{Keeps, found}
-use Rattle.clos_cache.specs.CacheView.{AreApart, AreThere, AsMany, kept_in, kept_of, with_entry}
+use Rattle.clos_cache.specs.CacheView.{AreApart, AreThere, AsMany, Indexes, kept_in, kept_of, with_entry}
 use Rattle.clos_cache.specs.Key.{Key, same_key}
 use Rattle.clos_cache.specs.KeyLaws.{same_key-Decides}
 use Rattle.clos_cache.specs.declared.cache.Entry.{Entry}
@@ -137,5 +137,8 @@ module _ {T : Type 0} where
         (λ r. looked r ∙ ap (λ l. cond (same_key key r) (Some p) (lookup (same_key r) l)) same_index) q
         ∙ ap (λ k. if same_key key q then Some (kept_of x) else found k q) (same_kept es first old same)
 
-    pub inserted_as_many : slab_len old ≡ slab_len first → slab_len new ≡ slab_len old + 1 → AsMany es first → AsMany more new
+    inserted_as_many : slab_len old ≡ slab_len first → slab_len new ≡ slab_len old + 1 → AsMany es first → AsMany more new
     inserted_as_many h k many = grind (arith, h, k, many, ap length at_end, length-append)
+
+    pub inserted_fits : slab_len old ≡ slab_len first → slab_len new ≡ slab_len old + 1 → AsMany es first → Indexes more new
+    inserted_fits h k many = record { there = inserted_there; apart = inserted_apart; as_many = inserted_as_many h k many }

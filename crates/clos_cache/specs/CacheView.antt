@@ -29,3 +29,9 @@ module _ {T : Type 0} where
 -- no place of the index is another's
 abbrev pub AreApart : List (Key × ℕ) → Type 0
 AreApart es = (i j : ℕ) (e f : Key × ℕ) → slice_get es i ≡ Some e → slice_get es j ≡ Some f → e.1 ≡ f.1 → i ≡ j
+
+-- The index and the entries fit each other.
+pub record Indexes {T : Type 0} (es : List (Key × ℕ)) (entries : Slab (Entry T)) : Type 0 where
+  pub there : AreThere es entries
+  pub apart : AreApart es
+  pub as_many : AsMany es entries

@@ -4,7 +4,7 @@ ghost use Rattle.std.specs.Map.{lookup};
 ghost use Rattle.slab.specs.Slab.{Updates, get, slab_len};
 ghost use Rattle.indexmap.specs.IndexMap.{insert_entry, spare};
 ghost use Rattle.clos_cache.specs.Key.{same_key};
-ghost use Rattle.clos_cache.specs.CacheView.{AreApart, AreThere, AsMany, kept_in, kept_of};
+ghost use Rattle.clos_cache.specs.CacheView.{Indexes, kept_in, kept_of};
 ghost use Rattle.clos_cache.specs.Cache.{Drops, Keeps, found, of_classes, of_combination, of_generic};
 ghost use Rattle.clos_cache.specs.ChangeView.{numbers_of};
 
@@ -41,11 +41,11 @@ impl<T> Model for Cache<T> {
 
     ghost coded = { cache_code T.code };
 
-    ghost use Rattle.clos_cache.specs.CacheView.{AreApart, AreThere, AsMany, kept_in};
+    ghost use Rattle.clos_cache.specs.CacheView.{Indexes, kept_in};
 
     ghost view = { λ a. kept_in a.index.entries a.entries };
 
-    ghost invariant = { λ a. AreThere a.index.entries a.entries × AreApart a.index.entries × AsMany a.index.entries a.entries };
+    ghost invariant = { λ a. Indexes a.index.entries a.entries };
 }
 
 impl<T> Cache<T> {
@@ -152,13 +152,9 @@ fn insert<T: Drop>(
     key: Key,
     entry: Entry<T>,
 ) -> Result<(), AllocError>
-    requires there { AreThere index.old.entries entries.old }
-    requires apart { AreApart index.old.entries }
-    requires as_many { AsMany index.old.entries entries.old }
+    requires fits { Indexes index.old.entries entries.old }
     requires new { lookup (same_key key) index.old.entries ≡ None }
-    ensures there { AreThere index.new.entries entries.new }
-    ensures apart { AreApart index.new.entries }
-    ensures as_many { AsMany index.new.entries entries.new }
+    ensures fits { Indexes index.new.entries entries.new }
     ensures ok { OnOk result (Keeps key (kept_of entry) (kept_in index.old.entries entries.old) (kept_in index.new.entries entries.new)) }
     ensures err { OnErr result (kept_in index.new.entries entries.new ≡ kept_in index.old.entries entries.old) }
 {

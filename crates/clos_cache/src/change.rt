@@ -2,7 +2,7 @@
 ghost use Rattle.std.specs.Prelude.{◌≡◌, true, nat_eq};
 ghost use Rattle.std.specs.List.{list_any};
 ghost use Rattle.clos_cache.specs.Cache.{Drops, concerns, has_class};
-ghost use Rattle.clos_cache.specs.CacheView.{AreApart, AreThere, AsMany, kept_in, kept_of};
+ghost use Rattle.clos_cache.specs.CacheView.{Indexes, kept_in, kept_of};
 ghost use Rattle.clos_cache.specs.ChangeView.{ConcernedAt, change_of, concerned_at, numbers_of};
 ghost use Rattle.clos_cache.specs.KeyView.{arguments_in};
 
@@ -86,12 +86,8 @@ pub(crate) fn drop_concerned<T: Drop>(
     index: &mut IndexMap<Key, usize>,
     change: &Change<'_>,
 )
-    requires there { AreThere index.old.entries entries.old }
-    requires apart { AreApart index.old.entries }
-    requires as_many { AsMany index.old.entries entries.old }
-    ensures there { AreThere index.new.entries entries.new }
-    ensures apart { AreApart index.new.entries }
-    ensures as_many { AsMany index.new.entries entries.new }
+    requires { Indexes index.old.entries entries.old }
+    ensures fits { Indexes index.new.entries entries.new }
     ensures drops { Drops (change_of change.now) (kept_in index.old.entries entries.old) (kept_in index.new.entries entries.new) }
 {
     let mut left = index.len();
