@@ -1,5 +1,5 @@
 //! Outcomes that are kept, by their keys.
-ghost use Rattle.std.specs.Prelude.{◌≡◌, ◌<◌, [], cond, None, Some, IsSome, OnErr, OnOk, option_map};
+ghost use Rattle.std.specs.Prelude.{◌≡◌, ◌<◌, [], cond, None, Some, IsOk, IsSome, OnErr, OnOk, option_map};
 ghost use Rattle.std.specs.Map.{lookup};
 ghost use Rattle.slab.specs.Slab.{Updates, get, slab_len};
 ghost use Rattle.indexmap.specs.IndexMap.{insert_entry, spare};
@@ -73,14 +73,15 @@ impl<T> Cache<T> {
         }
     }
 
-    #[tactic(auto, using(crate::proofs::Keeping::replaced_there, crate::proofs::Keeping::replaced))]
     /// Keeps an outcome under this key, in place of an older one, with the name of the method combination under which it was
-    /// built.
+    /// built. In place of an older one takes no memory.
+    #[tactic(auto, using(crate::proofs::Finding::found_in, crate::proofs::Keeping::replaced_there, crate::proofs::Keeping::replaced))]
     pub fn keep(&mut self, key: Key, combination: Name, outcome: Rc<T>) -> Result<(), AllocError>
     where
         T: Drop,
         ensures ok { OnOk result (Keeps key (record { combination = combination; outcome = outcome.value }) self.old self.new) }
         ensures err { OnErr result (self.new ≡ self.old) }
+        ensures free { IsSome (found self.old key) → IsOk result }
     {
         let entry = Entry {
             combination,
