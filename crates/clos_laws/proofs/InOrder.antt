@@ -20,7 +20,7 @@ use Rattle.clos_laws.specs.Laws.{CallsAreInOrder, RepliesReach}
 use Rattle.clos_laws.specs.Reached.{IsReached, begins, performs, state_in}
 use Rattle.clos_laws.specs.Sound.{IsSound}
 use Rattle.clos_laws.proofs.Initial.{initial_sound}
-use Rattle.clos_laws.proofs.Sessions.{form_keeps_sound}
+use Rattle.clos_laws.proofs.Sessions.{form_keeps_sound, same_sound}
 
 pub reached_sound : (limits : Limits) (names : List Name) (w : State) → IsReached limits names w → IsSound w.generics
 reached_sound limits names _ begins = initial_sound limits.generics limits.methods
@@ -62,12 +62,13 @@ is_call_of w g vs (Some f) s h n =
     }
 
 pub calls_are_in_order : CallsAreInOrder
-calls_are_in_order limits names w r g vs h =
-    let call = is_call_of w g vs (slice_get w.generics.functions g) (reached_sound limits names w r) refl (counted w g vs h) in (
-      lists_in_order w.generics.methods (precedence_in (slice_get w.generics.functions g))
-          (arguments w (take (required_by w g) vs)) (methods_of w.generics g) call,
-      λ listed o. is_the_only_order w.generics.methods (precedence_in (slice_get w.generics.functions g))
-          (arguments w (take (required_by w g) vs)) (methods_of w.generics g) listed call o,
+calls_are_in_order limits names w u r same g vs h =
+    let order = precedence_in (slice_get u.generics.functions g) in
+    let args = arguments u (take (required_by u g) vs) in
+    let sound = same_sound w u same (reached_sound limits names w r) in
+    let call = is_call_of u g vs (slice_get u.generics.functions g) sound refl (counted u g vs h) in (
+      lists_in_order u.generics.methods order args (methods_of u.generics g) call,
+      λ listed o. is_the_only_order u.generics.methods order args (methods_of u.generics g) listed call o,
     )
 
 ended : (e : End) (u : State) → ends_in e u 0 → state_in e ≡ u

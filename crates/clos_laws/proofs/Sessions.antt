@@ -145,7 +145,7 @@ SoundAfter (Noted n o) = SoundAfter o
 SoundAfter (Looked name more) = (n : Option ℕ) → SoundAfter (more n)
 SoundAfter (Asked name xs more) = (x : ℤ) → SoundAfter (more x)
 
-same_sound : (w u : State) → Same w u → IsSound w.generics → IsSound u.generics
+pub same_sound : (w u : State) → Same w u → IsSound w.generics → IsSound u.generics
 same_sound w u h s = subst IsSound (sym h.1) s
 
 kept_sound : (w : State) (o : Out) → SameAfter w o → IsSound w.generics → SoundAfter o

@@ -9,6 +9,7 @@ use Rattle.clos_session.specs.clos_world.clos_generic.Table.{methods_of}
 use Rattle.clos_session.specs.Session.{Replies}
 use Rattle.clos_session.specs.Step.{step}
 use Rattle.clos_session.specs.clos_machine.clos_meaning.Host.{Host}
+use Rattle.clos_session.specs.clos_world.Definitions.{Same}
 use Rattle.clos_session.specs.clos_world.Dispatch.{arguments, ordered, required_by}
 use Rattle.clos_session.specs.clos_world.World.{State}
 use Rattle.clos_session.specs.clos_world.declared.limits.Limits.{Limits}
@@ -21,11 +22,13 @@ IsInOrder w g vs listed =
     IsOrdered w.generics.methods (precedence_in (slice_get w.generics.functions g))
     (arguments w (take (required_by w g) vs)) (methods_of w.generics g) listed
 
--- The methods that a call finds are in order, and no other list of methods is.
+-- The methods that a call finds are in order, and no other list of methods is: in each state that has the definitions of one to which a
+-- session comes, as those have in which its forms are evaluated.
 abbrev pub CallsAreInOrder : Type 0
-CallsAreInOrder = (limits : Limits) (names : List Name) (w : State) → IsReached limits names w → (g : ℕ) (vs : List Val)
-    → required_by w g ≤ length vs
-    → IsInOrder w g vs (ordered w g vs) × ((listed : List ℕ) → IsInOrder w g vs listed → listed ≡ ordered w g vs)
+CallsAreInOrder = (limits : Limits) (names : List Name) (w u : State) → IsReached limits names w → Same w u
+    → (g : ℕ) (vs : List Val)
+    → required_by u g ≤ length vs → IsInOrder u g vs (ordered u g vs)
+    × ((listed : List ℕ) → IsInOrder u g vs listed → listed ≡ ordered u g vs)
 
 -- A session that replies comes from such a state to such a state.
 abbrev pub RepliesReach : Type 0

@@ -1,8 +1,8 @@
 //! The laws, each as what a function without a body ensures.
 ghost use Rattle.clos_laws.specs.Laws.{CallsAreInOrder, RepliesReach};
 
-/// In each state that a session comes to, the methods that a call finds are in order, and no other list of methods is
-/// (HyperSpec 7.6.6.1).
+/// In each state that a session comes to, and those in which its forms are evaluated, the methods that a call finds are in
+/// order, and no other list of methods is (HyperSpec 7.6.6.1).
 pub fn calls_are_in_order()
     ensures { CallsAreInOrder }
 {}
