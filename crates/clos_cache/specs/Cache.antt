@@ -14,6 +14,7 @@ pub record Kept (T : Type 0) : Type 0 where
 abbrev pub found : {T : Type 0} → List (Key × Kept T) → Key → Option (Kept T)
 found kept key = lookup (same_key key) kept
 
+-- a change of definitions, by what it is of
 pub data Change : Type 0 where
   of_generic : ℕ → Change  -- of a generic function, or of its methods
   of_combination : Name → Change  -- of the method combination of this name

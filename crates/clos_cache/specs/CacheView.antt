@@ -6,6 +6,7 @@ use Rattle.clos_cache.specs.Cache.{Kept}
 use Rattle.clos_cache.specs.declared.cache.Entry.{Entry}
 
 module _ {T : Type 0} where
+  -- what an entry keeps
   abbrev pub kept_of : Entry T → Kept T
   kept_of e = record { combination = e.combination; outcome = e.outcome.value }
 
@@ -14,6 +15,7 @@ module _ {T : Type 0} where
   with_entry key None rest = rest
   with_entry key (Some e) rest = (key, kept_of e) ∷ rest
 
+  -- what is kept in all, in the order of the index
   abbrev pub kept_in : List (Key × ℕ) → Slab (Entry T) → List (Key × Kept T)
   kept_in [] entries = []
   kept_in (e ∷ es) entries = with_entry e.0 (get entries e.1) (kept_in es entries)

@@ -10,9 +10,11 @@ use Rattle.clos_cache.specs.declared.cache.Entry.{Entry}
 use Rattle.clos_cache.specs.declared.change.Change as of_code
 use Rattle.clos_cache.specs.declared.change.Change.TheVariants.{Generic, Combination, Classes}
 
+-- the numbers of these classes
 abbrev pub numbers_of : List ClassId → List ℕ
 numbers_of classes = map (λ c. c.0) classes
 
+-- what a change of the code's stands for
 abbrev pub change_of : of_code.Change → Change
 change_of (Generic g) = of_generic g.0
 change_of (Combination name) = of_combination name.now
@@ -24,6 +26,7 @@ module _ {T : Type 0} where
   concerns_entry change key None = false
   concerns_entry change key (Some x) = concerns change key (kept_of x)
 
+  -- whether it concerns the entry to which a place of the index points
   abbrev pub concerns_place : Change → Slab (Entry T) → Option (Key × ℕ) → Bool
   concerns_place change entries None = false
   concerns_place change entries (Some e) = concerns_entry change e.0 (get entries e.1)

@@ -24,9 +24,11 @@ same_object (Some v) (Some w) = same_value v w
 same_object None (Some w) = false
 same_object (Some v) None = false
 
+-- whether the same is known of both
 abbrev pub same_argument : Argument → Argument → Bool
 same_argument a b = a.class == b.class && same_object a.object b.object
 
+-- .. of each, in order
 abbrev pub same_arguments : List Argument → List Argument → Bool
 same_arguments xs ys = pointwise same_argument xs ys
 
@@ -39,8 +41,10 @@ abbrev pub object_writes : Option Val → HashWrites
 object_writes None = fed.u8 0
 object_writes (Some v) = value_writes v
 
+-- an argument feeds its class, and then its object
 abbrev pub argument_writes : Argument → HashWrites
 argument_writes a = fed.u64 a.class ++ object_writes a.object
 
+-- a key feeds its generic function, and then its arguments
 abbrev pub key_writes : Key → HashWrites
 key_writes k = fed.u64 k.generic ++ flat_map argument_writes k.arguments

@@ -21,6 +21,7 @@ pub record Uses : Type 0 where
   pub kept : Kept
   pub built : ℕ
 
+-- after one more key was asked for
 abbrev pub with_use : ℕ → Key → Uses → Uses
 with_use most key u = if u.kept key then u else record { kept = keeping key u.kept; built = min (u.built + 1) most }
 

@@ -27,8 +27,7 @@ pub enum Arguments {
     Many(Vec<Argument>),
 }
 
-/// A generic function, and what is known of each required argument of a call of it. Calls of one key have the same applicable
-/// methods in the same order.
+/// A generic function, and what is known of each required argument of a call of it: what is kept under it is for all such calls.
 pub struct Key {
     generic: GenericId,
     arguments: Arguments,
