@@ -96,6 +96,16 @@ impl<T> Cache<T> {
         }
     }
 
+    /// Drops all that is kept. It takes no memory.
+    pub fn clear(&mut self)
+    where
+        T: Drop,
+        ensures { self.new ≡ [] }
+    {
+        self.index.clear();
+        self.entries.clear();
+    }
+
     /// Drops what is kept for calls of this generic function, and nothing else.
     pub fn drop_generic(&mut self, generic: GenericId)
     where

@@ -20,7 +20,7 @@ use Rattle.clos_machine.specs.clos_meaning.Outcome.{Noted, used, Eval, Run, Stop
 use Rattle.clos_machine.specs.clos_meaning.declared.arguments.Context.{Context}
 use Rattle.clos_machine.specs.declared.machine.Doing.{Doing}
 use Rattle.clos_machine.specs.declared.machine.Machine.{Machine}
-use Rattle.clos_machine.specs.clos_meaning.Pair.{pair}
+use Rattle.clos_machine.specs.clos_world.Keys.{key_of}
 use Rattle.clos_machine.proofs.Turns.{bare, bare_through, leads_same, stopped_through}
 use Rattle.clos_comb.specs.Effective as comb
 use Rattle.clos_comb.specs.Outcome.{Combined}
@@ -69,7 +69,7 @@ module _ (m n : Machine) (ev : Eval) (w : State) where
     not_taken : (o : Option Function) (t : ℕ) → false ≡ takes_in o (length vs) → called_generic ev vs g o (at m w) t ≡ stopped ProgramError [] (at m w) t
     not_taken None t e = refl
     not_taken (Some f) t e =
-        ap (λ b. if b then Noted (used (pair (at m w) g vs)) (matched_or ev vs g f (unmatched ev g vs) (ordered w g vs) (at m w) t) else stopped ProgramError [] (at m w) t) (sym e)
+        ap (λ b. if b then Noted (used (key_of (at m w) g vs)) (matched_or ev vs g f (unmatched ev g vs) (ordered w g vs) (at m w) t) else stopped ProgramError [] (at m w) t) (sym e)
 
     pub wrong_count : (c : Condition) → false ≡ takes_in (slice_get w.generics.functions g) (length vs) → c ≡ record { kind = ProgramError; items = [] }
         → Leads (inside m calling) w (Err (Refused c)) n
@@ -78,7 +78,7 @@ module _ (m n : Machine) (ev : Eval) (w : State) where
     right_count : (f : Function) (t : ℕ) → Some f ≡ slice_get w.generics.functions g → takes_count f.shape (length vs) ≡ true
         → bare (matched_or ev vs g f (unmatched ev g vs) (ordered w g vs) (at m w) t) ≡ bare (calling (at m w) t)
     right_count f t e h =
-        ap (λ b. bare (if b then Noted (used (pair (at m w) g vs)) (matched_or ev vs g f (unmatched ev g vs) (ordered w g vs) (at m w) t) else stopped ProgramError [] (at m w) t)) (sym h)
+        ap (λ b. bare (if b then Noted (used (key_of (at m w) g vs)) (matched_or ev vs g f (unmatched ev g vs) (ordered w g vs) (at m w) t) else stopped ProgramError [] (at m w) t)) (sym h)
         ∙ ap (λ o. bare (called_generic ev vs g o (at m w) t)) e
 
     pub none_called : (us : List Val) (ms : List ℕ) (r : Result Doing Stop) → true ≡ takes_in (slice_get w.generics.functions g) (length vs) → us ≡ vs → ms ≡ ordered w g us

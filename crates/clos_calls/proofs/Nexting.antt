@@ -25,7 +25,7 @@ use Rattle.clos_machine.specs.clos_meaning.declared.arguments.Running.{Running}
 use Rattle.clos_machine.specs.declared.machine.Action.TheVariants.{CallNext}
 use Rattle.clos_machine.specs.declared.machine.Doing.{Doing}
 use Rattle.clos_machine.specs.declared.machine.Machine.{Machine}
-use Rattle.clos_machine.specs.clos_meaning.Pair.{pair}
+use Rattle.clos_machine.specs.clos_world.Keys.{key_of}
 use Rattle.clos_machine.proofs.Turns.{bare, bare_through, leads_same, stopped_through}
 use Rattle.clos_calls.specs.GenericCalls.{takes_in}
 use Rattle.clos_calls.specs.NextMethods.{Refuses, refusal_in, refusal_of}
@@ -45,7 +45,7 @@ module _ (ev : Eval) (env : Context) (vs : List Val) (w : State) (t : ℕ) where
   in_order r d = if same_numbers (ordered w d.generic vs) d.methods then None else Some (record { kind = NextArguments; items = method r.method.0 ∷ [] })
 
   by_count : (r : Running) (d : Dispatch) (f : Function) (b : Bool) → bare (unless r (if b then in_order r d else Some (record { kind = ProgramError; items = [] })) w t)
-      ≡ bare (if b then Noted (used (pair w d.generic vs)) (if same_numbers (ordered w d.generic vs) d.methods then next_run ev env r r.next vs w t else stopped NextArguments (method r.method.0 ∷ []) w t)
+      ≡ bare (if b then Noted (used (key_of w d.generic vs)) (if same_numbers (ordered w d.generic vs) d.methods then next_run ev env r r.next vs w t else stopped NextArguments (method r.method.0 ∷ []) w t)
       else stopped ProgramError [] w t)
   by_count r d f true = by_order r (same_numbers (ordered w d.generic vs) d.methods)
   by_count r d f false = refl

@@ -1,5 +1,6 @@
 //! Calls of generic functions (HyperSpec 7.6.5, 7.6.6).
 ghost use Rattle.std.specs.Prelude.{◌≡◌, [], IfOk, Some, slice_get};
+ghost use Rattle.clos_comb.specs.Effective.{effective};
 ghost use Rattle.clos_comb.specs.OutcomeView.{combined_of};
 ghost use Rattle.clos_machine.specs.clos_world.clos_generic.Table.{Function};
 ghost use Rattle.clos_machine.specs.clos_world.World.{seen};
@@ -17,12 +18,13 @@ use clos_forms::Form;
 use clos_machine::machine::{Doing, Machine};
 use clos_machine::moves::set_apart;
 use clos_machine::{
-    Arguments, Condition, ConditionKind, Context, Dispatch, Stop, Values, World, about, about_both,
-    called_value, plain,
+    Arguments, Condition, ConditionKind, Context, Dispatch, EffectiveMethod, Stop, Values, World,
+    about, about_both, called_value, plain,
 };
-use clos_method::{MethodIds, SystemFunction};
+use clos_method::SystemFunction;
 use lisp_data::{GenericId, Name, Value};
 use std::alloc::{AllocError, Global};
+use std::rc::Rc;
 
 /// A call of the generic function of this number.
 pub fn call_generic(
@@ -40,11 +42,11 @@ pub fn call_generic(
         return Err(Stop::Refused(plain(alloc, ConditionKind::ProgramError)));
     }
     let arguments = Arguments::new(alloc, values)?;
-    let methods = world.ordered(alloc, id, arguments.as_slice())?;
-    if methods.len() == 0 {
+    let found = world.effective_method(alloc, id, arguments.as_slice())?;
+    if found.methods.len() == 0 {
         return call_unmatched(alloc, machine, world, id, &arguments);
     }
-    call_matched(alloc, machine, world, id, methods, arguments)
+    call_matched(alloc, machine, world, id, found, arguments)
 }
 
 /// Whether there is such a function, and it takes so many arguments.
@@ -76,38 +78,31 @@ fn call_unmatched(
     if world.generics.function(called).is_none() {
         return Err(Stop::Refused(plain(alloc, ConditionKind::ProgramError)));
     }
-    let methods = world.ordered(alloc, called, arguments.as_slice())?;
-    if methods.len() == 0 {
+    let found = world.effective_method(alloc, called, arguments.as_slice())?;
+    if found.methods.len() == 0 {
         return Err(Stop::Refused(plain(alloc, ConditionKind::ProgramError)));
     }
-    call_matched(alloc, machine, world, called, methods, arguments)
+    call_matched(alloc, machine, world, called, found, arguments)
 }
 
 /// A function is called for which these methods are applicable.
 fn call_matched(
     alloc: Global,
     machine: &mut Machine,
-    world: &mut World,
+    world: &World,
     id: GenericId,
-    methods: MethodIds,
+    found: Rc<EffectiveMethod>,
     arguments: Arguments,
 ) -> Result<Doing, Stop>
-    ensures leads { (f : Function) → Some f ≡ slice_get (seen world.old).generics.functions id.0
-        → Leads (here machine.old (λ ev env. matched ev arguments id.0 f methods)) (seen world.old) result machine.new }
-    ensures same { seen world.new ≡ seen world.old }
+    requires { combined_of found.value.outcome ≡ effective world.now.combinations world.now.generics.table id.0 found.value.methods }
+    ensures leads { (f : Function) → Some f ≡ slice_get (seen world.now).generics.functions id.0
+        → Leads (here machine.old (λ ev env. matched ev arguments id.0 f found.value.methods)) (seen world.now) result machine.new }
     ensures small { Grows call_growth machine.old.levels result machine.new }
 {
-    if !keywords_fit(world, id, methods.as_slice(), arguments.as_slice()) {
+    if !keywords_fit(world, id, found.methods.as_slice(), arguments.as_slice()) {
         return Err(Stop::Refused(plain(alloc, ConditionKind::ProgramError)));
     }
-    let outcome = world.combinations.effective(
-        alloc,
-        &world.generics,
-        &mut world.meter,
-        id,
-        methods.as_slice(),
-    )?;
-    run_combined(alloc, machine, world, id, outcome, methods, arguments)
+    run_combined(alloc, machine, world, id, found, arguments)
 }
 
 /// The effective method runs, or there is none.
@@ -116,31 +111,32 @@ fn run_combined(
     machine: &mut Machine,
     world: &World,
     id: GenericId,
-    outcome: Outcome,
-    methods: MethodIds,
+    found: Rc<EffectiveMethod>,
     arguments: Arguments,
 ) -> Result<Doing, Stop>
     ensures leads { (f : Function) → Some f ≡ slice_get (seen world.now).generics.functions id.0
-        → Leads (here machine.old (λ ev env. combined_run ev (in_call (record { generic = id.0; methods = methods }) arguments) f (combined_of outcome))) (seen world.now) result machine.new }
+        → Leads (here machine.old (λ ev env. combined_run ev (in_call (record { generic = id.0; methods = found.value.methods }) arguments) f (combined_of found.value.outcome))) (seen world.now) result machine.new }
     ensures small { Grows call_growth machine.old.levels result machine.new }
 {
-    match outcome {
+    match &found.outcome {
         Outcome::Effective(form) => {
-            let call = Dispatch::new(alloc, id, methods)?;
-            enter_effect(alloc, machine, Context::of_call(call, arguments), form)
+            let next = form.copy()?;
+            let context = Context::of_call(Dispatch::new(id, found), arguments);
+            enter_effect(alloc, machine, context, next)
         }
         Outcome::InvalidMethod(method) => {
-            let condition = about(alloc, ConditionKind::InvalidMethod, Value::Method(method))?;
+            let condition = about(alloc, ConditionKind::InvalidMethod, Value::Method(*method))?;
             Err(Stop::Refused(condition))
         }
         Outcome::RequiredGroupEmpty(group) => {
+            let group = group.copy()?;
             let kind = ConditionKind::RequiredGroupEmpty;
             Err(refuse_function(alloc, world, id, kind, Some(group)))
         }
         Outcome::AmbiguousMethods(earlier, later) => {
-            let earlier = Value::Method(earlier);
+            let earlier = Value::Method(*earlier);
             let kind = ConditionKind::AmbiguousMethods;
-            let condition = about_both(alloc, kind, earlier, Value::Method(later))?;
+            let condition = about_both(alloc, kind, earlier, Value::Method(*later))?;
             Err(Stop::Refused(condition))
         }
         Outcome::BadExpansion => {

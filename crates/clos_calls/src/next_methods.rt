@@ -58,10 +58,11 @@ pub fn call_next_method(
 pub fn call_next_given(
     alloc: Global,
     machine: &mut Machine,
-    world: &World,
+    world: &mut World,
     values: Values,
 ) -> Result<Doing, Stop>
-    ensures leads { Leads (here machine.old (λ ev env. next_given ev env env.running values)) (seen world.now) result machine.new }
+    ensures leads { Leads (here machine.old (λ ev env. next_given ev env env.running values)) (seen world.old) result machine.new }
+    ensures same { seen world.new ≡ seen world.old }
     ensures small { Grows perform_weight machine.old.levels result machine.new }
 {
     match permit(alloc, machine, world, values.as_slice()) {
@@ -74,8 +75,9 @@ pub fn call_next_given(
 }
 
 /// Whether the next method may be called with these arguments.
-fn permit(alloc: Global, machine: &Machine, world: &World, values: &[Value]) -> Result<(), Stop>
-    ensures { Refuses (refusal_of (seen world.now) machine.now.context.running machine.now.context.call (map value_of values.now)) result }
+fn permit(alloc: Global, machine: &Machine, world: &mut World, values: &[Value]) -> Result<(), Stop>
+    ensures refuses { Refuses (refusal_of (seen world.old) machine.now.context.running machine.now.context.call (map value_of values.now)) result }
+    ensures same { seen world.new ≡ seen world.old }
 {
     match &machine.context.running {
         None => Err(Stop::Refused(plain(alloc, ConditionKind::ProgramError))),
@@ -89,18 +91,19 @@ fn permit(alloc: Global, machine: &Machine, world: &World, values: &[Value]) -> 
 /// Whether the next method of this one may be called with these arguments in a call.
 fn permit_in(
     alloc: Global,
-    world: &World,
+    world: &mut World,
     id: MethodId,
     call: &Dispatch,
     values: &[Value],
 ) -> Result<(), Stop>
-    ensures { Refuses (refusal_for (seen world.now) id.0 call.now (map value_of values.now)) result }
+    ensures refuses { Refuses (refusal_for (seen world.old) id.0 call.now (map value_of values.now)) result }
+    ensures same { seen world.new ≡ seen world.old }
 {
     if !takes(world, call.generic(), values.len()) {
         return Err(Stop::Refused(plain(alloc, ConditionKind::ProgramError)));
     }
-    let methods = world.ordered(alloc, call.generic(), values)?;
-    if !same_methods(methods.as_slice(), call.methods()) {
+    let found = world.effective_method(alloc, call.generic(), values)?;
+    if !same_methods(found.methods.as_slice(), call.methods()) {
         let condition = about(alloc, ConditionKind::NextArguments, Value::Method(id))?;
         return Err(Stop::Refused(condition));
     }

@@ -1,4 +1,5 @@
 pub mod Notices
 pub mod Made
 pub mod Classes
+pub mod Kept
 pub use Rattle.clos_world.proofs as clos_world

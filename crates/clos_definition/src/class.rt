@@ -85,6 +85,7 @@ pub fn make_class(
 {
     let earlier = world.classes().hierarchy().named(&definition.name);
     world.objects.define(alloc, definition, values)?;
+    world.cache.clear();
     if let Some(class) = earlier {
         world.hearing.notices.push(Notice::ClassRedefined(class));
     }

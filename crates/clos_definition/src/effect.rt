@@ -138,6 +138,7 @@ pub fn make(world: &mut World, effect: Effect)
     requires room { length (possible_notices effect (seen world.old).generics) ≤ world.old.hearing.notices.room }
     ensures { seen world.new ≡ with_effect effect (seen world.old) }
 {
+    world.cache.clear();
     make_in(&mut world.generics, effect, &mut world.hearing.notices);
 }
 

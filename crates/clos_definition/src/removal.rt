@@ -1,11 +1,13 @@
 //! Methods that are taken out of their function: what a `remove-method` does.
-ghost use Rattle.std.specs.Prelude.{◌<◌, ◌≡◌, IfOk, option_map};
+ghost use Rattle.std.specs.Prelude.{◌<◌, ◌≡◌, ◌++◌, IfOk, option_map};
 ghost use Rattle.lisp_data.specs.ValueView.{value_of};
 ghost use Rattle.clos_world.specs.World.{seen};
-ghost use Rattle.clos_definition.specs.Removal.{Finds, generic_in, method_in, removable, with_removed, wrong_type};
+ghost use Rattle.clos_definition.specs.Removal.{Finds, generic_in, method_in, removable, removal_notices, with_removed, wrong_type};
+ghost use Rattle.clos_generic.specs.Table.{without_method};
 
+use clos_generic::Generics;
 use clos_method::SystemFunction;
-use clos_watch::Notice;
+use clos_watch::{Notice, Reserved};
 use clos_world::{Condition, ConditionKind, Stop, World, about, plain};
 use lisp_data::{GenericId, MethodId, Value};
 use std::alloc::{AllocError, Global};
@@ -60,11 +62,27 @@ pub fn remove(world: &mut World, function: GenericId, method: MethodId)
     requires { 0 < world.old.hearing.notices.room }
     ensures { seen world.new ≡ with_removed function.0 method.0 (seen world.old) }
 {
-    if world.generics.has_method(function, method) {
-        world
-            .hearing
-            .notices
-            .push(Notice::MethodRemoved(function, method));
+    world.cache.clear();
+    remove_in(
+        &mut world.generics,
+        function,
+        method,
+        &mut world.hearing.notices,
+    );
+}
+
+fn remove_in(
+    generics: &mut Generics,
+    function: GenericId,
+    method: MethodId,
+    notices: &mut Reserved<Notice>,
+)
+    requires { 0 < notices.old.room }
+    ensures table { generics.new.table ≡ without_method function.0 method.0 generics.old.table }
+    ensures told { notices.new.items ≡ notices.old.items ++ removal_notices function.0 method.0 generics.old.table }
+{
+    if generics.has_method(function, method) {
+        notices.push(Notice::MethodRemoved(function, method));
     }
-    world.generics.take_out(function, method);
+    generics.take_out(function, method);
 }

@@ -31,9 +31,12 @@ pub fn define_combination(
     let Ok(value) = value_named(name) else {
         return Err(Stop::Storage);
     };
-    let Ok(()) = world.combinations.define(alloc, definition) else {
-        return Err(Stop::Storage);
-    };
-    *steps -= 1;
-    Ok(value)
+    match world.combinations.define(alloc, definition) {
+        Err(_) => Err(Stop::Storage),
+        Ok(()) => {
+            world.cache.clear();
+            *steps -= 1;
+            Ok(value)
+        }
+    }
 }

@@ -12,7 +12,7 @@ use Rattle.clos_machine.specs.clos_meaning.Host.{Host, HostFunction}
 use Rattle.clos_machine.specs.clos_meaning.Outcome.{Run}
 use Rattle.clos_machine.specs.clos_world.World.{seen}
 use Rattle.clos_machine.specs.clos_world.declared.condition.Stop.{Stop}
-use Rattle.clos_machine.specs.clos_world.declared.world.World.{World}
+use Rattle.clos_machine.specs.clos_world.declared.tables.World.{World}
 
 -- what is known of a function
 abbrev pub host_function : {I : Type 0} {F : I → Type 0} {g : _} → Native I F g → HostFunction

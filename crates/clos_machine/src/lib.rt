@@ -14,7 +14,7 @@ pub mod updating;
 
 pub use clos_forms::{ClassFunction, Output, SlotFunction};
 pub use clos_meaning::{
-    Arguments, CombinationDefinition, Condition, ConditionKind, Context, Dispatch, Function,
-    Limits, Running, Stop, Values, World, about, about_both, about_name, called_value, name_of,
-    plain, setter_value,
+    Arguments, CombinationDefinition, Condition, ConditionKind, Context, Dispatch, EffectiveMethod,
+    Function, Limits, Running, Stop, Values, World, about, about_both, about_name, called_value,
+    name_of, plain, setter_value,
 };

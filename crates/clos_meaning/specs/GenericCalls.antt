@@ -12,13 +12,13 @@ use Rattle.clos_world.specs.clos_method.declared.shape.Shape.{Shape}
 use Rattle.clos_world.specs.clos_method.declared.system.SystemFunction.{SystemFunction}
 use Rattle.clos_world.specs.clos_method.declared.system.SystemFunction.TheVariants.{NoApplicableMethod}
 use Rattle.clos_world.specs.Dispatch.{ordered}
+use Rattle.clos_world.specs.Keys.{key_of}
 use Rattle.clos_world.specs.FunctionName.{called_value}
 use Rattle.clos_world.specs.declared.condition.ConditionKind.TheVariants.{AmbiguousMethods, BadExpansion, ExpansionLimit, InvalidMethod, ProgramError, RequiredGroupEmpty}
 use Rattle.clos_meaning.specs.Bodies.{scoped}
 use Rattle.clos_meaning.specs.ClassFunctions.{symbol_in}
 use Rattle.clos_meaning.specs.Contexts.{in_call}
 use Rattle.clos_meaning.specs.Outcome.{Noted, Run, Eval, stopped, used}
-use Rattle.clos_meaning.specs.Pair.{pair}
 use Rattle.clos_meaning.specs.Parameters.{are_pairs, is_allowing}
 use Rattle.clos_meaning.specs.declared.arguments.Context.{Context}
 
@@ -76,7 +76,7 @@ matched_or ev vs g f other (m ∷ ms) w s = matched ev vs g f (m ∷ ms) w s
 abbrev pub unmatched_by : Eval → List Val → Option Function → Run
 unmatched_by ev vs None w s = stopped ProgramError [] w s
 unmatched_by ev vs (Some f) w s =
-    Noted (used (pair w (system_number NoApplicableMethod) vs))
+    Noted (used (key_of w (system_number NoApplicableMethod) vs))
     (matched_or ev vs (system_number NoApplicableMethod) f (stopped ProgramError []) (ordered w (system_number NoApplicableMethod) vs) w s)
 
 -- a generic function has no method for these arguments
@@ -90,7 +90,7 @@ abbrev pub called_generic : Eval → List Val → ℕ → Option Function → Ru
 called_generic ev vs g None w s = stopped ProgramError [] w s
 called_generic ev vs g (Some f) w s =
     if takes_count f.shape (length vs)
-    then Noted (used (pair w g vs)) (matched_or ev vs g f (unmatched ev g vs) (ordered w g vs) w s)
+    then Noted (used (key_of w g vs)) (matched_or ev vs g f (unmatched ev g vs) (ordered w g vs) w s)
     else stopped ProgramError [] w s
 
 -- the system's function

@@ -15,6 +15,7 @@ use Rattle.clos_world.specs.clos_class.declared.effective_slots.EffectiveSlot.{E
 use Rattle.clos_world.specs.clos_store.Store.{allocated, has_room, with_instance}
 use Rattle.clos_world.specs.Class.{class_name, effective}
 use Rattle.clos_world.specs.Dispatch.{ordered}
+use Rattle.clos_world.specs.Keys.{key_of}
 use Rattle.clos_world.specs.World.{State}
 use Rattle.clos_world.specs.declared.condition.Condition.{Condition}
 use Rattle.clos_world.specs.declared.condition.ConditionKind.TheVariants.{ProgramError, InvalidInitarg, TableLimit}
@@ -24,7 +25,6 @@ use Rattle.clos_meaning.specs.ClassFunctions.{symbol_in}
 use Rattle.clos_meaning.specs.Contexts.{known}
 use Rattle.clos_meaning.specs.GenericCalls.{invoked}
 use Rattle.clos_meaning.specs.Objects.{designated}
-use Rattle.clos_meaning.specs.Pair.{pair}
 use Rattle.clos_meaning.specs.Outcome.{Noted, Out, used, Stopped, Run, Eval, then_do, gave, stopped, step_then}
 use Rattle.clos_meaning.specs.Parameters.{are_pairs, argument_named, is_allow_other_keys, is_allowing, is_symbol_named}
 use Rattle.clos_meaning.specs.declared.arguments.Context.{Context}
@@ -39,7 +39,7 @@ methods_reached w f vs i names = ordered w (system_number f) vs ++ ordered w (sy
 -- asking for them is a use of each function
 abbrev pub with_uses : State → SystemFunction → List Val → ℕ → Val → Out → Out
 with_uses w f vs i names o =
-    Noted (used (pair w (system_number f) vs)) (Noted (used (pair w (system_number SharedInitialize) (instance i ∷ names ∷ []))) o)
+    Noted (used (key_of w (system_number f) vs)) (Noted (used (key_of w (system_number SharedInitialize) (instance i ∷ names ∷ []))) o)
 
 abbrev pub fills : List EffectiveSlot → Val → Bool
 fills slots v = list_any (λ s. list_any (λ n. is_symbol_named n v) s.initargs) slots

@@ -1,4 +1,3 @@
-pub mod Pair
 pub mod Outcome
 pub mod Fault
 pub mod Control

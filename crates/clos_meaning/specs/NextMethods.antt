@@ -7,13 +7,13 @@ use Rattle.clos_world.specs.clos_generic.Table.{Function}
 use Rattle.clos_world.specs.clos_method.Shape.{takes_count}
 use Rattle.clos_world.specs.clos_method.declared.system.SystemFunction.TheVariants.{NoNextMethod}
 use Rattle.clos_world.specs.Dispatch.{ordered}
+use Rattle.clos_world.specs.Keys.{key_of}
 use Rattle.clos_world.specs.declared.condition.ConditionKind.TheVariants.{NextArguments, ProgramError}
 use Rattle.clos_meaning.specs.Calls.{method_called}
 use Rattle.clos_meaning.specs.Contexts.{with_arguments}
 use Rattle.clos_meaning.specs.Dispatch.{Dispatch}
 use Rattle.clos_meaning.specs.GenericCalls.{invoked}
 use Rattle.clos_meaning.specs.Outcome.{Noted, Run, Eval, stopped, used}
-use Rattle.clos_meaning.specs.Pair.{pair}
 use Rattle.clos_meaning.specs.Parameters.{is_empty}
 use Rattle.clos_meaning.specs.declared.arguments.Context.{Context}
 use Rattle.clos_meaning.specs.declared.arguments.Running.{Running}
@@ -47,7 +47,7 @@ abbrev pub next_by : Eval → Context → Running → Dispatch → Option Functi
 next_by ev env r d None vs w s = stopped ProgramError [] w s
 next_by ev env r d (Some f) vs w s =
     if takes_count f.shape (length vs)
-    then Noted (used (pair w d.generic vs))
+    then Noted (used (key_of w d.generic vs))
     (if same_numbers (ordered w d.generic vs) d.methods then next_run ev env r r.next vs w s else stopped NextArguments (method r.method.0 ∷ []) w s)
     else stopped ProgramError [] w s
 

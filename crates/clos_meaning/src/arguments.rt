@@ -5,7 +5,7 @@ ghost use Rattle.clos_world.specs.clos_method.MethodIds.{method_numbers};
 ghost use Rattle.clos_meaning.specs.Contexts.{in_call, known, with_arguments};
 
 use clos_forms::{Forms, NextMethods};
-use clos_world::{MethodIds, Values};
+use clos_world::{EffectiveMethod, Values};
 use lisp_data::{GenericId, MethodId, Value};
 use std::alloc::{AllocError, Global};
 use std::marker::Model;
@@ -66,13 +66,8 @@ impl Arguments {
 /// first. It is copied by sharing it.
 #[derive(Drop)]
 pub struct Dispatch {
-    shared: Rc<Dispatched>,
-}
-
-#[derive(Drop)]
-struct Dispatched {
     generic: GenericId,
-    methods: MethodIds,
+    found: Rc<EffectiveMethod>,
 }
 
 impl Model for Dispatch {
@@ -82,42 +77,40 @@ impl Model for Dispatch {
 
     ghost coded = { dispatch_code };
 
-    ghost view = { λ a. record { generic = a.shared.value.generic.0; methods = a.shared.value.methods } };
+    ghost view = { λ a. record { generic = a.generic.0; methods = a.found.value.methods } };
 }
 
 impl Dispatch {
-    /// A call of this function, for which these methods are applicable.
-    pub fn new(
-        alloc: Global,
-        generic: GenericId,
-        methods: MethodIds,
-    ) -> Result<Dispatch, AllocError>
-        ensures { IfOk result (λ r. r ≡ record { generic = generic.0; methods = methods }) }
+    /// A call of this function, which found these methods.
+    pub fn new(generic: GenericId, found: Rc<EffectiveMethod>) -> Dispatch
+        ensures { result ≡ record { generic = generic.0; methods = found.value.methods } }
     {
-        let shared = Rc::new(alloc, Dispatched { generic, methods })?;
-        Ok(Dispatch { shared })
+        Dispatch { generic, found }
     }
 
     /// The same call, in a few steps however many methods it has.
     pub fn copy(&self) -> Result<Dispatch, AllocError>
         ensures { IfOk result (λ r. r ≡ self.now) }
     {
-        let shared = self.shared.clone()?;
-        Ok(Dispatch { shared })
+        let found = self.found.clone()?;
+        Ok(Dispatch {
+            generic: self.generic,
+            found,
+        })
     }
 
     /// The function that is called.
     pub fn generic(&self) -> GenericId
         ensures { result.0 ≡ self.now.generic }
     {
-        self.shared.generic
+        self.generic
     }
 
     /// The methods that were applicable, the most specific first.
     pub fn methods(&self) -> &[MethodId]
         ensures { method_numbers result.now ≡ self.now.methods }
     {
-        self.shared.methods.as_slice()
+        self.found.methods.as_slice()
     }
 }
 

@@ -6,7 +6,7 @@ pub mod arguments;
 
 pub use arguments::{Arguments, Context, Dispatch, Running};
 pub use clos_world::{
-    CombinationDefinition, Condition, ConditionKind, Discarded, Effective, EffectiveSlot, Function,
-    Layout, Limits, Lost, Stop, SystemFunction, Values, World, about, about_both, about_name,
-    called_value, name_of, plain, setter_value,
+    CombinationDefinition, Condition, ConditionKind, Discarded, Effective, EffectiveMethod,
+    EffectiveSlot, Function, Layout, Limits, Lost, Stop, SystemFunction, Values, World, about,
+    about_both, about_name, called_value, name_of, plain, setter_value,
 };

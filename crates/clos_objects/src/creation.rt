@@ -241,13 +241,14 @@ pub fn allocate(
 pub fn initialize(
     alloc: Global,
     machine: &mut Machine,
-    world: &World,
+    world: &mut World,
     class: ClassId,
     effective: &Finalized,
     id: InstanceId,
     mut initargs: Values,
 ) -> Result<Doing, Stop>
-    ensures leads { Leads (here machine.old (λ ev env. checked ev class.0 effective.now initargs id.0)) (seen world.now) result machine.new }
+    ensures leads { Leads (here machine.old (λ ev env. checked ev class.0 effective.now initargs id.0)) (seen world.old) result machine.new }
+    ensures same { seen world.new ≡ seen world.old }
     ensures small { Grows value_weight machine.old.levels result machine.new }
 {
     let function = SystemFunction::InitializeInstance;

@@ -10,17 +10,18 @@ ghost use Rattle.clos_machine.specs.clos_world.Dispatch.{ordered};
 ghost use Rattle.clos_machine.specs.clos_world.World.{seen};
 ghost use Rattle.clos_machine.specs.clos_meaning.Initialization.{methods_reached};
 
-use clos_machine::{Values, World};
-use clos_method::{Method, MethodIds, SystemFunction, any_allows, any_names};
+use clos_machine::{EffectiveMethod, Values, World};
+use clos_method::{Method, SystemFunction, any_allows, any_names};
 use lisp_data::{InstanceId, Name, Value};
 use std::alloc::{AllocError, Global};
 use std::marker::Model;
+use std::rc::Rc;
 
 /// Those of a function and those of shared-initialize. Contracts see one list.
 #[derive(Drop)]
 pub struct Reached {
-    function: MethodIds,
-    shared: MethodIds,
+    function: Rc<EffectiveMethod>,
+    shared: Rc<EffectiveMethod>,
 }
 
 impl Model for Reached {
@@ -31,7 +32,7 @@ impl Model for Reached {
 
     ghost coded = { coded_list coded_ℕ };
 
-    ghost view = { λ a. a.function ++ a.shared };
+    ghost view = { λ a. a.function.value.methods ++ a.shared.value.methods };
 }
 
 impl Reached {
@@ -40,7 +41,8 @@ impl Reached {
     pub fn allows(&self, methods: &[Method]) -> bool
         ensures { result ≡ list_any (method_allows methods.now) self.now }
     {
-        any_allows(methods, self.function.as_slice()) || any_allows(methods, self.shared.as_slice())
+        any_allows(methods, self.function.methods.as_slice())
+            || any_allows(methods, self.shared.methods.as_slice())
     }
 
     /// Whether one of them names this keyword.
@@ -48,8 +50,8 @@ impl Reached {
     pub fn names(&self, methods: &[Method], name: &Name) -> bool
         ensures { result ≡ list_any (method_names methods.now name.now) self.now }
     {
-        any_names(methods, self.function.as_slice(), name)
-            || any_names(methods, self.shared.as_slice(), name)
+        any_names(methods, self.function.methods.as_slice(), name)
+            || any_names(methods, self.shared.methods.as_slice(), name)
     }
 }
 
@@ -57,16 +59,20 @@ impl Reached {
 /// slots.
 pub fn methods_reached(
     alloc: Global,
-    world: &World,
+    world: &mut World,
     function: SystemFunction,
     arguments: &[Value],
     id: InstanceId,
     names: Value,
 ) -> Result<Reached, AllocError>
-    ensures { IfOk result (λ r. r ≡ methods_reached (seen world.now) function (map value_of arguments.now) id.0 (value_of names)) }
+    ensures reached { IfOk result (λ r. r ≡ methods_reached (seen world.old) function (map value_of arguments.now) id.0 (value_of names)) }
+    ensures same { seen world.new ≡ seen world.old }
 {
+    let Ok(own) = world.effective_method(alloc, function.id(), arguments) else {
+        drop(names);
+        return Err(AllocError);
+    };
     let shared = shared_methods(alloc, world, id, names)?;
-    let own = world.ordered(alloc, function.id(), arguments)?;
     Ok(Reached {
         function: own,
         shared,
@@ -76,11 +82,12 @@ pub fn methods_reached(
 /// Those of shared-initialize with these names of slots.
 fn shared_methods(
     alloc: Global,
-    world: &World,
+    world: &mut World,
     id: InstanceId,
     names: Value,
-) -> Result<MethodIds, AllocError>
-    ensures { IfOk result (λ r. r ≡ ordered (seen world.now) (system_number SharedInitialize) (instance id.0 ∷ value_of names ∷ [])) }
+) -> Result<Rc<EffectiveMethod>, AllocError>
+    ensures methods { IfOk result (λ r. r.value.methods ≡ ordered (seen world.old) (system_number SharedInitialize) (instance id.0 ∷ value_of names ∷ [])) }
+    ensures same { seen world.new ≡ seen world.old }
 {
     let mut arguments = Values::new(alloc);
     let Ok(()) = arguments.push(Value::Instance(id)) else {
@@ -88,7 +95,7 @@ fn shared_methods(
         return Err(AllocError);
     };
     arguments.push(names)?;
-    world.ordered(
+    world.effective_method(
         alloc,
         SystemFunction::SharedInitialize.id(),
         arguments.as_slice(),

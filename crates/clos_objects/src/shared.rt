@@ -74,14 +74,15 @@ fn shared_arguments(
 pub fn check_shared(
     alloc: Global,
     machine: &mut Machine,
-    world: &World,
+    world: &mut World,
     function: SystemFunction,
     arguments: &[Value],
     names: &Value,
     id: InstanceId,
     initargs: &[Value],
 ) -> Result<Doing, Stop>
-    ensures leads { Leads (here machine.old (λ ev env. checked_shared ev function (map value_of arguments.now) (value_of names.now) (map value_of initargs.now) id.0)) (seen world.now) result machine.new }
+    ensures leads { Leads (here machine.old (λ ev env. checked_shared ev function (map value_of arguments.now) (value_of names.now) (map value_of initargs.now) id.0)) (seen world.old) result machine.new }
+    ensures same { seen world.new ≡ seen world.old }
     ensures small { Grows value_weight machine.old.levels result machine.new }
 {
     match class_in(world, id)? {

@@ -164,11 +164,12 @@ fn update_and_reinitialize(
 pub fn reinitialize_instance(
     alloc: Global,
     machine: &mut Machine,
-    world: &World,
+    world: &mut World,
     id: InstanceId,
     initargs: &[Value],
 ) -> Result<Doing, Stop>
-    ensures leads { Leads (here machine.old (λ ev env. reinitialize_instance ev (map value_of initargs.now) id.0)) (seen world.now) result machine.new }
+    ensures leads { Leads (here machine.old (λ ev env. reinitialize_instance ev (map value_of initargs.now) id.0)) (seen world.old) result machine.new }
+    ensures same { seen world.new ≡ seen world.old }
     ensures small { Grows value_weight machine.old.levels result machine.new }
 {
     let function = SystemFunction::ReinitializeInstance;

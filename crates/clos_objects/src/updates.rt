@@ -43,13 +43,14 @@ fn current_and_initargs(rest: &[Value]) -> Option<(&Value, &[Value])>
 pub fn update_redefined(
     alloc: Global,
     machine: &mut Machine,
-    world: &World,
+    world: &mut World,
     object: &Value,
     rest: &[Value],
     arguments: &Arguments,
 ) -> Result<Doing, Stop>
     requires { arguments.now ≡ value_of object.now ∷ map value_of rest.now }
-    ensures leads { Leads (here machine.old (λ ev env. system_method_run ev UpdateInstanceForRedefinedClass arguments.now)) (seen world.now) result machine.new }
+    ensures leads { Leads (here machine.old (λ ev env. system_method_run ev UpdateInstanceForRedefinedClass arguments.now)) (seen world.old) result machine.new }
+    ensures same { seen world.new ≡ seen world.old }
     ensures small { Grows value_weight machine.old.levels result machine.new }
 {
     let Some((names, initargs)) = names_and_initargs(rest) else {
@@ -69,13 +70,14 @@ pub fn update_redefined(
 pub fn update_different(
     alloc: Global,
     machine: &mut Machine,
-    world: &World,
+    world: &mut World,
     previous: &Value,
     rest: &[Value],
     arguments: &Arguments,
 ) -> Result<Doing, Stop>
     requires { arguments.now ≡ value_of previous.now ∷ map value_of rest.now }
-    ensures leads { Leads (here machine.old (λ ev env. system_method_run ev UpdateInstanceForDifferentClass arguments.now)) (seen world.now) result machine.new }
+    ensures leads { Leads (here machine.old (λ ev env. system_method_run ev UpdateInstanceForDifferentClass arguments.now)) (seen world.old) result machine.new }
+    ensures same { seen world.new ≡ seen world.old }
     ensures small { Grows value_weight machine.old.levels result machine.new }
 {
     let Some((current, initargs)) = current_and_initargs(rest) else {
@@ -94,13 +96,14 @@ pub fn update_different(
 fn update_from(
     alloc: Global,
     machine: &mut Machine,
-    world: &World,
+    world: &mut World,
     arguments: &[Value],
     copy: InstanceId,
     current: &Value,
     initargs: &[Value],
 ) -> Result<Doing, Stop>
-    ensures leads { Leads (here machine.old (λ ev env. different_from ev (map value_of arguments.now) (map value_of initargs.now) copy.0 (instance_in (value_of current.now)))) (seen world.now) result machine.new }
+    ensures leads { Leads (here machine.old (λ ev env. different_from ev (map value_of arguments.now) (map value_of initargs.now) copy.0 (instance_in (value_of current.now)))) (seen world.old) result machine.new }
+    ensures same { seen world.new ≡ seen world.old }
     ensures small { Grows value_weight machine.old.levels result machine.new }
 {
     match instance_in(alloc, current) {
@@ -113,13 +116,14 @@ fn update_from(
 fn update_to(
     alloc: Global,
     machine: &mut Machine,
-    world: &World,
+    world: &mut World,
     arguments: &[Value],
     copy: InstanceId,
     id: InstanceId,
     initargs: &[Value],
 ) -> Result<Doing, Stop>
-    ensures leads { Leads (here machine.old (λ ev env w. different_with ev (map value_of arguments.now) (map value_of initargs.now) id.0 (names_listed (new_slots w copy.0 id.0)) w)) (seen world.now) result machine.new }
+    ensures leads { Leads (here machine.old (λ ev env w. different_with ev (map value_of arguments.now) (map value_of initargs.now) id.0 (names_listed (new_slots w copy.0 id.0)) w)) (seen world.old) result machine.new }
+    ensures same { seen world.new ≡ seen world.old }
     ensures small { Grows value_weight machine.old.levels result machine.new }
 {
     let names = new_slots(alloc, world, copy, id)?;

@@ -17,7 +17,7 @@ use Rattle.clos_definition_forms.specs.clos_world.World.{State, seen}
 use Rattle.clos_definition_forms.specs.clos_world.declared.condition.Stop.{Stop}
 use Rattle.clos_definition_forms.specs.clos_world.declared.condition.Stop.TheVariants.{Refused, Storage}
 use Rattle.clos_definition_forms.specs.clos_world.declared.functions.Function.{Function}
-use Rattle.clos_definition_forms.specs.clos_world.declared.world.World.{World}
+use Rattle.clos_definition_forms.specs.clos_world.declared.tables.World.{World}
 use Rattle.clos_definition_forms.specs.clos_machine.clos_meaning.Contexts.{known}
 use Rattle.clos_definition_forms.specs.clos_machine.Machine.{AnswersWith, leaves_by}
 use Rattle.clos_definition_forms.specs.clos_machine.clos_meaning.Host.{Host}

@@ -323,10 +323,15 @@ fn effective_methods_that_were_worked_out(rt: HostRuntime) -> Result<(), Fail> {
     )?;
     assert_eq!(rt; session.built(), 0);
     for (text, built) in [
-        ("(defmethod g ((x integer)) x)", 0),
-        ("(list (g 1) (g 2))", 2),
-        ("(g)", 2),
-        ("(g 'a)", 3),
+        ("(defmethod g ((x integer)) 'i)", 0),
+        ("(list (g 3) (g 4))", 1),
+        ("(defmethod g ((x (eql 3))) 'three)", 1),
+        ("(list (g 3) (g 4))", 3),
+        ("(remove-method #'g (find-method #'g () '((eql 3))))", 3),
+        ("(list (g 3) (g 4))", 4),
+        ("(g)", 4),
+        ("(g 'a)", 6),
+        ("(g 'b)", 6),
     ] {
         let _ = session.submit(&datum(rt.alloc(), text)?);
         assert_eq!(rt; session.built(), built);

@@ -1,3 +1,6 @@
 pub mod Lists
 pub mod Variables
 pub mod Heard
+pub mod Combined
+pub mod Known
+pub mod Kept

@@ -8,6 +8,8 @@ pub mod GlobalsView
 pub mod Functions
 pub mod World
 pub mod Dispatch
+pub mod Keys
+pub mod Kept
 pub mod Initial
 pub mod FunctionName
 pub mod Definitions
@@ -20,3 +22,4 @@ pub use Rattle.clos_generic.specs as clos_generic
 pub use Rattle.clos_comb.specs as clos_comb
 pub use Rattle.clos_lambda.specs as clos_lambda
 pub use Rattle.clos_watch.specs as clos_watch
+pub use Rattle.clos_cache.specs as clos_cache

@@ -9,7 +9,7 @@ use Rattle.clos_generic.specs.Table as generics
 use Rattle.clos_method.specs.declared.method.Method.{Method}
 use Rattle.clos_world.specs.declared.limits.Limits.{Limits}
 use Rattle.clos_world.specs.declared.functions.Function.{Function}
-use Rattle.clos_world.specs.declared.world.World.{World}
+use Rattle.clos_world.specs.declared.tables.World.{World}
 use Rattle.clos_world.specs.Globals.{Variables}
 use Rattle.clos_hierarchy.specs.Initial.{number, class_of_class}
 use Rattle.clos_class.specs.Table.{Table}

@@ -2,15 +2,77 @@
 ghost use Rattle.std.specs.Prelude.{◌≡◌, IfOk, map, take};
 ghost use Rattle.lisp_data.specs.ValueView.{value_of};
 ghost use Rattle.clos_precedence.specs.PrecedenceView.{numbers};
-ghost use Rattle.clos_world.specs.Dispatch.{ordered, required_by};
+ghost use Rattle.clos_comb.specs.Effective.{effective};
+ghost use Rattle.clos_comb.specs.OutcomeView.{combined_of};
+ghost use Rattle.clos_world.specs.Dispatch.{combination_of, ordered, required_by};
 ghost use Rattle.clos_world.specs.World.{class_of, seen};
 
-use crate::world::World;
+use crate::effective_method::EffectiveMethod;
+use crate::tables::World;
 use clos_method::{Arguments, MethodIds};
-use lisp_data::{ClassId, GenericId, Value};
+use lisp_data::{ClassId, GenericId, Name, Value};
 use std::alloc::{AllocError, Global};
+use std::rc::Rc;
 
 impl World {
+    /// The methods of a generic function that are applicable to these arguments, with what they are combined into: as it is
+    /// kept, or worked out and kept.
+    pub fn effective_method(
+        &mut self,
+        alloc: Global,
+        id: GenericId,
+        values: &[Value],
+    ) -> Result<Rc<EffectiveMethod>, AllocError>
+        ensures methods { IfOk result (λ r. r.value.methods ≡ ordered (seen self.old) id.0 (map value_of values.now)) }
+        ensures outcome { IfOk result (λ r. combined_of r.value.outcome
+            ≡ effective self.old.combinations self.old.generics.table id.0 (ordered (seen self.old) id.0 (map value_of values.now))) }
+        ensures same { seen self.new ≡ seen self.old }
+    {
+        let key = self.key_of(alloc, id, values)?;
+        if let Some(kept) = self.cache.find(&key) {
+            return Ok(kept.clone()?);
+        }
+        let combination = self.combination_of(id)?;
+        let found = self.worked_out(alloc, id, values)?;
+        let given = found.clone()?;
+        self.cache.keep(key, combination, found)?;
+        Ok(given)
+    }
+
+    /// The same, with no regard to what is kept.
+    fn worked_out(
+        &mut self,
+        alloc: Global,
+        id: GenericId,
+        values: &[Value],
+    ) -> Result<Rc<EffectiveMethod>, AllocError>
+        ensures methods { IfOk result (λ r. r.value.methods ≡ ordered (seen self.old) id.0 (map value_of values.now)) }
+        ensures outcome { IfOk result (λ r. combined_of r.value.outcome
+            ≡ effective self.old.combinations self.old.generics.table id.0 (ordered (seen self.old) id.0 (map value_of values.now))) }
+        ensures same { seen self.new ≡ seen self.old }
+        ensures kept { self.new.cache ≡ self.old.cache }
+    {
+        let methods = self.ordered(alloc, id, values)?;
+        let outcome = self.combinations.effective(
+            alloc,
+            &self.generics,
+            &mut self.meter,
+            id,
+            methods.as_slice(),
+        )?;
+        Ok(Rc::new(alloc, EffectiveMethod { methods, outcome })?)
+    }
+
+    /// The name of the method combination of a generic function.
+    fn combination_of(&self, id: GenericId) -> Result<Name, AllocError>
+        ensures { IfOk result (λ n. n ≡ combination_of (seen self.now) id.0) }
+    {
+        match self.generics.function(id) {
+            None => Ok(Name::fixed(&"STANDARD")),
+            Some(function) => function.combination().name.copy(),
+        }
+    }
+
     /// The methods of a generic function that are applicable to these arguments, the most specific first (HyperSpec
     /// 7.6.6.1). The arguments of the required parameters decide.
     pub fn ordered(
@@ -28,7 +90,7 @@ impl World {
     }
 
     /// How many required parameters a generic function has.
-    fn required_by(&self, id: GenericId) -> u64
+    pub(crate) fn required_by(&self, id: GenericId) -> u64
         ensures { result ≡ required_by (seen self.now) id.0 }
     {
         match self.generics.function(id) {
@@ -51,7 +113,7 @@ impl World {
 
 /// So many of these values, or all.
 #[tactic(auto, using(crate::proofs::Lists::all_taken, crate::proofs::Lists::some_taken))]
-fn first_values(values: &[Value], count: u64) -> &[Value]
+pub(crate) fn first_values(values: &[Value], count: u64) -> &[Value]
     ensures { map value_of result.now ≡ take count (map value_of values.now) }
 {
     if values.len() as u64 <= count {

@@ -1,4 +1,4 @@
-//! The state of a session: its tables, what was written, and its limits.
+//! The state of a session that begins, and what values are in it.
 ghost use Rattle.std.specs.Prelude.{◌≡◌, IfOk, option_map};
 ghost use Rattle.lisp_data.specs.ValueView.{value_of};
 ghost use Rattle.lisp_data.specs.PrintView.{called};
@@ -10,8 +10,10 @@ use crate::functions::Functions;
 use crate::globals::Globals;
 use crate::hearing::Hearing;
 use crate::limits::Limits;
+use crate::tables::World;
+use clos_cache::Cache;
 use clos_class::Classes;
-use clos_comb::{Combinations, Meter};
+use clos_comb::Combinations;
 use clos_generic::Generics;
 use clos_hierarchy::numbers;
 use clos_store::{Objects, Store};
@@ -19,28 +21,6 @@ use lisp_data::{
     ClassId, FunctionName, GenericId, InstanceId, MethodId, Name, Naming, Specializer, Value,
 };
 use std::alloc::{AllocError, Global};
-
-/// The tables of a session.
-#[derive(Drop)]
-pub struct World {
-    /// The classes, their instances, and the cells of shared slots.
-    pub objects: Objects,
-    /// With all methods ever made.
-    pub generics: Generics,
-    pub combinations: Combinations,
-    /// Counts the effective methods that were worked out.
-    pub meter: Meter,
-    /// By symbols.
-    pub functions: Functions,
-    /// The functions `(setf name)`, by that name.
-    pub setters: Functions,
-    pub globals: Globals,
-    /// The dependents of classes and generic functions, and the notices of all changes.
-    pub hearing: Hearing,
-    /// What forms wrote.
-    pub written: Vec<u8>,
-    pub limits: Limits,
-}
 
 impl World {
     /// The tables of a session that begins, under these limits, with dependents of these names.
@@ -56,6 +36,7 @@ impl World {
             generics,
             combinations,
             meter,
+            cache: Cache::new(alloc),
             functions: Functions::new(alloc),
             setters: Functions::new(alloc),
             globals: Globals::new(alloc),

@@ -10,6 +10,7 @@ use Rattle.clos_world.proofs.Heard.{notices_told}
 use Rattle.clos_definition.specs.Class.{class_notices, noting, of_class, with_class}
 use Rattle.clos_definition.specs.Effect.{with_effect}
 use Rattle.clos_definition.proofs.Classes.{allowed, class_there}
+use Rattle.clos_definition.proofs.Kept.{same_classes}
 use Rattle.clos_definition.proofs.class.make_class.Goals as goal
 use Rattle.clos_definition.proofs.class.make_class.Goals.{in-Some, in_default}
 
@@ -36,3 +37,9 @@ returns-clause-ok c =
           (ap of_class (v.in_default.ensures ∙ same))
     ] in
     c.make.ensures ∙ ap (with_effect c.args.effect) before
+
+pub invariant_of-world : goal.invariant_of-world
+invariant_of-world c = record {
+  kept = same_classes c.args.world.now.combinations c.args.world.now.cache c.args.world.now.generics.table c.args.world.now.objects.classes
+      c.define.new.self.classes (ap (λ o. o.classes) c.in_err-define.ensures.err) c.args.world.now.kept;
+}

@@ -1,6 +1,7 @@
 use Rattle.std.proofs.Common.{◌-◌, ap, arith}
 use Rattle.clos_meaning.specs.clos_world.World.{seen}
 use Rattle.clos_machine.specs.declared.machine.Machine.{Machine}
+use Rattle.clos_machine.proofs.Kept.{same_classes, same_either_way}
 use Rattle.clos_machine.proofs.Updates.{update_goes, update_no_step}
 use Rattle.clos_machine.proofs.updating.restructure.Goals as goal
 
@@ -16,3 +17,12 @@ returns-clause-turns c =
     (record (seen c.args.world.now) { classes = c.restructure.new.self.classes; store = c.restructure.new.self.contents }) c.args.steps.now (c.args.steps.now - 1)
     (ap (λ ls. record m { levels = ls }) c.in_ok-push.ensures.ok) (omega (arith, c.if-steps-eq0.false))
     (ap (λ o. record (seen c.args.world.now) { classes = o.classes; store = o.contents }) c.in-Ok.ensures.ok)
+
+pub invariant_of-world : goal.invariant_of-world
+invariant_of-world c = record {
+  kept = same_classes c.args.world.now.generics.table c.args.world.now.combinations c.args.world.now.cache c.args.world.now.objects.classes
+      c.restructure.new.self.classes
+      (same_either_way c.restructure.new.self.classes c.args.world.now.objects.classes c.restructure.result c.restructure.ensures.ok
+      c.restructure.ensures.err (ap (λ o. o.classes)) (ap (λ o. o.classes)))
+      c.args.world.now.kept;
+}

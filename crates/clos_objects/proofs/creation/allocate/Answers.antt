@@ -1,6 +1,7 @@
 use Rattle.std.proofs.Common.{◌-◌, ap, arith, ◌∙◌}
 use Rattle.clos_machine.specs.clos_world.clos_store.Store.{allocated, next_instance, with_instance}
 use Rattle.clos_machine.specs.clos_world.World.{seen}
+use Rattle.clos_machine.proofs.Kept.{same_classes, same_either_way}
 use Rattle.clos_objects.proofs.Making.{allocate_full, allocate_goes, allocate_no_step}
 use Rattle.clos_objects.proofs.creation.allocate.Goals as goal
 
@@ -19,3 +20,12 @@ returns-clause-turns c =
     c.args.steps.now (c.args.steps.now - 1) (c.in-Some.ensures ∙ ap next_instance c.store.ensures) (omega (arith, c.if-steps-eq0.false))
     (ap (λ o. record (seen c.args.world.now) { classes = o.classes; store = o.contents })
     (c.in-Ok.ensures.ok.1 ∙ ap (λ l. record c.args.world.now.objects { contents = with_instance (allocated c.args.class.0 l) c.args.world.now.objects.contents }) c.layout.ensures))
+
+pub invariant_of-world : goal.invariant_of-world
+invariant_of-world c = record {
+  kept = same_classes c.args.world.now.generics.table c.args.world.now.combinations c.args.world.now.cache c.args.world.now.objects.classes
+      c.allocate.new.self.classes
+      (same_either_way c.allocate.new.self.classes c.args.world.now.objects.classes c.allocate.result c.allocate.ensures.ok c.allocate.ensures.err
+      (λ p. ap (λ o. o.classes) p.1) (ap (λ o. o.classes)))
+      c.args.world.now.kept;
+}

@@ -11,12 +11,14 @@ use Rattle.clos_objects.proofs.system_methods.update_and_reinitialize.Goals as g
 pub returns-in-None-clause-turns : goal.returns-in-None-clause-turns
 returns-in-None-clause-turns c =
     turns_due c.args.machine.now c.reinitialize_instance.new.machine (λ ev env. reinitialize_instance ev (map value_of c.args.initargs.now) c.args.id.0) c.args.id.0 None
-    (seen c.args.world.now) c.args.steps.now c.reinitialize_instance.result (seen c.due.new.world) c.args.steps.now
+    (seen c.args.world.now) c.args.steps.now c.reinitialize_instance.result (seen c.reinitialize_instance.new.world) c.args.steps.now
     (subst (λ o. o ≡ due (seen c.args.world.now) c.args.id.0) c.in-None.is c.in_ok-due.ensures.value)
     (subst (λ w. Turns (here c.args.machine.now (λ ev env. reinitialize_instance ev (map value_of c.args.initargs.now) c.args.id.0)) w c.args.steps.now
-    c.reinitialize_instance.result c.reinitialize_instance.new.machine (seen c.due.new.world) c.args.steps.now) c.in_ok-due.ensures.same
+    c.reinitialize_instance.result c.reinitialize_instance.new.machine (seen c.reinitialize_instance.new.world) c.args.steps.now) c.in_ok-due.ensures.same
+    (subst (λ w. Turns (here c.args.machine.now (λ ev env. reinitialize_instance ev (map value_of c.args.initargs.now) c.args.id.0)) (seen c.due.new.world) c.args.steps.now
+    c.reinitialize_instance.result c.reinitialize_instance.new.machine w c.args.steps.now) (sym c.reinitialize_instance.ensures.same)
     (turns_of_leads (here c.args.machine.now (λ ev env. reinitialize_instance ev (map value_of c.args.initargs.now) c.args.id.0)) (seen c.due.new.world) c.args.steps.now
-    c.reinitialize_instance.result c.reinitialize_instance.new.machine c.reinitialize_instance.ensures.leads))
+    c.reinitialize_instance.result c.reinitialize_instance.new.machine c.reinitialize_instance.ensures.leads)))
 
 pub update-requires : goal.update-requires
 update-requires c = ap (λ w. due w c.args.id.0) c.in_ok-due.ensures.same ∙ sym c.in_ok-due.ensures.value ∙ c.in-Some.is
