@@ -6,3 +6,5 @@ pub mod Precedence
 pub mod Forms
 pub mod Sessions
 pub mod InOrder
+pub mod Agreeing
+pub mod Left
