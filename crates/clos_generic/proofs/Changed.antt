@@ -1,5 +1,5 @@
 -- One element of a list is changed.
-use Rattle.std.proofs.Common.{◌≡◌, ℕ, zero, suc, List, [], ◌∷◌, ◌<◌, ◌≤◌, length, arith, map, refl, ap, sym, ◌∙◌}
+use Rattle.std.proofs.Common.{◌≡◌, ℕ, zero, suc, List, [], ◌∷◌, Option, Some, None, ◌<◌, ◌≤◌, length, arith, map, refl, ap, sym, ◌∙◌, subst}
 use Rattle.std.specs.Prelude.{slice_get, slice_set, slice_index_or, Result, Ok, Err, OnOk, OnErr}
 use Rattle.clos_generic.specs.Table.{Function, methods_in, with_changed}
 use Rattle.clos_method.specs.MethodIds.{method_numbers}
@@ -18,6 +18,21 @@ pub unchanged_at : {A B : Type 0} (view : A → B) (xs : List A) (i : ℕ) (x y 
 unchanged_at view [] i x y e h = refl
 unchanged_at view (z ∷ zs) zero x y e h = ap (λ b. b ∷ map view zs) (h ∙ ap view e)
 unchanged_at view (z ∷ zs) (suc i) x y e h = ap (λ l. view z ∷ l) (unchanged_at view zs i x y e h)
+
+-- What is said of each element, if there is one, is said after the change too.
+pub said_of_changed : {A : Type 0} (P Q : Option A → Type 0) (xs : List A) (i : ℕ) (x y : A) (j : ℕ) → x ≡ slice_index_or xs i x
+    → ((o : Option A) → P o → Q o) → (P (Some x) → Q (Some y)) → P (slice_get xs j) → Q (slice_get (slice_set xs i y) j)
+said_of_changed P Q [] i x y j e k c h = k None h
+said_of_changed P Q (z ∷ zs) zero x y zero e k c h = c (subst (λ w. P (Some w)) (sym e) h)
+said_of_changed P Q (z ∷ zs) zero x y (suc j) e k c h = k (slice_get zs j) h
+said_of_changed P Q (z ∷ zs) (suc i) x y zero e k c h = k (Some z) h
+said_of_changed P Q (z ∷ zs) (suc i) x y (suc j) e k c h = said_of_changed P Q zs i x y j e k c h
+
+-- the changed one
+pub changed_there : {A : Type 0} (xs : List A) (i : ℕ) (y : A) → i < length xs → slice_get (slice_set xs i y) i ≡ Some y
+changed_there [] i y h = absurd (omega (arith, h))
+changed_there (x ∷ xs) zero y h = refl
+changed_there (x ∷ xs) (suc i) y h = changed_there xs i y (omega (arith, h))
 
 pub length_of_changed : {A : Type 0} (change : A → A) (xs : List A) (i : ℕ) → length (with_changed change i xs) ≡ length xs
 length_of_changed change [] i = refl

@@ -25,16 +25,16 @@ number_of o = option_map (λ m. m.0) o
 
 -- ---- one more at the end of a list
 
-got_before : {A : Type 0} (xs : List A) (y : A) (n : ℕ) → n < length xs → slice_get (xs ++ y ∷ []) n ≡ slice_get xs n
+pub got_before : {A : Type 0} (xs : List A) (y : A) (n : ℕ) → n < length xs → slice_get (xs ++ y ∷ []) n ≡ slice_get xs n
 got_before [] y n h = absurd (omega (arith, h))
 got_before (x ∷ xs) y zero h = refl
 got_before (x ∷ xs) y (suc n) h = got_before xs y n (omega (arith, h))
 
-got_last : {A : Type 0} (xs : List A) (y : A) → slice_get (xs ++ y ∷ []) (length xs) ≡ Some y
+pub got_last : {A : Type 0} (xs : List A) (y : A) → slice_get (xs ++ y ∷ []) (length xs) ≡ Some y
 got_last [] y = refl
 got_last (x ∷ xs) y = got_last xs y
 
-one_longer : {A : Type 0} (xs : List A) (y : A) → length (xs ++ y ∷ []) ≡ suc (length xs)
+pub one_longer : {A : Type 0} (xs : List A) (y : A) → length (xs ++ y ∷ []) ≡ suc (length xs)
 one_longer [] y = refl
 one_longer (x ∷ xs) y = ap suc (one_longer xs y)
 

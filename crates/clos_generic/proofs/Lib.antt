@@ -5,3 +5,5 @@ pub mod Told
 pub mod Rooms
 pub mod Ready
 pub mod Kept
+pub mod There
+pub mod EqlNoted

@@ -83,7 +83,7 @@ module _ (F E : Vec Function Global) (a b : ℕ) (M : Vec Method Global) (ss : L
         spare_rooms = λ k. spares (suc k);
       }
 
-or_true : (c d : Bool) → d ≡ true → (c || d) ≡ true
+pub or_true : (c d : Bool) → d ≡ true → (c || d) ≡ true
 or_true true d h = refl
 or_true false d h = h
 

@@ -6,6 +6,7 @@ use Rattle.lisp_data.specs.declared.ids.GenericId.{GenericId}
 use Rattle.clos_generic.specs.inner.Reserved.{HasRoom, HasSpare, is_added}
 use Rattle.clos_generic.specs.declared.function.Function.{Function}
 use Rattle.clos_generic.specs.declared.spare.Spare.{Spare}
+use Rattle.clos_generic.proofs.Changed.{said_of_changed}
 
 pub room_less : (n m : ℕ) (o : Option Function) → m ≤ n → HasRoom n o → HasRoom m o
 room_less n m None h r = tt
@@ -25,11 +26,7 @@ room_pushed n (x ∷ xs) f (suc g) k h = room_pushed n xs f g k h
 -- One function is changed.
 pub room_changed : (n m : ℕ) (fs : List Function) (i : ℕ) (f e : Function) (g : ℕ) → f ≡ slice_index_or fs i f → m ≤ n → (HasRoom n (Some f) → HasRoom m (Some e)) → HasRoom n (slice_get fs g)
     → HasRoom m (slice_get (slice_set fs i e) g)
-room_changed n m [] i f e g is l k h = tt
-room_changed n m (x ∷ xs) zero f e zero is l k h = k (subst (λ y. HasRoom n (Some y)) (sym is) h)
-room_changed n m (x ∷ xs) zero f e (suc g) is l k h = room_less n m (slice_get xs g) l h
-room_changed n m (x ∷ xs) (suc i) f e zero is l k h = room_less n m (Some x) l h
-room_changed n m (x ∷ xs) (suc i) f e (suc g) is l k h = room_changed n m xs i f e g is l k h
+room_changed n m fs i f e g is l k h = said_of_changed (HasRoom n) (HasRoom m) fs i f e g is (λ o r. room_less n m o l r) k h
 
 -- A function that is there has the room that it is said to have.
 pub room_there : (n : ℕ) (fs : List Function) (i : ℕ) (f : Function) → i < length fs → f ≡ slice_index_or fs i f → HasRoom n (slice_get fs i) → HasRoom n (Some f)
@@ -49,7 +46,7 @@ no_room n (x ∷ xs) (suc i) h = no_room n xs i (omega (arith, h))
 
 -- ---- functions that have additions
 
-one_of : (b c : Bool) → (b || c) ≡ true → (b ≡ true) ⊎ (c ≡ true)
+pub one_of : (b c : Bool) → (b || c) ≡ true → (b ≡ true) ⊎ (c ≡ true)
 one_of true c h = inl refl
 one_of false c h = inr h
 

@@ -1,10 +1,12 @@
 -- The table of generic functions as its contracts see it.
-use Rattle.std.specs.Prelude.{◌≡◌, ℕ, List, [], ◌∷◌, ◌++◌, Option, Some, None, option_map, map, if◌then◌else◌}
+use Rattle.std.specs.Prelude.{◌≡◌, ℕ, ◌<◌, ◌==◌, Bool, true, List, [], ◌∷◌, ◌++◌, Option, Some, None, length, option_map, map, slice_get, if◌then◌else◌}
+use Rattle.std.specs.List.{list_any}
 use Rattle.lisp_data.specs.Name.{Name}
 use Rattle.lisp_data.specs.declared.ids.GenericId.{GenericId}
 use Rattle.clos_forms.specs.declared.operator.FunctionName.{FunctionName}
 use Rattle.clos_method.specs.MethodIds.{method_numbers}
-use Rattle.clos_generic.specs.Table.{Function, Table, made, named_in, redefined, same_function, with_changed}
+use Rattle.clos_method.specs.declared.method.Method.{Method}
+use Rattle.clos_generic.specs.Table.{Function, Table, made, methods_in, named_in, redefined, same_function, with_changed}
 use Rattle.clos_generic.specs.declared.options.Options.{Options}
 use Rattle.clos_generic.specs.declared.function.Function as code
 
@@ -28,6 +30,14 @@ with_made name o t = record t { functions = t.functions ++ made name o ∷ [] }
 -- with other options of the function of this number
 abbrev pub with_redefined : ℕ → Options → Table → Table
 with_redefined g o t = record t { functions = with_changed (redefined o) g t.functions }
+
+-- whether the method of this number is one of this function's
+abbrev pub is_method_of : List Function → ℕ → ℕ → Bool
+is_method_of fs g n = list_any (λ k. k == n) (methods_in (slice_get fs g))
+
+-- Each method of a function is among all methods.
+abbrev pub AreThere : List Function → List Method → Type 0
+AreThere fs methods = (g n : ℕ) → is_method_of fs g n ≡ true → n < length methods
 
 -- of each of these names this is the number of its function
 abbrev pub IsIndexed : List Function → (Name → FunctionName) → (Name → Option GenericId) → Type 0

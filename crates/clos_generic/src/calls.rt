@@ -36,6 +36,9 @@ impl Generics {
     pub fn has_eql(&self, id: GenericId, place: usize, object: &Value) -> bool
         ensures { result ≡ has_eql self.now.table id.0 place (value_of object.now) }
     {
+        if !self.may_have_eql(id, place) {
+            return false;
+        }
         match self.function(id) {
             None => false,
             Some(function) => {

@@ -1,10 +1,12 @@
 //! Generic functions.
-ghost use Rattle.std.specs.Prelude.{◌≡◌, ◌==◌, ◌<◌, ◌≤◌, ◌+◌, [], IfOk, IsOk, OnOk, OnErr, option_map, vec_len, vec_capacity};
+ghost use Rattle.std.specs.Prelude.{◌≡◌, ◌==◌, ◌<◌, ◌≤◌, ◌+◌, [], ℕ, false, true, IfOk, IsOk, OnOk, OnErr, option_map, vec_len, vec_capacity};
 ghost use Rattle.std.specs.List.{find};
 ghost use Rattle.clos_generic.specs.Table.{added, is_alike_at, made, redefined, with_methods, without};
 ghost use Rattle.clos_method.specs.MethodIds.{method_numbers};
 ghost use Rattle.clos_generic.specs.TableView.{function_of};
+ghost use Rattle.clos_generic.specs.inner.EqlPlaces.{NotesEql, is_noted};
 
+use crate::eql_places::EqlPlaces;
 use crate::methods::{take_alike, take_number};
 use crate::options::Options;
 use clos_forms::FunctionName;
@@ -19,6 +21,7 @@ pub struct Function {
     pub(crate) name: FunctionName,
     pub(crate) options: Options,
     pub(crate) methods: Vec<MethodId>,
+    pub(crate) eql_places: EqlPlaces,
 }
 
 impl Function {
@@ -62,11 +65,13 @@ impl Function {
         requires { methods.items ≡ [] }
         ensures seen { function_of result ≡ made name options }
         ensures methods { result.methods ≡ methods }
+        ensures eql_places { (place : ℕ) → is_noted result.eql_places place ≡ false }
     {
         Function {
             name,
             options,
             methods,
+            eql_places: EqlPlaces::new(),
         }
     }
 
@@ -74,6 +79,7 @@ impl Function {
     pub(crate) fn redefine(&mut self, options: Options)
         ensures seen { function_of self.new ≡ redefined options (function_of self.old) }
         ensures methods { self.new.methods ≡ self.old.methods }
+        ensures eql_places { self.new.eql_places ≡ self.old.eql_places }
     {
         self.options = options;
     }
@@ -92,6 +98,8 @@ impl Function {
         ensures len { OnOk result (vec_len self.new.methods ≤ vec_len self.old.methods + 1) }
         ensures err_len { OnErr result (vec_len self.new.methods ≡ vec_len self.old.methods) }
         ensures capacity { vec_capacity self.old.methods ≤ vec_capacity self.new.methods }
+        ensures notes { (place : ℕ) → is_noted self.old.eql_places place ≡ true → is_noted self.new.eql_places place ≡ true }
+        ensures eql { OnOk result (NotesEql method.now.specializers (is_noted self.new.eql_places)) }
     {
         let id = MethodId(all.len() as u64);
         self.methods.reserve(1)?;
@@ -102,6 +110,7 @@ impl Function {
             &method.specializers,
         );
         self.methods.push_reserved(id);
+        self.eql_places.note(&method.specializers);
         Ok(replaced)
     }
 
@@ -110,6 +119,7 @@ impl Function {
         ensures seen { function_of self.new ≡ with_methods (without (λ n. n == id.0)) (function_of self.old) }
         ensures len { vec_len self.new.methods ≤ vec_len self.old.methods }
         ensures capacity { vec_capacity self.new.methods ≡ vec_capacity self.old.methods }
+        ensures eql_places { self.new.eql_places ≡ self.old.eql_places }
     {
         take_number(&mut self.methods, id);
     }
@@ -120,6 +130,7 @@ impl Function {
         ensures ok { OnOk result (vec_len self.new.methods + methods ≤ vec_capacity self.new.methods) }
         ensures len { vec_len self.new.methods ≡ vec_len self.old.methods }
         ensures capacity { vec_capacity self.old.methods ≤ vec_capacity self.new.methods }
+        ensures eql_places { self.new.eql_places ≡ self.old.eql_places }
     {
         self.methods.reserve(methods)
     }

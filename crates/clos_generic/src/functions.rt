@@ -1,6 +1,7 @@
 //! One of the functions in their list.
 ghost use Rattle.std.specs.Prelude.{◌≡◌, ◌==◌, ◌<◌, ◌+◌, ℕ, true, IfOk, IsOk, OnOk, OnErr, option_map, slice_get, vec_len, vec_capacity};
 ghost use Rattle.std.specs.List.{find};
+ghost use Rattle.clos_generic.specs.inner.EqlPlaces.{KeepNotes, NotesEql, is_noted_in};
 ghost use Rattle.clos_generic.specs.inner.Reserved.{HasRoom, is_added};
 ghost use Rattle.clos_generic.specs.Table.{added, is_alike_at, methods_in, redefined, with_changed, with_methods, without};
 ghost use Rattle.clos_generic.specs.TableView.{functions_in};
@@ -17,6 +18,7 @@ pub fn redefine_at(functions: &mut Vec<Function>, id: GenericId, options: Option
     requires { id.0 < vec_len functions.old }
     ensures seen { functions_in functions.new.items ≡ with_changed (redefined options) id.0 (functions_in functions.old.items) }
     ensures rooms { (n g : ℕ) → HasRoom n (slice_get functions.old.items g) → HasRoom n (slice_get functions.new.items g) }
+    ensures notes { KeepNotes functions.old.items functions.new.items }
     ensures len { vec_len functions.new ≡ vec_len functions.old }
     ensures capacity { vec_capacity functions.new ≡ vec_capacity functions.old }
 {
@@ -37,6 +39,9 @@ pub fn put_at(
     ensures succeeds { HasRoom 1 (slice_get functions.old.items id.0) → IsOk result }
     ensures rooms { OnOk result ((n g : ℕ) → HasRoom (n + 1) (slice_get functions.old.items g) → HasRoom n (slice_get functions.new.items g)) }
     ensures err_rooms { OnErr result ((n g : ℕ) → HasRoom n (slice_get functions.old.items g) → HasRoom n (slice_get functions.new.items g)) }
+    ensures notes { KeepNotes functions.old.items functions.new.items }
+    ensures eql { OnOk result (id.0 < vec_len functions.old
+        → NotesEql method.now.specializers (is_noted_in (slice_get functions.new.items id.0))) }
     ensures len { vec_len functions.new ≡ vec_len functions.old }
     ensures capacity { vec_capacity functions.new ≡ vec_capacity functions.old }
 {
@@ -51,6 +56,7 @@ pub fn take_out_at(functions: &mut Vec<Function>, id: GenericId, method: MethodI
     requires { id.0 < vec_len functions.old }
     ensures seen { functions_in functions.new.items ≡ with_changed (with_methods (without (λ n. n == method.0))) id.0 (functions_in functions.old.items) }
     ensures rooms { (n g : ℕ) → HasRoom n (slice_get functions.old.items g) → HasRoom n (slice_get functions.new.items g) }
+    ensures notes { KeepNotes functions.old.items functions.new.items }
     ensures len { vec_len functions.new ≡ vec_len functions.old }
     ensures capacity { vec_capacity functions.new ≡ vec_capacity functions.old }
 {
@@ -66,6 +72,7 @@ fn reserve_at(
     ensures same { functions_in functions.new.items ≡ functions_in functions.old.items }
     ensures ok { OnOk result (HasRoom methods (slice_get functions.new.items id.0)) }
     ensures rooms { (n g : ℕ) → HasRoom n (slice_get functions.old.items g) → HasRoom n (slice_get functions.new.items g) }
+    ensures notes { KeepNotes functions.old.items functions.new.items }
     ensures len { vec_len functions.new ≡ vec_len functions.old }
     ensures capacity { vec_capacity functions.new ≡ vec_capacity functions.old }
 {
@@ -83,6 +90,7 @@ pub fn reserve_each(
 ) -> Result<(), AllocError>
     ensures same { functions_in functions.new.items ≡ functions_in functions.old.items }
     ensures ok { OnOk result ((g : ℕ) → is_added g ids.now.items ≡ true → HasRoom methods (slice_get functions.new.items g)) }
+    ensures notes { KeepNotes functions.old.items functions.new.items }
     ensures len { vec_len functions.new ≡ vec_len functions.old }
     ensures capacity { vec_capacity functions.new ≡ vec_capacity functions.old }
 {
@@ -90,4 +98,14 @@ pub fn reserve_each(
         reserve_at(functions, ids[place], methods)?;
     }
     Ok(())
+}
+
+/// Whether a method of a function may have an eql specializer for the parameter at this place.
+pub fn may_have_eql(functions: &[Function], id: GenericId, place: usize) -> bool
+    ensures { result ≡ is_noted_in (slice_get functions.now id.0) place }
+{
+    match functions.get(id.0 as usize) {
+        None => false,
+        Some(function) => function.eql_places.may_have(place),
+    }
 }

@@ -4,6 +4,7 @@
 mod accessors;
 mod calls;
 mod changes;
+mod eql_places;
 mod fault;
 mod function;
 mod functions;

@@ -1,8 +1,10 @@
 //! The generic functions of a session and their methods.
-ghost use Rattle.std.specs.Prelude.{◌≡◌, ◌==◌, ◌<◌, ◌-◌, ◌∷◌, ◌||◌, [], ℕ, true, None, IfOk, IsOk, IfErr, OnOk, OnErr, MatchResult, is_some, length, option_map, option_copied, slice_get};
+ghost use Rattle.std.specs.Prelude.{◌≡◌, ◌==◌, ◌<◌, ◌-◌, ◌∷◌, ◌||◌, [], ℕ, false, true, None, IfOk, IsOk, IfErr, OnOk, OnErr, MatchResult, is_some, length, option_map, option_copied, slice_get};
 ghost use Rattle.std.specs.List.{list_any};
+ghost use Rattle.lisp_data.specs.Value.{Val};
 ghost use Rattle.clos_forms.specs.declared.operator.FunctionName.TheVariants.{Symbol, Setf};
 ghost use Rattle.clos_generic.specs.Accessors.{is_accessor_in};
+ghost use Rattle.clos_generic.specs.Calls.{has_eql};
 ghost use Rattle.clos_generic.specs.Changes.{changes_refusal};
 ghost use Rattle.clos_generic.specs.Held.{by_addition, by_definition, is_first, released, reserved};
 ghost use Rattle.clos_method.specs.System.{system_functions};
@@ -17,7 +19,7 @@ use crate::accessors::AccessorMethods;
 use crate::changes::Changes;
 use crate::fault::GenericFault;
 use crate::function::Function;
-use crate::functions::{put_at, redefine_at, reserve_each, take_out_at};
+use crate::functions::{may_have_eql, put_at, redefine_at, reserve_each, take_out_at};
 use crate::methods::{all_fit, all_permitted, find_alike, is_among};
 use crate::names::{is_same, note_function};
 use crate::options::Options;
@@ -61,16 +63,18 @@ impl Model for Generics {
     ghost use Rattle.std.specs.HashMap.{get, spare};
     ghost use Rattle.std.specs.Prelude.{length};
     ghost use Rattle.clos_generic.specs.inner.AccessorMethods.{HasPlaces, IsKept};
+    ghost use Rattle.clos_generic.specs.inner.EqlPlaces.{AreNoted};
     ghost use Rattle.clos_generic.specs.inner.Reserved.{IsReady, ids_of, keys_of};
     ghost use Rattle.lisp_data.specs.Name.{same_name};
     ghost use Rattle.clos_forms.specs.declared.operator.FunctionName.TheVariants.{Symbol, Setf};
-    ghost use Rattle.clos_generic.specs.TableView.{IsIndexed, functions_in};
+    ghost use Rattle.clos_generic.specs.TableView.{AreThere, IsIndexed, functions_in};
 
     ghost view = { λ a. record { table = record { functions = functions_in a.functions.items; methods = a.methods.items; most_functions = a.most_functions; most_methods = a.most_methods }; definitions = keys_of a.spares.items; additions = ids_of a.additions.items } };
 
     ghost invariant = { λ a. IsIndexed (functions_in a.functions.items) Symbol (λ n. get same_name a.symbols n) × IsIndexed (functions_in a.functions.items) Setf (λ n. get same_name a.setters n)
         × IsReady a.functions (spare a.symbols) (spare a.setters) a.methods a.spares.items a.additions.items
-        × IsKept a.accessors a.methods.items × HasPlaces (length a.additions.items) a.accessors };
+        × IsKept a.accessors a.methods.items × HasPlaces (length a.additions.items) a.accessors
+        × AreThere (functions_in a.functions.items) a.methods.items × AreNoted a.functions.items a.methods.items };
 }
 
 impl Generics {
@@ -163,6 +167,13 @@ impl Generics {
         }
     }
 
+    /// Whether a method of a function may have an eql specializer for the parameter at this place. It walks no methods.
+    pub(crate) fn may_have_eql(&self, id: GenericId, place: usize) -> bool
+        ensures { result ≡ false → (v : Val) → has_eql self.now.table id.0 place v ≡ false }
+    {
+        may_have_eql(&self.functions, id, place)
+    }
+
     /// The latest method that came with an accessor of a class.
     pub(crate) fn latest_accessor(&self, class: ClassId) -> Option<MethodId>
         ensures { option_map (λ m. m.0) result ≡ latest_below self.now.table.methods class.0 (length self.now.table.methods) }
@@ -178,7 +189,7 @@ impl Generics {
     }
 
     /// No functions.
-    #[tactic(auto, using(crate::proofs::Kept::kept_none))]
+    #[tactic(auto, using(crate::proofs::Kept::kept_none, crate::proofs::There::there_none, crate::proofs::EqlNoted::noted_none))]
     fn empty(alloc: Global, functions: u64, methods: u64) -> Generics
         ensures { result.table ≡ empty functions methods }
     {

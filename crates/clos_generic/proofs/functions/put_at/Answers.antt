@@ -1,4 +1,5 @@
 use Rattle.std.proofs.Common.{◌+◌}
+use Rattle.clos_generic.proofs.EqlNoted.{eql_noted, notes_kept}
 use Rattle.clos_generic.proofs.Rooms.{room_changed, room_less, room_there}
 use Rattle.std.proofs.Common.{ap, arith, subst, sym}
 use Rattle.std.proofs.lemmas.List.{length-map}
@@ -44,6 +45,17 @@ returns-then-id-len-clause-err_rooms c =
     (λ k. omega (arith, k, l, c.put.ensures.capacity)) h)
     c.put.ensures.err_len
 
+pub returns-then-id-len-clause-notes : goal.returns-then-id-len-clause-notes
+returns-then-id-len-clause-notes c =
+    notes_kept c.args.functions.now.items c.args.id.0 c.index_mut.result.now c.put.new.self c.index_mut.ensures.value c.put.ensures.notes
+
+pub returns-then-id-len-clause-eql : goal.returns-then-id-len-clause-eql
+returns-then-id-len-clause-eql c =
+    on_ok c.put.result
+    (λ k l. eql_noted c.args.functions.now.items c.args.id.0 c.put.new.self c.args.method.now.specializers
+    (omega (arith, c.args.functions.now.ok.0)) k)
+    c.put.ensures.eql
+
 pub returns-clause-ok : goal.returns-clause-ok
 returns-clause-ok c =
     sym (past_all (with_methods (added c.args.all.now c.args.method.now)) (functions_in c.args.functions.now.items) c.args.id.0
@@ -56,3 +68,6 @@ returns-clause-replaced c =
 
 pub returns-clause-rooms : goal.returns-clause-rooms
 returns-clause-rooms c = λ n g h. room_less (n + 1) n (slice_get c.args.functions.now.items g) (omega arith) h
+
+pub returns-clause-eql : goal.returns-clause-eql
+returns-clause-eql c = λ l. absurd (omega (arith, l, c.args.functions.now.ok.0))

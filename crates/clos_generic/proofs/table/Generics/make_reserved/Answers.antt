@@ -10,8 +10,10 @@ use Rattle.clos_generic.specs.Held.{after_first}
 use Rattle.clos_generic.specs.Table.{same_function}
 use Rattle.clos_generic.specs.TableView.{function_of, functions_in, noted}
 use Rattle.clos_generic.specs.declared.spare.Spare.{Spare}
+use Rattle.clos_generic.proofs.EqlNoted.{noted_made}
 use Rattle.clos_generic.proofs.Named.{one_more_indexed, one_more_seen, one_name}
 use Rattle.clos_generic.proofs.Ready.{first_passes, first_there, ready_made}
+use Rattle.clos_generic.proofs.There.{there_made}
 use Rattle.clos_generic.proofs.table.Generics.make_reserved.Goals as goal
 
 pub new-requires : goal.new-requires
@@ -44,4 +46,8 @@ invariant_of-self c =
           c.push_reserved.ensures.len c.push_reserved.ensures.capacity c.push_reserved.ensures.items c.new.ensures.methods c.in-Ok.ensures.spare_symbols c.in-Ok.ensures.spare_setters,
       c.self.invariant.3,
       c.self.invariant.4,
+      there_made (functions_in fs) (functions_in c.push_reserved.new.self.items) (function_of f) w.methods.items c.self.invariant.5 e
+          (ap (λ x. x.methods) c.new.ensures.seen),
+      noted_made fs c.push_reserved.new.self.items f w.methods.items c.self.invariant.6 c.push_reserved.ensures.items
+          (ap (λ x. x.methods) c.new.ensures.seen),
     )

@@ -1,14 +1,17 @@
-use Rattle.std.proofs.Common.{refl, arith, ap, subst, sym, true≢false, length, ◌+◌, ◌∙◌}
+use Rattle.std.proofs.Common.{◌≡◌, refl, arith, ap, subst, sym, true≢false, length, ◌+◌, ◌∙◌}
 use Rattle.std.specs.Prelude.{◌==◌}
 use Rattle.std.specs.HashMap.{get, spare}
 use Rattle.lisp_data.specs.Name.{same_name}
 use Rattle.clos_forms.specs.declared.operator.FunctionName.TheVariants.{Symbol, Setf}
-use Rattle.clos_generic.specs.Table.{added, with_methods}
-use Rattle.clos_generic.specs.TableView.{functions_in}
+use Rattle.clos_generic.specs.Table.{added, with_changed, with_methods}
+use Rattle.clos_generic.specs.TableView.{AreThere, functions_in}
 use Rattle.clos_generic.specs.inner.AccessorMethods.{HasPlaces, IsKept}
+use Rattle.clos_generic.specs.inner.EqlPlaces.{AreNoted}
+use Rattle.clos_generic.proofs.EqlNoted.{noted_added, noted_same}
 use Rattle.clos_generic.proofs.Kept.{first_place, kept_more, kept_same, places_after}
 use Rattle.clos_generic.proofs.Named.{same_indexed, still_indexed}
 use Rattle.clos_generic.proofs.Ready.{first_room, ready_added, ready_changed}
+use Rattle.clos_generic.proofs.There.{there_added, there_same}
 use Rattle.clos_generic.proofs.table.Generics.put.Goals as goal
 
 pub invariant_of-self : goal.invariant_of-self
@@ -19,6 +22,8 @@ invariant_of-self c =
       c.self.invariant.2,
       kept_same w.accessors c.reserve.new.self w.methods.items w.methods.items c.self.invariant.3 c.reserve.ensures.same refl,
       (omega (arith, c.self.invariant.4.0, c.reserve.ensures.spare), omega (arith, c.self.invariant.4.1, c.reserve.ensures.len, c.reserve.ensures.capacity)),
+      c.self.invariant.5,
+      c.self.invariant.6,
     )
 
 pub returns-in_err-reserve-clause-succeeds : goal.returns-in_err-reserve-clause-succeeds
@@ -35,6 +40,8 @@ invariant_of-self-in_err-reserve-2 c =
           refl refl c.reserve-2.ensures.len c.reserve-2.ensures.capacity (λ n g h. h),
       kept_same w.accessors c.reserve.new.self w.methods.items c.reserve-2.new.self.items c.self.invariant.3 c.reserve.ensures.same c.reserve-2.ensures.items,
       (omega (arith, c.self.invariant.4.0, c.reserve.ensures.spare), omega (arith, c.self.invariant.4.1, c.reserve.ensures.len, c.reserve.ensures.capacity)),
+      subst (λ l. AreThere (functions_in w.functions.items) l) (sym c.reserve-2.ensures.items) c.self.invariant.5,
+      subst (λ l. AreNoted w.functions.items l) (sym c.reserve-2.ensures.items) c.self.invariant.6,
     )
 
 pub invariant_of-self-in_err-replaced : goal.invariant_of-self-in_err-replaced
@@ -46,6 +53,10 @@ invariant_of-self-in_err-replaced c =
           c.put_at.ensures.len c.put_at.ensures.capacity c.reserve-2.ensures.len c.reserve-2.ensures.capacity c.in_err-replaced.ensures.err_rooms,
       kept_same w.accessors c.reserve.new.self w.methods.items c.reserve-2.new.self.items c.self.invariant.3 c.reserve.ensures.same c.reserve-2.ensures.items,
       (omega (arith, c.self.invariant.4.0, c.reserve.ensures.spare), omega (arith, c.self.invariant.4.1, c.reserve.ensures.len, c.reserve.ensures.capacity)),
+      there_same (functions_in w.functions.items) (functions_in c.put_at.new.functions.items) w.methods.items c.reserve-2.new.self.items
+          c.self.invariant.5 c.in_err-replaced.ensures.err c.reserve-2.ensures.items,
+      noted_same w.functions.items c.put_at.new.functions.items w.methods.items c.reserve-2.new.self.items c.self.invariant.6
+          c.in_err-replaced.ensures.err c.reserve-2.ensures.items c.put_at.ensures.notes,
     )
 
 pub returns-in_err-replaced-clause-succeeds : goal.returns-in_err-replaced-clause-succeeds
@@ -60,7 +71,16 @@ invariant_of-self-2 c =
     let kept : IsKept c.reserve.new.self c.reserve-2.new.self.items =
     kept_same w.accessors c.reserve.new.self w.methods.items c.reserve-2.new.self.items c.self.invariant.3 c.reserve.ensures.same c.reserve-2.ensures.items in
     let places : HasPlaces (length w.additions.items) c.reserve.new.self =
-    (omega (arith, c.self.invariant.4.0, c.reserve.ensures.spare), omega (arith, c.self.invariant.4.1, c.reserve.ensures.len, c.reserve.ensures.capacity)) in (
+    (omega (arith, c.self.invariant.4.0, c.reserve.ensures.spare), omega (arith, c.self.invariant.4.1, c.reserve.ensures.len, c.reserve.ensures.capacity)) in
+    let fs = w.functions.items in
+    let es = c.put_at.new.functions.items in
+    let ms = c.reserve-2.new.self.items in
+    let there : AreThere (functions_in fs) ms =
+    subst (λ l. AreThere (functions_in fs) l) (sym c.reserve-2.ensures.items) c.self.invariant.5 in
+    let noted : AreNoted fs ms = subst (λ l. AreNoted fs l) (sym c.reserve-2.ensures.items) c.self.invariant.6 in
+    let seen : functions_in es ≡ with_changed (with_methods (added ms c.args.method)) c.args.id.0 (functions_in fs) =
+    subst (λ l. functions_in es ≡ with_changed (with_methods (added l c.args.method)) c.args.id.0 (functions_in fs)) c.deref.ensures.value
+    c.in_ok-replaced.ensures.ok in (
       still_indexed change (λ f. refl) Symbol (λ n. get same_name w.symbols n) (functions_in w.functions.items) (functions_in c.put_at.new.functions.items) c.args.id.0 c.self.invariant.0
           c.in_ok-replaced.ensures.ok,
       still_indexed change (λ f. refl) Setf (λ n. get same_name w.setters n) (functions_in w.functions.items) (functions_in c.put_at.new.functions.items) c.args.id.0 c.self.invariant.1
@@ -74,4 +94,9 @@ invariant_of-self-2 c =
           (c.len.ensures ∙ c.reserve-2.new.self.ok.0) c.note.ensures.more),
       places_after c.reserve.new.self c.note.new.self (λ h. h.0 == c.args.id.0) w.additions.items c.pass_addition.new.additions.items c.pass_addition.ensures places
           c.in_ok-reserve.ensures.ok c.note.ensures.spare c.note.ensures.len c.note.ensures.capacity,
+      subst (λ l. AreThere (functions_in es) l) (sym c.push_reserved.ensures.items)
+          (there_added (functions_in fs) (functions_in es) ms c.args.method c.args.id.0 there seen),
+      subst (λ l. AreNoted es l) (sym c.push_reserved.ensures.items)
+          (noted_added fs es ms c.args.method c.args.id.0 there noted seen c.put_at.ensures.notes
+          (λ l. c.in_ok-replaced.ensures.eql (omega (arith, l, w.functions.ok.0)))),
     )

@@ -6,13 +6,19 @@ use Rattle.clos_forms.specs.declared.operator.FunctionName.TheVariants.{Symbol, 
 use Rattle.clos_generic.specs.Table.{with_methods, without}
 use Rattle.clos_generic.specs.TableView.{functions_in}
 use Rattle.clos_generic.proofs.Changed.{past_all}
+use Rattle.clos_generic.proofs.EqlNoted.{noted_changed}
 use Rattle.clos_generic.proofs.Named.{still_indexed}
 use Rattle.clos_generic.proofs.Ready.{ready_changed}
+use Rattle.clos_generic.proofs.There.{AddsNone, in_without, there_changed}
 use Rattle.clos_generic.proofs.table.Generics.take_out.Goals as goal
 
 pub invariant_of-self : goal.invariant_of-self
 invariant_of-self c =
-    let change = with_methods (without (λ n. n == c.args.method.0)) in (
+    let change = with_methods (without (λ n. n == c.args.method.0)) in
+    let none : AddsNone change = λ n f. in_without (λ k. k == c.args.method.0) n f.methods in
+    let fs = c.self.inside.functions.items in
+    let es = c.take_out_at.new.functions.items in
+    let ms = c.self.inside.methods.items in (
       still_indexed change (λ f. refl) Symbol (λ n. get same_name c.self.inside.symbols n) (functions_in c.self.inside.functions.items) (functions_in c.take_out_at.new.functions.items)
           c.args.id.0 c.self.invariant.0 c.take_out_at.ensures.seen,
       still_indexed change (λ f. refl) Setf (λ n. get same_name c.self.inside.setters n) (functions_in c.self.inside.functions.items) (functions_in c.take_out_at.new.functions.items)
@@ -21,6 +27,8 @@ invariant_of-self c =
           c.self.inside.additions.items c.self.inside.methods c.self.invariant.2 c.take_out_at.ensures.len c.take_out_at.ensures.capacity refl (omega arith) c.take_out_at.ensures.rooms,
       c.self.invariant.3,
       c.self.invariant.4,
+      there_changed change none (functions_in fs) (functions_in es) ms c.args.id.0 c.self.invariant.5 c.take_out_at.ensures.seen,
+      noted_changed change none fs es ms c.args.id.0 c.self.invariant.6 c.take_out_at.ensures.seen c.take_out_at.ensures.notes,
     )
 
 pub returns-else-id-function_count : goal.returns-else-id-function_count
