@@ -1,5 +1,5 @@
 -- What is kept, and what a change concerns.
-use Rattle.std.specs.Prelude.{◌≡◌, ℕ, List, Bool, ◌==◌, nat_eq, Option, Some, None, if◌then◌else◌}
+use Rattle.std.specs.Prelude.{◌≡◌, ℕ, List, [], ◌∷◌, Bool, ◌==◌, nat_eq, Option, Some, None, if◌then◌else◌}
 use Rattle.std.specs.List.{list_any}
 use Rattle.std.specs.Map.{lookup}
 use Rattle.lisp_data.specs.Name.{Name, same_name}
@@ -42,3 +42,12 @@ left_of change key (Some k) = if concerns change key k then None else Some k
 -- what the change concerns is dropped, and nothing else
 abbrev pub Drops : {T : Type 0} → Change → List (Key × Kept T) → List (Key × Kept T) → Type 0
 Drops change old new = (key : Key) → found new key ≡ left_of change key (found old key)
+
+-- what is left under a key after these changes, in order
+abbrev pub left_after : {T : Type 0} → List Change → Key → Option (Kept T) → Option (Kept T)
+left_after [] key o = o
+left_after (change ∷ changes) key o = left_after changes key (left_of change key o)
+
+-- what these changes concern is dropped, and nothing else
+abbrev pub DropsAll : {T : Type 0} → List Change → List (Key × Kept T) → List (Key × Kept T) → Type 0
+DropsAll changes old new = (key : Key) → found new key ≡ left_after changes key (found old key)

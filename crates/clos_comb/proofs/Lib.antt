@@ -3,3 +3,5 @@ pub mod StandardForm
 pub mod Refused
 pub mod Tables
 pub mod Expanded
+pub mod Agreeing
+pub mod Left

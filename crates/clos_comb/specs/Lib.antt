@@ -14,5 +14,6 @@ pub mod TableView
 pub mod Fault
 pub mod Effective
 pub mod Laws
+pub mod Left
 pub mod Examples
 pub use Rattle.clos_groups.specs.clos_combination as clos_combination

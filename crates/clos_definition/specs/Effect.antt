@@ -2,9 +2,10 @@
 -- come, in this order.
 use Rattle.std.specs.Prelude.{◌≡◌, ℕ, List, [], ◌∷◌, ◌++◌, Option, Some, None, length, map}
 use Rattle.lisp_data.specs.declared.ids.GenericId.{GenericId}
+use Rattle.clos_cache.specs.Cache.{Change, of_generic}
 use Rattle.clos_generic.specs.Changes.{Changes}
 use Rattle.clos_generic.specs.Held.{Held}
-use Rattle.clos_generic.specs.Table.{Table, find_method, named, with_definition, with_method, without_method}
+use Rattle.clos_generic.specs.Table.{Table, find_method, named, number, with_definition, with_method, without_method}
 use Rattle.clos_generic.specs.declared.changes.Addition.{Addition}
 use Rattle.clos_generic.specs.declared.changes.Definition.{Definition}
 use Rattle.clos_generic.specs.declared.changes.Removal.{Removal}
@@ -109,6 +110,27 @@ with_effect e w = changing e.changes.removals e.changes.definitions e.methods.it
 
 abbrev pub possible_notices : code.Effect → Table → List Notice
 possible_notices e t = possible_changes e.changes.removals e.changes.definitions e.methods.items t
+
+-- ---- the calls that it concerns
+
+-- those of the functions that methods go from
+abbrev pub of_removed : List Removal → List Change
+of_removed removals = map (λ r. of_generic r.generic.0) removals
+
+-- those of the functions that are defined
+abbrev pub of_defined : List Definition → Table → List Change
+of_defined [] t = []
+of_defined (d ∷ ds) t = of_generic (number t d.name) ∷ of_defined ds (with_definition d.name d.options t)
+
+-- those of the functions that methods come to
+abbrev pub of_added : List Method → List Change
+of_added methods = map (λ m. of_generic m.generic.0) methods
+
+abbrev pub concerned : List Removal → List Definition → List Method → Table → List Change
+concerned removals definitions methods t = of_removed removals ++ of_defined definitions (without_all removals t) ++ of_added methods
+
+abbrev pub concerned_by : code.Effect → Table → List Change
+concerned_by e t = concerned e.changes.removals e.changes.definitions e.methods.items t
 
 -- Memory is reserved for it.
 pub record IsReserved (e : code.Effect) (h : Held) : Type 0 where

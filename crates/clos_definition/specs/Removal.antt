@@ -4,6 +4,7 @@ use Rattle.std.specs.List.{list_any}
 use Rattle.lisp_data.specs.Value.{Val, integer, symbol, string, list, class, generic, method, instance}
 use Rattle.lisp_data.specs.declared.ids.GenericId.{GenericId}
 use Rattle.lisp_data.specs.declared.ids.MethodId.{MethodId}
+use Rattle.clos_cache.specs.Cache.{Change, of_generic}
 use Rattle.clos_generic.specs.Fault.{is_system}
 use Rattle.clos_generic.specs.Table.{Table, methods_of, without_method}
 use Rattle.clos_watch.specs.declared.notice.Notice.{Notice}
@@ -62,6 +63,10 @@ is_method_of g m t = list_any (λ n. n == m) (methods_of t g)
 -- nothing is told where the function does not have it (AMOP chapter 6)
 abbrev pub removal_notices : ℕ → ℕ → Table → List Notice
 removal_notices g m t = if is_method_of g m t then of_removal (removal g m) ∷ [] else []
+
+-- the calls that it concerns
+abbrev pub concerned_by_removal : ℕ → ℕ → Table → List Change
+concerned_by_removal g m t = if is_method_of g m t then of_generic g ∷ [] else []
 
 -- the state after it is taken out; where the function does not have it, nothing is changed
 abbrev pub with_removed : ℕ → ℕ → State → State

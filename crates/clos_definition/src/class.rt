@@ -1,26 +1,32 @@
 //! Classes that are defined: what a `defclass` does.
-ghost use Rattle.std.specs.Prelude.{◌≡◌, ◌≤◌, ◌++◌, List, IfOk, IfErr, None, Option, OnOk, OnErr, Some, length, not, option_map};
+ghost use Rattle.std.specs.Prelude.{◌≡◌, ◌≤◌, ◌++◌, ◌∷◌, List, IfOk, IfErr, None, Option, OnOk, OnErr, Some, length, not, option_map, true};
 ghost use Rattle.clos_class.specs.Table.{refusal};
-ghost use Rattle.clos_hierarchy.specs.Table.{Refusal};
+ghost use Rattle.clos_hierarchy.specs.Table.{Refusal, changed};
 ghost use Rattle.clos_hierarchy.specs.TableView.{Refuses};
 ghost use Rattle.clos_forms.specs.declared.operator.FunctionName.TheVariants.{Symbol};
+ghost use Rattle.clos_store.specs.Objects.{with_class as with_objects_of};
 ghost use Rattle.clos_store.specs.Store.{has_room_for};
 ghost use Rattle.clos_watch.specs.declared.notice.Notice.{Notice};
+ghost use Rattle.clos_cache.specs.Cache.{Drops, DropsAll, of_classes};
+ghost use Rattle.clos_world.specs.Kept.{ClassesKeep};
 ghost use Rattle.clos_world.specs.World.{seen};
 ghost use Rattle.clos_world.specs.declared.condition.Stop.TheVariants.{Storage};
 ghost use Rattle.clos_definition.specs.Accessor.{accessors_of, accessors_refusal};
 ghost use Rattle.clos_definition.specs.Class.{cells_needed, class_changes, class_functions, class_methods, class_notices, class_number, class_refusal, condition_for, noting, others_refusal, with_accessors, with_class};
-ghost use Rattle.clos_definition.specs.Effect.{IsReserved, changes_of, possible_notices, with_effect};
+ghost use Rattle.clos_definition.specs.Effect.{IsReserved, changes_of, concerned_by, possible_notices, with_effect};
 ghost use Rattle.clos_definition.specs.Refusal.{Allows, StopsFor, table_full, table_refusal, when};
 
 use crate::accessor::{accessors_of, changes_for, refuse_accessors, with_accessors};
 use crate::effect::{Effect, add_possible, check, make, reserve};
+use clos_cache::Cache;
 use clos_class::{ClassFault, Reserved as ReservedClass};
 use clos_forms::FunctionName;
-use clos_store::Slot;
+use clos_store::{Objects, Slot};
 use clos_syntax::ClassDefinition;
 use clos_watch::{Notice, Reserved};
-use clos_world::{Condition, ConditionKind, Stop, World, about_name, about_names, plain};
+use clos_world::{
+    Condition, ConditionKind, EffectiveMethod, Stop, World, about_name, about_names, plain,
+};
 use lisp_data::{ClassId, Name};
 use std::alloc::{AllocError, Global};
 
@@ -81,15 +87,45 @@ pub fn make_class(
     requires reserved { IsReserved effect world.old.generics }
     requires room { length (class_notices definition.now (seen world.old) ++ possible_notices effect (seen world.old).generics) ≤ world.old.hearing.notices.room }
     ensures ok { OnOk result (seen world.new ≡ with_class definition.now values.items (with_effect effect (noting (class_notices definition.now (seen world.old)) (seen world.old)))) }
+    ensures left { OnOk result (DropsAll (of_classes (changed (seen world.old).classes.table.classes (seen world.new).classes.table.classes) ∷ concerned_by effect (seen world.old).generics) world.old.cache world.new.cache) }
     ensures err { OnErr result (seen world.new ≡ seen world.old) }
+    ensures same { OnErr result (world.new.cache ≡ world.old.cache) }
+    ensures meter { world.new.meter ≡ world.old.meter }
 {
     let earlier = world.classes().hierarchy().named(&definition.name);
-    world.objects.define(alloc, definition, values)?;
-    world.cache.clear();
+    define(
+        alloc,
+        &mut world.objects,
+        &mut world.cache,
+        definition,
+        values,
+    )?;
     if let Some(class) = earlier {
         world.hearing.notices.push(Notice::ClassRedefined(class));
     }
     make(world, effect);
+    Ok(())
+}
+
+/// Defines a class, whose new cells have these values, and drops what is kept of calls with arguments of classes whose class
+/// precedence lists change. It is refused only for want of memory.
+fn define(
+    alloc: Global,
+    objects: &mut Objects,
+    cache: &mut Cache<EffectiveMethod>,
+    definition: &ClassDefinition,
+    values: Vec<Slot>,
+) -> Result<(), AllocError>
+    requires class { refusal objects.old.classes.table definition.now ≡ None }
+    requires cells { has_room_for (length values.items) objects.old.contents ≡ true }
+    ensures ok { OnOk result (objects.new ≡ with_objects_of definition.now values.items objects.old) }
+    ensures kept { OnOk result (ClassesKeep objects.old.classes cache.old objects.new.classes cache.new) }
+    ensures left { OnOk result (Drops (of_classes (changed objects.old.classes.table.classes objects.new.classes.table.classes)) cache.old cache.new) }
+    ensures err { OnErr result (objects.new ≡ objects.old) }
+    ensures same { OnErr result (cache.new ≡ cache.old) }
+{
+    let changed = objects.define(alloc, definition, values)?;
+    cache.drop_classes(&changed.lists);
     Ok(())
 }
 

@@ -1,18 +1,21 @@
 //! What a definition form does to the table of generic functions.
 ghost use Rattle.std.specs.Prelude.{◌≡◌, ◌≤◌, ◌+◌, ◌==◌, ◌++◌, ◌∷◌, [], IfOk, OnOk, length, map, true};
+ghost use Rattle.clos_world.specs.Kept.{FunctionsKeep};
 ghost use Rattle.clos_world.specs.World.{seen};
-ghost use Rattle.clos_definition.specs.Effect.{IsReserved, adding, addition_of, changed, changes_of, of_addition, of_additions, of_changes, of_definitions, of_removal, possible, possible_notices, with_definitions, with_effect, with_methods, without_all};
+ghost use Rattle.clos_definition.specs.Effect.{IsReserved, adding, addition_of, changed, changes_of, concerned_by, of_added, of_addition, of_additions, of_changes, of_defined, of_definitions, of_removal, of_removed, possible, possible_notices, with_definitions, with_effect, with_methods, without_all};
+ghost use Rattle.clos_cache.specs.Cache.{Drops, DropsAll, of_generic};
 ghost use Rattle.clos_definition.specs.Refusal.{Allows, table_refusal};
-ghost use Rattle.clos_generic.specs.Held.{by_addition, is_first};
-ghost use Rattle.clos_generic.specs.Table.{with_method};
+ghost use Rattle.clos_generic.specs.Held.{by_addition, by_definition, is_first};
+ghost use Rattle.clos_generic.specs.Table.{number, same_function, with_definition, with_method, without_method};
 
 use crate::refusal::stop_for;
+use clos_cache::Cache;
 use clos_forms::FunctionName;
 use clos_generic::{Addition, Changes, Definition, Generics, Likeness, Removal};
 use clos_method::Method;
 use clos_watch::{Notice, Reserved};
-use clos_world::{Stop, World};
-use lisp_data::MethodId;
+use clos_world::{EffectiveMethod, Stop, World};
+use lisp_data::{GenericId, MethodId};
 use std::alloc::{AllocError, Global};
 use std::collections::VecDeque;
 
@@ -132,28 +135,42 @@ pub(crate) fn add_possible(
     Ok(())
 }
 
-/// Makes an effect for which memory is reserved, and notes what is told of it (AMOP chapter 6).
+/// Makes an effect for which memory is reserved, and notes what is told of it (AMOP chapter 6). What is kept of calls of the
+/// functions that it is of is dropped.
 pub fn make(world: &mut World, effect: Effect)
     requires reserved { IsReserved effect world.old.generics }
     requires room { length (possible_notices effect (seen world.old).generics) ≤ world.old.hearing.notices.room }
-    ensures { seen world.new ≡ with_effect effect (seen world.old) }
+    ensures seen { seen world.new ≡ with_effect effect (seen world.old) }
+    ensures left { DropsAll (concerned_by effect (seen world.old).generics) world.old.cache world.new.cache }
+    ensures meter { world.new.meter ≡ world.old.meter }
 {
-    world.cache.clear();
-    make_in(&mut world.generics, effect, &mut world.hearing.notices);
+    make_in(
+        &mut world.generics,
+        &mut world.cache,
+        effect,
+        &mut world.hearing.notices,
+    );
 }
 
-fn make_in(generics: &mut Generics, effect: Effect, notices: &mut Reserved<Notice>)
+fn make_in(
+    generics: &mut Generics,
+    cache: &mut Cache<EffectiveMethod>,
+    effect: Effect,
+    notices: &mut Reserved<Notice>,
+)
     requires reserved { IsReserved effect generics.old }
     requires room { length (possible_notices effect generics.old.table) ≤ notices.old.room }
     ensures table { generics.new.table ≡ changed effect.changes.removals effect.changes.definitions effect.methods.items generics.old.table }
     ensures told { notices.new.items ≡ notices.old.items ++ of_changes effect.changes.removals effect.changes.definitions effect.methods.items generics.old.table }
+    ensures kept { FunctionsKeep generics.old.table cache.old generics.new.table cache.new }
+    ensures left { DropsAll (concerned_by effect generics.old.table) cache.old cache.new }
 {
     let Effect { changes, methods } = effect;
     tell_removals(changes.removals(), notices);
     tell_definitions(generics, changes.definitions(), notices);
-    take_out_all(generics, changes.removals());
-    define_all(generics, changes);
-    add_all(generics, methods, notices);
+    take_out_all(generics, cache, changes.removals());
+    define_all(generics, cache, changes);
+    add_all(generics, cache, methods, notices);
 }
 
 /// Tells that these methods are taken out.
@@ -185,51 +202,98 @@ fn tell_definitions(generics: &Generics, definitions: &[Definition], notices: &m
 }
 
 /// Takes these methods out of their functions.
-fn take_out_all(generics: &mut Generics, removals: &[Removal])
-    ensures { generics.new ≡ record generics.old { table = without_all removals.now generics.old.table } }
+fn take_out_all(generics: &mut Generics, cache: &mut Cache<EffectiveMethod>, removals: &[Removal])
+    ensures table { generics.new ≡ record generics.old { table = without_all removals.now generics.old.table } }
+    ensures kept { FunctionsKeep generics.old.table cache.old generics.new.table cache.new }
+    ensures left { DropsAll (of_removed removals.now) cache.old cache.new }
 {
     let mut left = removals;
     while let Some((removal, others)) = left.split_first() {
-        generics.take_out(removal.generic, removal.method);
+        take_out(generics, cache, removal.generic, removal.method);
         left = others;
     }
 }
 
+/// Takes a method out of a function, and drops what is kept of its calls.
+pub(crate) fn take_out(
+    generics: &mut Generics,
+    cache: &mut Cache<EffectiveMethod>,
+    function: GenericId,
+    method: MethodId,
+)
+    ensures table { generics.new ≡ record generics.old { table = without_method function.0 method.0 generics.old.table } }
+    ensures kept { FunctionsKeep generics.old.table cache.old generics.new.table cache.new }
+    ensures left { Drops (of_generic function.0) cache.old cache.new }
+{
+    generics.take_out(function, method);
+    cache.drop_generic(function);
+}
+
 /// Defines these functions, for which memory is reserved.
 #[tactic(auto, using(crate::proofs::Made::same_function_self))]
-fn define_all(generics: &mut Generics, mut changes: Changes)
+fn define_all(generics: &mut Generics, cache: &mut Cache<EffectiveMethod>, mut changes: Changes)
     requires { generics.old.definitions ≡ map (λ d. d.name) changes.definitions }
     ensures table { generics.new.table ≡ with_definitions changes.definitions generics.old.table }
     ensures additions { generics.new.additions ≡ generics.old.additions }
+    ensures kept { FunctionsKeep generics.old.table cache.old generics.new.table cache.new }
+    ensures left { DropsAll (of_defined changes.definitions generics.old.table) cache.old cache.new }
 {
     while let Some(definition) = changes.take_definition() {
-        let _ = generics.define_reserved(definition.name, definition.options);
+        define(generics, cache, definition);
     }
 }
 
+/// Defines a function, for which memory is reserved, and drops what is kept of its calls.
+fn define(generics: &mut Generics, cache: &mut Cache<EffectiveMethod>, definition: Definition)
+    requires { is_first (λ n. same_function n definition.name) generics.old.definitions ≡ true }
+    ensures defined { generics.new ≡ by_definition definition.name (with_definition definition.name definition.options) generics.old }
+    ensures kept { FunctionsKeep generics.old.table cache.old generics.new.table cache.new }
+    ensures left { Drops (of_generic (number generics.old.table definition.name)) cache.old cache.new }
+{
+    let id = generics.define_reserved(definition.name, definition.options);
+    cache.drop_generic(id);
+}
+
 /// Adds these methods, for which memory is reserved, and tells of them.
-fn add_all(generics: &mut Generics, mut methods: VecDeque<Method>, notices: &mut Reserved<Notice>)
+fn add_all(
+    generics: &mut Generics,
+    cache: &mut Cache<EffectiveMethod>,
+    mut methods: VecDeque<Method>,
+    notices: &mut Reserved<Notice>,
+)
     requires reserved { generics.old.additions ≡ map (λ m. m.generic.0) methods.items }
     requires room { length (possible methods.items) ≤ notices.old.room }
     ensures table { generics.new.table ≡ with_methods methods.items generics.old.table }
     ensures told { notices.new.items ≡ notices.old.items ++ of_additions methods.items generics.old.table }
+    ensures kept { FunctionsKeep generics.old.table cache.old generics.new.table cache.new }
+    ensures left { DropsAll (of_added methods.items) cache.old cache.new }
 {
     while let Some(method) = methods.pop_front() {
-        add(generics, method, notices);
+        add(generics, cache, method, notices);
     }
 }
 
-/// Adds a method, for which memory is reserved. Where it takes the place of another one, that one goes.
-fn add(generics: &mut Generics, method: Method, notices: &mut Reserved<Notice>)
+/// Adds a method, for which memory is reserved, and drops what is kept of calls of its function. Where it takes the place of
+/// another one, that one goes.
+fn add(
+    generics: &mut Generics,
+    cache: &mut Cache<EffectiveMethod>,
+    method: Method,
+    notices: &mut Reserved<Notice>,
+)
     requires reserved { is_first (λ h. h == method.generic.0) generics.old.additions ≡ true }
     requires room { 2 ≤ notices.old.room }
     ensures added { generics.new ≡ by_addition method.generic.0 (with_method method.generic.0 method) generics.old }
     ensures told { notices.new.items ≡ notices.old.items ++ of_addition method generics.old.table }
     ensures room { notices.old.room ≤ notices.new.room + 2 }
+    ensures kept { FunctionsKeep generics.old.table cache.old generics.new.table cache.new }
+    ensures left { Drops (of_generic method.generic.0) cache.old cache.new }
 {
     let generic = method.generic;
     let number = MethodId(generics.method_count());
-    if let Some(replaced) = generics.add_reserved(generic, method) {
+    let replaced = generics.add_reserved(generic, method);
+    cache.drop_generic(generic);
+    if let Some(replaced) = replaced {
         notices.push(Notice::MethodRemoved(generic, replaced));
     }
     notices.push(Notice::MethodAdded(generic, number));

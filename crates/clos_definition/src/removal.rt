@@ -1,14 +1,18 @@
 //! Methods that are taken out of their function: what a `remove-method` does.
 ghost use Rattle.std.specs.Prelude.{◌<◌, ◌≡◌, ◌++◌, IfOk, option_map};
 ghost use Rattle.lisp_data.specs.ValueView.{value_of};
+ghost use Rattle.clos_cache.specs.Cache.{DropsAll};
+ghost use Rattle.clos_world.specs.Kept.{FunctionsKeep};
 ghost use Rattle.clos_world.specs.World.{seen};
-ghost use Rattle.clos_definition.specs.Removal.{Finds, generic_in, method_in, removable, removal_notices, with_removed, wrong_type};
+ghost use Rattle.clos_definition.specs.Removal.{Finds, concerned_by_removal, generic_in, method_in, removable, removal_notices, with_removed, wrong_type};
 ghost use Rattle.clos_generic.specs.Table.{without_method};
 
+use crate::effect::take_out;
+use clos_cache::Cache;
 use clos_generic::Generics;
 use clos_method::SystemFunction;
 use clos_watch::{Notice, Reserved};
-use clos_world::{Condition, ConditionKind, Stop, World, about, plain};
+use clos_world::{Condition, ConditionKind, EffectiveMethod, Stop, World, about, plain};
 use lisp_data::{GenericId, MethodId, Value};
 use std::alloc::{AllocError, Global};
 
@@ -57,14 +61,16 @@ fn method_in(value: &Value) -> Option<MethodId>
     }
 }
 
-/// Takes a method out of a function, and notes that it was, if it is there.
+/// Takes a method out of a function, notes that it was, and drops what is kept of calls of the function, if it is there.
 pub fn remove(world: &mut World, function: GenericId, method: MethodId)
     requires { 0 < world.old.hearing.notices.room }
-    ensures { seen world.new ≡ with_removed function.0 method.0 (seen world.old) }
+    ensures seen { seen world.new ≡ with_removed function.0 method.0 (seen world.old) }
+    ensures left { DropsAll (concerned_by_removal function.0 method.0 (seen world.old).generics) world.old.cache world.new.cache }
+    ensures meter { world.new.meter ≡ world.old.meter }
 {
-    world.cache.clear();
     remove_in(
         &mut world.generics,
+        &mut world.cache,
         function,
         method,
         &mut world.hearing.notices,
@@ -73,6 +79,7 @@ pub fn remove(world: &mut World, function: GenericId, method: MethodId)
 
 fn remove_in(
     generics: &mut Generics,
+    cache: &mut Cache<EffectiveMethod>,
     function: GenericId,
     method: MethodId,
     notices: &mut Reserved<Notice>,
@@ -80,9 +87,12 @@ fn remove_in(
     requires { 0 < notices.old.room }
     ensures table { generics.new.table ≡ without_method function.0 method.0 generics.old.table }
     ensures told { notices.new.items ≡ notices.old.items ++ removal_notices function.0 method.0 generics.old.table }
+    ensures kept { FunctionsKeep generics.old.table cache.old generics.new.table cache.new }
+    ensures left { DropsAll (concerned_by_removal function.0 method.0 generics.old.table) cache.old cache.new }
 {
-    if generics.has_method(function, method) {
-        notices.push(Notice::MethodRemoved(function, method));
+    if !generics.has_method(function, method) {
+        return;
     }
-    generics.take_out(function, method);
+    notices.push(Notice::MethodRemoved(function, method));
+    take_out(generics, cache, function, method);
 }

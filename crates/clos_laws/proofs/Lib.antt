@@ -6,5 +6,3 @@ pub mod Precedence
 pub mod Forms
 pub mod Sessions
 pub mod InOrder
-pub mod Agreeing
-pub mod Left

@@ -2,4 +2,3 @@ pub mod Sound
 pub mod Predefined
 pub mod Reached
 pub mod Laws
-pub mod Left

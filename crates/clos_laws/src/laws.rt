@@ -1,6 +1,5 @@
 //! The laws, each as what a function without a body ensures.
 ghost use Rattle.clos_laws.specs.Laws.{CallsAreInOrder, RepliesReach};
-ghost use Rattle.clos_laws.specs.Left.{LeavesOtherUses, LeavesOthers};
 
 /// In each state that a session comes to, and those in which its forms are evaluated, the methods that a call finds are in
 /// order, and no other list of methods is (HyperSpec 7.6.6.1).
@@ -11,15 +10,4 @@ pub fn calls_are_in_order()
 /// A session that replies to a form comes from such a state to such a state.
 pub fn replies_reach()
     ensures { RepliesReach }
-{}
-
-/// A function that a change of the table of generic functions leaves as it was, with all methods that were made, is called as
-/// before: so what is kept of its calls stays what would be worked out.
-pub fn leaves_others()
-    ensures { LeavesOthers }
-{}
-
-/// A function that uses another method combination than the one that is defined has its methods combined as before.
-pub fn leaves_other_uses()
-    ensures { LeavesOtherUses }
 {}

@@ -4,5 +4,4 @@ pub mod Quiet
 pub mod Runs
 pub mod Answering
 pub mod Updates
-pub mod Kept
 pub use Rattle.clos_meaning.proofs as clos_meaning

@@ -1,6 +1,8 @@
 //! The classes of a session with their instances (HyperSpec 4.3.6).
 ghost use Rattle.std.specs.Prelude.{◌≡◌, ◌+◌, IfOk, IfErr, IsSome, IsTrue, None, OnOk, OnErr, length, option_copied, option_map, true};
 ghost use Rattle.lisp_data.specs.ValueView.{value_of};
+ghost use Rattle.clos_precedence.specs.PrecedenceView.{numbers};
+ghost use Rattle.clos_hierarchy.specs.Table.{changed};
 ghost use Rattle.clos_hierarchy.specs.TableView.{Refuses as RefusesClass};
 ghost use Rattle.clos_class.specs.Table.{cells_to_make, initial, list_with, number, refusal};
 ghost use Rattle.clos_store.specs.Objects.{due, layout_for, with_class};
@@ -11,7 +13,7 @@ ghost use Rattle.clos_store.specs.Update.{with_change, with_update};
 use crate::fault::StoreFault;
 use crate::slot::Slot;
 use crate::store::Store;
-use clos_class::{ClassFault, Classes, Layout, Reserved};
+use clos_class::{Changed, ClassFault, Classes, Layout, Reserved};
 use clos_syntax::ClassDefinition;
 use lisp_data::{CellId, ClassId, InstanceId, Name, Value};
 use std::alloc::{AllocError, Global};
@@ -231,17 +233,18 @@ impl Objects {
         self.classes.reserve(alloc, definition)
     }
 
-    /// Defines a class, whose new cells have these values. Where the class may be defined and the cells can be made, it is
-    /// refused only for want of memory.
+    /// Defines a class, whose new cells have these values, and tells which class precedence lists changed. Where the class may be
+    /// defined and the cells can be made, it is refused only for want of memory.
     pub fn define(
         &mut self,
         alloc: Global,
         definition: &ClassDefinition,
         values: Vec<Slot>,
-    ) -> Result<(), AllocError>
+    ) -> Result<Changed, AllocError>
         requires class { refusal self.old.classes.table definition.now ≡ None }
         requires cells { has_room_for (length values.items) self.old.contents ≡ true }
         ensures ok { OnOk result (self.new ≡ with_class definition.now values.items self.old) }
+        ensures changed { IfOk result (λ r. numbers r.lists.items ≡ changed self.old.classes.table.classes self.new.classes.table.classes) }
         ensures err { OnErr result (self.new ≡ self.old) }
     {
         let Some(definitions) = self.definitions.checked_add(1) else {
@@ -251,11 +254,11 @@ impl Objects {
             return Err(AllocError);
         };
         let first = CellId(self.store.cell_count());
-        let Ok(_) = self.classes.define(alloc, definition, first) else {
+        let Ok(changed) = self.classes.define(alloc, definition, first) else {
             return Err(AllocError);
         };
         self.store.new_cells(values);
         self.definitions = definitions;
-        Ok(())
+        Ok(changed)
     }
 }

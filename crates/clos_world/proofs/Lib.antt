@@ -4,3 +4,5 @@ pub mod Heard
 pub mod Combined
 pub mod Known
 pub mod Kept
+pub mod Methods
+pub mod Drops

@@ -1,10 +1,11 @@
 -- The methods that a call of a generic function finds (HyperSpec 7.6.6.1).
-use Rattle.std.specs.Prelude.{ℕ, zero, List, codes, map, take, Option, Some, None, false, slice_get}
+use Rattle.std.specs.Prelude.{ℕ, zero, List, map, take, Option, Some, None, slice_get}
 use Rattle.lisp_data.specs.Name.{Name}
 use Rattle.lisp_data.specs.Value.{Val}
 use Rattle.clos_method.specs.Arguments.{Argument, arguments_of}
 use Rattle.clos_generic.specs.Calls as calls
 use Rattle.clos_generic.specs.Table.{Function}
+use Rattle.clos_world.specs.Kept.{combination_in}
 use Rattle.clos_world.specs.World.{State, class_of}
 
 -- these values as arguments, each with the class precedence list of its class
@@ -18,10 +19,6 @@ required_in (Some f) = f.shape.required
 -- how many required parameters a generic function has
 abbrev pub required_by : State → ℕ → ℕ
 required_by w g = required_in (slice_get w.generics.functions g)
-
-abbrev pub combination_in : Option Function → Name
-combination_in None = record { text = codes "STANDARD"; keyword = false }
-combination_in (Some f) = f.combination.name
 
 -- the name of a generic function's method combination
 abbrev pub combination_of : State → ℕ → Name

@@ -10,6 +10,7 @@ pub mod World
 pub mod Dispatch
 pub mod Keys
 pub mod Kept
+pub mod Uses
 pub mod Initial
 pub mod FunctionName
 pub mod Definitions

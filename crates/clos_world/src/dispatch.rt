@@ -1,10 +1,13 @@
 //! The methods that a call of a generic function finds.
-ghost use Rattle.std.specs.Prelude.{◌≡◌, IfOk, map, take};
+ghost use Rattle.std.specs.Prelude.{◌≡◌, ◌+◌, ◌⊎◌, IfOk, OnErr, OnOk, map, min, take};
+ghost use Rattle.clos_cache.specs.Uses.{with_use};
 ghost use Rattle.lisp_data.specs.ValueView.{value_of};
 ghost use Rattle.clos_precedence.specs.PrecedenceView.{numbers};
 ghost use Rattle.clos_comb.specs.Effective.{effective};
 ghost use Rattle.clos_comb.specs.OutcomeView.{combined_of};
 ghost use Rattle.clos_world.specs.Dispatch.{combination_of, ordered, required_by};
+ghost use Rattle.clos_world.specs.Keys.{key_of};
+ghost use Rattle.clos_world.specs.Uses.{AtMostOneMore, uses_of};
 ghost use Rattle.clos_world.specs.World.{class_of, seen};
 
 use crate::effective_method::EffectiveMethod;
@@ -16,7 +19,7 @@ use std::rc::Rc;
 
 impl World {
     /// The methods of a generic function that are applicable to these arguments, with what they are combined into: as it is
-    /// kept, or worked out and kept.
+    /// kept, or worked out and kept. Where memory is refused, it may have been worked out.
     pub fn effective_method(
         &mut self,
         alloc: Global,
@@ -27,6 +30,8 @@ impl World {
         ensures outcome { IfOk result (λ r. combined_of r.value.outcome
             ≡ effective self.old.combinations self.old.generics.table id.0 (ordered (seen self.old) id.0 (map value_of values.now))) }
         ensures same { seen self.new ≡ seen self.old }
+        ensures uses { OnOk result (uses_of self.new ≡ with_use u64.MAX (key_of (seen self.old) id.0 (map value_of values.now)) (uses_of self.old)) }
+        ensures refused { OnErr result (AtMostOneMore u64.MAX (uses_of self.old) (uses_of self.new)) }
     {
         let key = self.key_of(alloc, id, values)?;
         if let Some(kept) = self.cache.find(&key) {
@@ -51,6 +56,8 @@ impl World {
             ≡ effective self.old.combinations self.old.generics.table id.0 (ordered (seen self.old) id.0 (map value_of values.now))) }
         ensures same { seen self.new ≡ seen self.old }
         ensures kept { self.new.cache ≡ self.old.cache }
+        ensures meter { OnOk result (self.new.meter ≡ min (self.old.meter + 1) u64.MAX) }
+        ensures refused { OnErr result ((self.new.meter ≡ self.old.meter) ⊎ (self.new.meter ≡ min (self.old.meter + 1) u64.MAX)) }
     {
         let methods = self.ordered(alloc, id, values)?;
         let outcome = self.combinations.effective(

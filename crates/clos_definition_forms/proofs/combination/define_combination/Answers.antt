@@ -1,14 +1,22 @@
-use Rattle.std.proofs.Common.{arith, subst, sym}
+use Rattle.std.proofs.Common.{arith, subst, sym, ◌∙◌}
+use Rattle.std.proofs.Math.Logic.{∥∥₁_map}
 use Rattle.clos_machine.specs.clos_world.Kept.{AreNow}
+use Rattle.clos_machine.specs.clos_world.clos_cache.Cache.{Drops, of_combination}
 use Rattle.clos_machine.specs.clos_world.World.{seen}
+use Rattle.clos_machine.proofs.clos_meaning.clos_world.Drops.{combination_stays}
 use Rattle.clos_definition_forms.proofs.Quiet.{define_combination_quiet}
 use Rattle.clos_definition_forms.proofs.combination.define_combination.Goals as goal
 
-pub returns-in_default : goal.returns-in_default
-returns-in_default c = (0, omega arith, define_combination_quiet c.args.definition (seen c.args.world.now))
+pub returns-in_default-clause-answers : goal.returns-in_default-clause-answers
+returns-in_default-clause-answers c = (0, omega arith, define_combination_quiet c.args.definition (seen c.args.world.now))
 
-pub invariant_of-world : goal.invariant_of-world
-invariant_of-world c = record {
-  kept = subst (λ t. ∥ AreNow c.args.world.now.objects.classes c.args.world.now.generics.table t c.args.world.now.cache ∥₁)
-      (sym c.in-Err.ensures.err) c.args.world.now.kept;
+pub invariant_of-world-in-Ok : goal.invariant_of-world-in-Ok
+invariant_of-world-in-Ok c = record {
+  kept = subst (λ t. ∥ AreNow c.args.world.now.objects.classes c.args.world.now.generics.table t c.drop_combination.new.self ∥₁)
+      (sym c.in-Ok.ensures.ok)
+      (∥∥₁_map c.args.world.now.kept
+      (combination_stays c.args.world.now.objects.classes c.args.world.now.generics.table c.args.world.now.combinations c.args.definition
+      c.args.world.now.cache c.drop_combination.new.self
+      (subst (λ n. Drops (of_combination n) c.args.world.now.cache c.drop_combination.new.self)
+      (c.in-Ok-Ok.ensures' ∙ c.name_of-name.ensures) c.drop_combination.ensures)));
 }

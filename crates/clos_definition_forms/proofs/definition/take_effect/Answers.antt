@@ -26,7 +26,7 @@ tell-requires-clause-within g c =
     let mid = seen c.prepare_to_tell.new.world in
     let u = seen c.make.new.world in
     let same : mid ≡ w = c.prepare_to_tell.ensures.seen in
-    let made = c.make.ensures in
+    let made = c.make.ensures.seen in
     let new = of_changes c.args.effect.changes.removals c.args.effect.changes.definitions c.args.effect.methods.items mid.generics in
     let counted : c.len-from.result ≡ length mid.hearing.notices =
     c.len-from.ensures ∙ ap length (sym (notices_kept c.prepare_to_tell.new.world.hearing)) in
@@ -38,7 +38,7 @@ tell-requires-clause-ready g c = λ p l.
     let mid = seen c.prepare_to_tell.new.world in
     let u = seen c.make.new.world in
     let same : mid ≡ w = c.prepare_to_tell.ensures.seen in
-    let made = c.make.ensures in
+    let made = c.make.ensures.seen in
     let new = of_changes c.args.effect.changes.removals c.args.effect.changes.definitions c.args.effect.methods.items mid.generics in
     let counted : c.len-from.result ≡ length mid.hearing.notices =
     c.len-from.ensures ∙ ap length (sym (notices_kept c.prepare_to_tell.new.world.hearing)) in
@@ -56,7 +56,7 @@ returns-clause-heard g c =
     let mid = seen c.prepare_to_tell.new.world in
     let u = seen c.make.new.world in
     let same : mid ≡ w = c.prepare_to_tell.ensures.seen in
-    let made = c.make.ensures in
+    let made = c.make.ensures.seen in
     let new = of_changes c.args.effect.changes.removals c.args.effect.changes.definitions c.args.effect.methods.items mid.generics in
     let counted : c.len-from.result ≡ length mid.hearing.notices =
     c.len-from.ensures ∙ ap length (sym (notices_kept c.prepare_to_tell.new.world.hearing)) in

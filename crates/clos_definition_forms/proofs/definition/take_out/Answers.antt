@@ -23,7 +23,7 @@ tell-requires-clause-within g c =
     let mid = seen c.prepare_to_tell.new.world in
     let u = seen c.remove.new.world in
     let same : mid ≡ w = c.prepare_to_tell.ensures.seen in
-    let made = c.remove.ensures in
+    let made = c.remove.ensures.seen in
     let new = removal_notices c.args.generic.0 c.args.method.0 mid.generics in
     let counted : c.len-from.result ≡ length mid.hearing.notices =
     c.len-from.ensures ∙ ap length (sym (notices_kept c.prepare_to_tell.new.world.hearing)) in
@@ -35,7 +35,7 @@ tell-requires-clause-ready g c = λ p l.
     let mid = seen c.prepare_to_tell.new.world in
     let u = seen c.remove.new.world in
     let same : mid ≡ w = c.prepare_to_tell.ensures.seen in
-    let made = c.remove.ensures in
+    let made = c.remove.ensures.seen in
     let new = removal_notices c.args.generic.0 c.args.method.0 mid.generics in
     let counted : c.len-from.result ≡ length mid.hearing.notices =
     c.len-from.ensures ∙ ap length (sym (notices_kept c.prepare_to_tell.new.world.hearing)) in
@@ -50,7 +50,7 @@ returns-clause-heard g c =
     let mid = seen c.prepare_to_tell.new.world in
     let u = seen c.remove.new.world in
     let same : mid ≡ w = c.prepare_to_tell.ensures.seen in
-    let made = c.remove.ensures in
+    let made = c.remove.ensures.seen in
     let new = removal_notices c.args.generic.0 c.args.method.0 mid.generics in
     let counted : c.len-from.result ≡ length mid.hearing.notices =
     c.len-from.ensures ∙ ap length (sym (notices_kept c.prepare_to_tell.new.world.hearing)) in

@@ -1,5 +1,5 @@
 use Rattle.std.proofs.Common.{ap}
-use Rattle.clos_machine.proofs.Kept.{same_classes}
+use Rattle.clos_meaning.proofs.clos_world.Kept.{same_classes}
 use Rattle.clos_machine.proofs.updating.due.Goals as goal
 
 pub invariant_of-world : goal.invariant_of-world

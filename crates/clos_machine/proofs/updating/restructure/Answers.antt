@@ -1,7 +1,7 @@
 use Rattle.std.proofs.Common.{◌-◌, ap, arith}
 use Rattle.clos_meaning.specs.clos_world.World.{seen}
 use Rattle.clos_machine.specs.declared.machine.Machine.{Machine}
-use Rattle.clos_machine.proofs.Kept.{same_classes, same_either_way}
+use Rattle.clos_meaning.proofs.clos_world.Kept.{same_classes, same_either_way}
 use Rattle.clos_machine.proofs.Updates.{update_goes, update_no_step}
 use Rattle.clos_machine.proofs.updating.restructure.Goals as goal
 

@@ -2,7 +2,7 @@ use Rattle.std.proofs.Common.{◌-◌, ap, arith}
 use Rattle.clos_machine.specs.clos_world.World.{seen}
 use Rattle.clos_machine.specs.clos_meaning.Meaning.{meaning}
 use Rattle.clos_machine.specs.declared.machine.Machine.{Machine}
-use Rattle.clos_machine.proofs.Kept.{same_classes, same_either_way}
+use Rattle.clos_machine.proofs.clos_meaning.clos_world.Kept.{same_classes, same_either_way}
 use Rattle.clos_objects.proofs.Changing.{change_made, change_no_step}
 use Rattle.clos_objects.proofs.class_change.change.Goals as goal
 

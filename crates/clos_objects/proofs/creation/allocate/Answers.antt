@@ -1,7 +1,7 @@
 use Rattle.std.proofs.Common.{◌-◌, ap, arith, ◌∙◌}
 use Rattle.clos_machine.specs.clos_world.clos_store.Store.{allocated, next_instance, with_instance}
 use Rattle.clos_machine.specs.clos_world.World.{seen}
-use Rattle.clos_machine.proofs.Kept.{same_classes, same_either_way}
+use Rattle.clos_machine.proofs.clos_meaning.clos_world.Kept.{same_classes, same_either_way}
 use Rattle.clos_objects.proofs.Making.{allocate_full, allocate_goes, allocate_no_step}
 use Rattle.clos_objects.proofs.creation.allocate.Goals as goal
 

@@ -3,7 +3,7 @@ use Rattle.std.proofs.Common.{◌-◌, arith, ap, drop, refl}
 use Rattle.lisp_data.specs.ValueView.{value_of}
 use Rattle.clos_machine.specs.clos_world.World.{seen}
 use Rattle.clos_machine.specs.declared.machine.Filling.{Filling}
-use Rattle.clos_machine.proofs.Kept.{same_classes}
+use Rattle.clos_machine.proofs.clos_meaning.clos_world.Kept.{same_classes}
 use Rattle.clos_objects.proofs.Passing.{first_next, first_no_step}
 use Rattle.clos_objects.proofs.filling.fill_first.Goals as goal
 

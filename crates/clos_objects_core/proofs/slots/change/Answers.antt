@@ -3,7 +3,7 @@ use Rattle.std.specs.Prelude.{option_map}
 use Rattle.lisp_data.specs.ValueView.{value_of}
 use Rattle.clos_machine.specs.clos_world.clos_store.Store.{slot_found}
 use Rattle.clos_machine.specs.clos_world.World.{seen}
-use Rattle.clos_machine.proofs.Kept.{same_classes}
+use Rattle.clos_machine.proofs.clos_meaning.clos_world.Kept.{same_classes}
 use Rattle.clos_objects_core.proofs.Placing.{change_missing, change_no_step, none_found, some_found}
 use Rattle.clos_objects_core.proofs.slots.change.Goals as goal
 

@@ -18,5 +18,6 @@ pub invariant_of-self : goal.invariant_of-self
 invariant_of-self c = record {
   kept = kept_after (seen c.args.self.now) (seen c.worked_out.new.self) c.worked_out.ensures.same c.args.id.0 (map value_of c.args.values.now)
       c.worked_out.new.self.cache c.keep.new.self c.in_ok-key.key (record { combination = c.in_ok-combination.combination; outcome = c.in_ok-found.found.value })
-      c.keep.result c.keep.ensures.ok c.keep.ensures.err c.worked_out.new.self.kept c.in_ok-key.ensures c.in_ok-found.ensures.methods c.in_ok-found.ensures.outcome;
+      c.keep.result c.keep.ensures.ok c.keep.ensures.err c.worked_out.new.self.kept c.in_ok-key.ensures
+      c.in_ok-combination.ensures c.in_ok-found.ensures.methods c.in_ok-found.ensures.outcome;
 }

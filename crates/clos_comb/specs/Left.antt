@@ -5,11 +5,11 @@ use Rattle.lisp_data.specs.Value.{Val}
 use Rattle.clos_comb.specs.Effective.{effective}
 use Rattle.clos_comb.specs.Table as combinations
 use Rattle.clos_comb.specs.Table.{name_of, with_combination}
-use Rattle.clos_combination.specs.declared.combination.CombinationDefinition.{CombinationDefinition}
-use Rattle.clos_session.specs.clos_world.clos_generic.Calls.{has_eql, ordered}
-use Rattle.clos_session.specs.clos_world.clos_generic.Table.{Function, Table}
-use Rattle.clos_session.specs.clos_world.clos_method.Arguments.{Argument}
-use Rattle.clos_laws.specs.Sound.{IsSound}
+use Rattle.clos_groups.specs.clos_combination.declared.combination.CombinationDefinition.{CombinationDefinition}
+use Rattle.clos_generic.specs.Calls.{has_eql, ordered}
+use Rattle.clos_generic.specs.Table.{Function, Table}
+use Rattle.clos_generic.specs.TableView.{AreThere}
+use Rattle.clos_groups.specs.clos_method.Arguments.{Argument}
 
 -- It leaves a function as it was, and each method that was made.
 pub record IsLeft (old new : Table) (g : ℕ) : Type 0 where
@@ -26,7 +26,7 @@ pub record IsCalledAlike (old new : Table) (g : ℕ) : Type 0 where
 
 -- So are all functions that a change leaves as they were.
 abbrev pub LeavesOthers : Type 0
-LeavesOthers = (old new : Table) (g : ℕ) → IsSound old → IsLeft old new g → IsCalledAlike old new g
+LeavesOthers = (old new : Table) (g : ℕ) → AreThere old.functions old.methods → IsLeft old new g → IsCalledAlike old new g
 
 -- A definition of a method combination leaves all functions as they were that use one of another name.
 abbrev pub LeavesOtherUses : Type 0

@@ -1,6 +1,7 @@
 -- Functions that a change leaves as they were are called as before.
-use Rattle.std.proofs.Common.{◌≡◌, ℕ, ◌<◌, Bool, true, false, List, [], ◌∷◌, Option, Some, None, length, option_map, refl, ap, sym, ◌∙◌, true≢false}
+use Rattle.std.proofs.Common.{◌≡◌, inl, inr, ℕ, ◌<◌, ◌==◌, Bool, ◌||◌, true, false, List, [], ◌∷◌, Option, Some, None, length, option_map, refl, ap, sym, ◌∙◌, true≢false, eq-eqb}
 use Rattle.std.specs.Prelude.{codes, if◌then◌else◌, slice_get}
+use Rattle.std.specs.List.{list_any}
 use Rattle.std.specs.Map.{lookup}
 use Rattle.lisp_data.specs.KeyLaws.{same_name-Decides}
 use Rattle.lisp_data.specs.Name.{Name, same_name}
@@ -10,25 +11,29 @@ use Rattle.clos_comb.specs.Effective.{combined_for, effective, if_defined}
 use Rattle.clos_comb.specs.Outcome.{Combined, bad_expansion}
 use Rattle.clos_comb.specs.Table as combinations
 use Rattle.clos_comb.specs.Table.{Combination, built_in_named, combination_named, combination_of, name_of, or_defined, standard, with_combination, with_named}
-use Rattle.clos_combination.specs.declared.combination.CombinationDefinition.{CombinationDefinition}
-use Rattle.clos_session.specs.clos_world.clos_generic.Calls.{has_eql, ordered, precedence_in}
-use Rattle.clos_session.specs.clos_world.clos_generic.Table.{Function, Table, methods_in, methods_of}
-use Rattle.clos_session.specs.clos_world.clos_method.Applicable as core
-use Rattle.clos_session.specs.clos_world.clos_method.Arguments.{Argument}
-use Rattle.clos_session.specs.clos_world.clos_method.Laws.{IsMember}
-use Rattle.clos_session.specs.clos_world.clos_method.Order as order
-use Rattle.clos_laws.specs.Left.{IsCalledAlike, IsLeft, LeavesOtherUses, LeavesOthers}
-use Rattle.clos_laws.specs.Sound.{IsSound}
-use Rattle.clos_laws.proofs.Agreeing.{AgreeOn, combined_alike, eql_alike, ordered_alike, ordered_there}
+use Rattle.clos_groups.specs.clos_combination.declared.combination.CombinationDefinition.{CombinationDefinition}
+use Rattle.clos_generic.specs.Calls.{has_eql, ordered, precedence_in}
+use Rattle.clos_generic.specs.Table.{Function, Table, methods_in, methods_of}
+use Rattle.clos_generic.specs.TableView.{AreThere}
+use Rattle.clos_groups.specs.clos_method.Applicable as core
+use Rattle.clos_groups.specs.clos_method.Arguments.{Argument}
+use Rattle.clos_groups.specs.clos_method.Laws.{IsMember}
+use Rattle.clos_groups.specs.clos_method.Order as order
+use Rattle.clos_comb.specs.Left.{IsCalledAlike, IsLeft, LeavesOtherUses, LeavesOthers}
+use Rattle.clos_comb.proofs.Agreeing.{AgreeOn, combined_alike, eql_alike, ordered_alike, ordered_there}
 
-module _ (old new : Table) (g : ℕ) (sound : IsSound old) (left : IsLeft old new g) where
-  -- a function's methods were there
-  agree_in : (o : Option Function) → slice_get old.functions g ≡ o → AgreeOn new.methods old.methods (methods_in o)
-  agree_in None e n i = absurd i
-  agree_in (Some f) e n i = left.methods n ((sound.functions g f e).there n i)
+second_so : (a : Bool) → (a || true) ≡ true
+second_so true = refl
+second_so false = refl
 
+among : (ms : List ℕ) (n : ℕ) → IsMember ms n → list_any (λ k. k == n) ms ≡ true
+among [] n i = absurd i
+among (m ∷ ms) n (inl e) = ap (λ b. b || list_any (λ k. k == n) ms) (eq-eqb m n e)
+among (m ∷ ms) n (inr i) = ap (λ b. (m == n) || b) (among ms n i) ∙ second_so (m == n)
+
+module _ (old new : Table) (g : ℕ) (there : AreThere old.functions old.methods) (left : IsLeft old new g) where
   agree : AgreeOn new.methods old.methods (methods_of old g)
-  agree = agree_in (slice_get old.functions g) refl
+  agree n i = left.methods n (there g n (among (methods_of old g) n i))
 
   objects : (place : ℕ) (v : Val) → has_eql new g place v ≡ has_eql old g place v
   objects place v =
@@ -60,10 +65,10 @@ module _ (old new : Table) (g : ℕ) (sound : IsSound old) (left : IsLeft old ne
       (λ n i. agree n (ordered_there old.methods old.methods (precedence_in (slice_get old.functions g)) args old.methods (methods_of old g) n i))
 
 pub leaves_others : LeavesOthers
-leaves_others old new g sound left = record {
-  objects = objects old new g sound left;
-  methods = methods old new g sound left;
-  combined = combined old new g sound left;
+leaves_others old new g there left = record {
+  objects = objects old new g there left;
+  methods = methods old new g there left;
+  combined = combined old new g there left;
 }
 
 -- ---- method combinations

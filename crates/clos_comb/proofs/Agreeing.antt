@@ -17,13 +17,13 @@ use Rattle.clos_comb.specs.Standard.{standard_form}
 use Rattle.clos_comb.specs.Table.{Combination, standard, short, long}
 use Rattle.clos_groups.specs.Group.{group_with, has_group, is_in, is_the, members}
 use Rattle.clos_groups.specs.Refusal.{Refusal, ambiguous_from, among, empty_from, is_specialized_so, or_ambiguous, or_empty, or_later, or_twins, refusal, specialized_so, twin_of, twins, ungrouped}
-use Rattle.clos_combination.specs.declared.combination.ShortForm.{ShortForm}
-use Rattle.clos_combination.specs.declared.group.GroupSpecifier.{GroupSpecifier}
-use Rattle.clos_session.specs.clos_world.clos_method.Applicable.{applies_to, has_eql, has_eql_at, is_applicable, is_eql_to, specializers_in, specializers_of}
-use Rattle.clos_session.specs.clos_world.clos_method.Arguments.{Argument}
-use Rattle.clos_session.specs.clos_world.clos_method.Laws.{IsMember}
-use Rattle.clos_session.specs.clos_world.clos_method.Order.{comes_before, is_before, ordered, placed}
-use Rattle.clos_session.specs.clos_world.clos_method.declared.method.Method.{Method}
+use Rattle.clos_groups.specs.clos_combination.declared.combination.ShortForm.{ShortForm}
+use Rattle.clos_groups.specs.clos_combination.declared.group.GroupSpecifier.{GroupSpecifier}
+use Rattle.clos_groups.specs.clos_method.Applicable.{applies_to, has_eql, has_eql_at, is_applicable, is_eql_to, specializers_in, specializers_of}
+use Rattle.clos_groups.specs.clos_method.Arguments.{Argument}
+use Rattle.clos_groups.specs.clos_method.Laws.{IsMember}
+use Rattle.clos_groups.specs.clos_method.Order.{comes_before, is_before, ordered, placed}
+use Rattle.clos_groups.specs.clos_method.declared.method.Method.{Method}
 
 -- ---- numbers in lists
 

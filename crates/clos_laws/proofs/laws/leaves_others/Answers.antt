@@ -1,5 +1,0 @@
-use Rattle.clos_laws.proofs.Left as proofs
-use Rattle.clos_laws.proofs.laws.leaves_others.Goals as goal
-
-pub returns : goal.returns
-returns c = proofs.leaves_others
