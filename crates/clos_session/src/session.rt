@@ -107,11 +107,25 @@ impl<N: Natives, D: Dependents> Session<N, D> {
         self.world.written.as_slice()
     }
 
-    /// How many effective methods were worked out so far: each call of a generic function works one out (HyperSpec 7.6.6).
+    /// How many effective methods were worked out so far (HyperSpec 7.6.6): each use of a generic function works one out where
+    /// none is kept for it.
     pub fn built(&self) -> u64
         ensures { result ≡ built_of self.now }
     {
         self.world.meter.count()
+    }
+
+    /// Drops all effective methods that are kept: the calls to come work theirs out again, and answer the same.
+    pub fn clear_cache(&mut self)
+        ensures cleared { self.new.world.cache ≡ [] }
+        ensures state { state_of self.new ≡ state_of self.old }
+        ensures answers { answers_of self.new ≡ answers_of self.old }
+        ensures built { built_of self.new ≡ built_of self.old }
+        ensures natives { self.new.natives ≡ self.old.natives }
+        ensures dependents { self.new.dependents ≡ self.old.dependents }
+    {
+        let world = &mut self.world;
+        world.cache.clear();
     }
 
     /// The state that the forms left: their definitions, instances and variables, and what they wrote.

@@ -6,4 +6,6 @@ mod data;
 #[cfg(test)]
 mod dependents;
 #[cfg(test)]
+mod drawn;
+#[cfg(test)]
 mod session;

@@ -313,16 +313,9 @@ fn submitted_within_steps(rt: HostRuntime) -> Result<(), Fail> {
     Ok(())
 }
 
-#[test]
-fn effective_methods_that_were_worked_out(rt: HostRuntime) -> Result<(), Fail> {
-    let mut session = Session::new(
-        rt.alloc(),
-        Limits::default(),
-        Vec::new(rt.alloc()),
-        Vec::new(rt.alloc()),
-    )?;
-    assert_eq!(rt; session.built(), 0);
-    for (text, built) in [
+/// Forms, and how many effective methods were worked out after each.
+const BUILT: [&[(&str, u64)]; 3] = [
+    &[
         ("(defmethod g ((x integer)) 'i)", 0),
         ("(list (g 3) (g 4))", 1),
         ("(defmethod g ((x (eql 3))) 'three)", 1),
@@ -332,9 +325,52 @@ fn effective_methods_that_were_worked_out(rt: HostRuntime) -> Result<(), Fail> {
         ("(g)", 4),
         ("(g 'a)", 6),
         ("(g 'b)", 6),
-    ] {
-        let _ = session.submit(&datum(rt.alloc(), text)?);
-        assert_eq!(rt; session.built(), built);
+    ],
+    &[
+        ("(defmethod g ((x (eql 3)) (y integer)) 'a)", 0),
+        ("(defmethod g ((x integer) (y (eql 3))) 'b)", 0),
+        ("(defmethod g ((x integer) (y integer)) 'c)", 0),
+        ("(list (g 3 3) (g 4 3) (g 3 4) (g 4 4) (g 5 5))", 4),
+    ],
+    // What a definition is not of stays kept.
+    &[
+        ("(defclass a () ())", 0),
+        ("(defclass b () ())", 0),
+        ("(defclass c (a b) ())", 0),
+        ("(defclass d (c) ())", 0),
+        ("(defclass z () ())", 0),
+        ("(defmethod m ((x a)) 'a)", 0),
+        ("(defmethod m ((x b)) 'b)", 0),
+        ("(defmethod k ((x z)) 'z)", 0),
+        ("(defvar *d* (make-instance 'd))", 2),
+        ("(defvar *z* (make-instance 'z))", 4),
+        ("(list (m *d*) (k *z*))", 6),
+        ("(defclass c (b a) ())", 6),
+        ("(list (m *d*) (k *z*))", 7),
+        ("(defclass w () ())", 7),
+        ("(defclass z () (s))", 7),
+        ("(define-method-combination other :operator progn)", 7),
+        ("(defmethod far ((x w)) 1)", 7),
+        ("(list (m *d*) (k *z*))", 7),
+    ],
+];
+
+/// Up to which of these forms so many effective methods were worked out.
+fn built_as_told(alloc: Global, forms: &[(&str, u64)]) -> Result<usize, Fail> {
+    let mut session = Session::new(alloc, Limits::default(), Vec::new(alloc), Vec::new(alloc))?;
+    for (place, (text, built)) in forms.iter().enumerate() {
+        let _ = session.submit(&datum(alloc, text)?);
+        if session.built() != *built {
+            return Ok(place);
+        }
+    }
+    Ok(forms.len())
+}
+
+#[test]
+fn effective_methods_that_were_worked_out(rt: HostRuntime) -> Result<(), Fail> {
+    for forms in BUILT {
+        assert_eq!(rt; built_as_told(rt.alloc(), forms)?, forms.len());
     }
     Ok(())
 }

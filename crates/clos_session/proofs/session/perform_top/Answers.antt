@@ -17,7 +17,7 @@ returns-in-DefCombination-clause-heard g c =
     let s = c.args.steps.now in
     let k = c.define_combination.new.steps in
     let past = c.args.answers.now.items in
-    unheard told told w u refl (combination_untold host w u s k past past c.define_combination.result c.in-DefCombination.definition (answers_with host (define_combination c.in-DefCombination.definition) w s past c.define_combination.result u k c.define_combination.ensures))
+    unheard told told w u refl (combination_untold host w u s k past past c.define_combination.result c.in-DefCombination.definition (answers_with host (define_combination c.in-DefCombination.definition) w s past c.define_combination.result u k c.define_combination.ensures.answers))
 
 pub returns-in-Defun-clause-heard : goal.returns-in-Defun-clause-heard
 returns-in-Defun-clause-heard g c =
