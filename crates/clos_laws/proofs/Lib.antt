@@ -6,3 +6,4 @@ pub mod Precedence
 pub mod Forms
 pub mod Sessions
 pub mod InOrder
+pub mod Names

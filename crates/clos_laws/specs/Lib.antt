@@ -2,3 +2,4 @@ pub mod Sound
 pub mod Predefined
 pub mod Reached
 pub mod Laws
+pub mod Names
