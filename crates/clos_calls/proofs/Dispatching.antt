@@ -16,12 +16,16 @@ use Rattle.clos_machine.specs.clos_meaning.GenericCalls.{after_positional, calle
 use Rattle.clos_machine.specs.clos_meaning.Contexts.{in_call}
 use Rattle.clos_machine.specs.Machine.{Leads, at, inside, resume}
 use Rattle.clos_machine.specs.clos_meaning.Meaning.{closed}
-use Rattle.clos_machine.specs.clos_meaning.Outcome.{Noted, used, Eval, Run, Stopped, stopped}
+use Rattle.clos_machine.specs.clos_meaning.Outcome.{Note, Noted, used, Eval, Run, Stopped, stopped}
+use Rattle.clos_machine.specs.clos_meaning.Uses.{after_notes, noting}
+use Rattle.clos_machine.specs.clos_world.clos_cache.Uses.{Uses}
+use Rattle.clos_machine.specs.Uses.{LeadsBy}
 use Rattle.clos_machine.specs.clos_meaning.declared.arguments.Context.{Context}
 use Rattle.clos_machine.specs.declared.machine.Doing.{Doing}
 use Rattle.clos_machine.specs.declared.machine.Machine.{Machine}
 use Rattle.clos_machine.specs.clos_world.Keys.{key_of}
-use Rattle.clos_machine.proofs.Turns.{bare, bare_through, leads_same, stopped_through}
+use Rattle.clos_machine.proofs.Turns.{leads_same, stopped_through}
+use Rattle.clos_machine.proofs.Uses.{key_bound, leads_none, leads_used}
 use Rattle.clos_comb.specs.Effective as comb
 use Rattle.clos_comb.specs.Outcome.{Combined}
 use Rattle.clos_comb.specs.OutcomeView.{combined_of}
@@ -44,14 +48,13 @@ nothing_there f None o e h = e
 nothing_there f (Some a) o e h = absurd (cc h)
 
 module _ (m n : Machine) (ev : Eval) (w : State) where
-  stops : (run : Run) (c : Condition) → ((t : ℕ) → bare (run (at m w) t) ≡ stopped ProgramError [] (at m w) t) → c ≡ record { kind = ProgramError; items = [] }
+  stops : (run : Run) (c : Condition) → ((t : ℕ) → run (at m w) t ≡ stopped ProgramError [] (at m w) t) → c ≡ record { kind = ProgramError; items = [] }
       → Leads (inside m run) w (Err (Refused c)) n
   stops run c h e = λ t.
-      bare_through m.levels m.context (run (at m w) t) ∙ ap (λ o. closed (resume m.levels m.context o)) (h t ∙ ap (λ x. Stopped x (at m w) t) (sym e)) ∙ stopped_through m.levels m.context c (at m w) t
+      ap (λ o. closed (resume m.levels m.context o)) (h t ∙ ap (λ x. Stopped x (at m w) t) (sym e)) ∙ stopped_through m.levels m.context c (at m w) t
 
-  goes : (run run' : Run) (r : Result Doing Stop) → ((t : ℕ) → bare (run (at m w) t) ≡ bare (run' (at m w) t)) → Leads (inside m run) w r n → Leads (inside m run') w r n
-  goes run run' r h l = leads_same (inside m run) (inside m run') w r n
-      (λ t. bare_through m.levels m.context (run (at m w) t) ∙ ap (λ o. closed (resume m.levels m.context o)) (h t) ∙ sym (bare_through m.levels m.context (run' (at m w) t))) l
+  goes : (run run' : Run) (r : Result Doing Stop) → ((t : ℕ) → run (at m w) t ≡ run' (at m w) t) → Leads (inside m run) w r n → Leads (inside m run') w r n
+  goes run run' r h l = leads_same (inside m run) (inside m run') w r n (λ t. ap (λ o. closed (resume m.levels m.context o)) (h t)) l
 
   -- where there are methods
   some_match : (vs : List Val) (g : ℕ) (f : Function) (other : Run) (ms : List ℕ) (t : ℕ) → (length ms ≡ 0 → ⊥) → matched ev vs g f ms (at m w) t ≡ matched_or ev vs g f other ms (at m w) t
@@ -66,37 +69,46 @@ module _ (m n : Machine) (ev : Eval) (w : State) where
     abbrev pub calling : Run
     calling u = called_generic ev vs g (slice_get u.generics.functions g) u
 
+    -- a use of the function with these arguments is noted
+    abbrev pub use_of : List Val → List Note
+    use_of us = used (key_of w g us) ∷ []
+
     not_taken : (o : Option Function) (t : ℕ) → false ≡ takes_in o (length vs) → called_generic ev vs g o (at m w) t ≡ stopped ProgramError [] (at m w) t
     not_taken None t e = refl
     not_taken (Some f) t e =
         ap (λ b. if b then Noted (used (key_of (at m w) g vs)) (matched_or ev vs g f (unmatched ev g vs) (ordered w g vs) (at m w) t) else stopped ProgramError [] (at m w) t) (sym e)
 
-    pub wrong_count : (c : Condition) → false ≡ takes_in (slice_get w.generics.functions g) (length vs) → c ≡ record { kind = ProgramError; items = [] }
-        → Leads (inside m calling) w (Err (Refused c)) n
-    wrong_count c e k = stops calling c (λ t. ap bare (not_taken (slice_get w.generics.functions g) t e)) k
+    pub wrong_count : (u : Uses) (c : Condition) → false ≡ takes_in (slice_get w.generics.functions g) (length vs) → c ≡ record { kind = ProgramError; items = [] }
+        → LeadsBy (inside m calling) w u (Err (Refused c)) n u
+    wrong_count u c e k = leads_none (inside m calling) w u u (Err (Refused c)) n refl (stops calling c (λ t. not_taken (slice_get w.generics.functions g) t e) k)
 
     right_count : (f : Function) (t : ℕ) → Some f ≡ slice_get w.generics.functions g → takes_count f.shape (length vs) ≡ true
-        → bare (matched_or ev vs g f (unmatched ev g vs) (ordered w g vs) (at m w) t) ≡ bare (calling (at m w) t)
+        → Noted (used (key_of w g vs)) (matched_or ev vs g f (unmatched ev g vs) (ordered w g vs) (at m w) t) ≡ calling (at m w) t
     right_count f t e h =
-        ap (λ b. bare (if b then Noted (used (key_of (at m w) g vs)) (matched_or ev vs g f (unmatched ev g vs) (ordered w g vs) (at m w) t) else stopped ProgramError [] (at m w) t)) (sym h)
-        ∙ ap (λ o. bare (called_generic ev vs g o (at m w) t)) e
+        ap (λ k. Noted (used k) (matched_or ev vs g f (unmatched ev g vs) (ordered w g vs) (at m w) t)) (sym (key_bound m.locals w g vs))
+        ∙ ap (λ b. if b then Noted (used (key_of (at m w) g vs)) (matched_or ev vs g f (unmatched ev g vs) (ordered w g vs) (at m w) t) else stopped ProgramError [] (at m w) t) (sym h)
+        ∙ ap (λ o. called_generic ev vs g o (at m w) t) e
 
-    pub none_called : (us : List Val) (ms : List ℕ) (r : Result Doing Stop) → true ≡ takes_in (slice_get w.generics.functions g) (length vs) → us ≡ vs → ms ≡ ordered w g us
-        → length ms ≡ 0 → Leads (inside m (unmatched ev g us)) w r n → Leads (inside m calling) w r n
-    none_called us ms r e k h z l =
+    pub none_called : (us : List Val) (ms : List ℕ) (r : Result Doing Stop) (v : State) (u mid u' : Uses) → true ≡ takes_in (slice_get w.generics.functions g) (length vs)
+        → us ≡ vs → ms ≡ ordered w g us → length ms ≡ 0 → v ≡ w → mid ≡ after_notes (use_of us) u
+        → LeadsBy (inside m (unmatched ev g us)) v mid r n u' → LeadsBy (inside m calling) w u r n u'
+    none_called us ms r v u mid u' e k h z q p l =
         let x = function_taken (slice_get w.generics.functions g) (length vs) e in
-        goes (unmatched ev g us) calling r
-        (λ t. ap (λ y. bare (unmatched ev g y (at m w) t)) k
-        ∙ ap bare (none_match vs g x.0 (unmatched ev g vs) (ordered w g vs) t (ap length (sym (h ∙ ap (ordered w g) k)) ∙ z)) ∙ right_count x.0 t x.1 x.2) l
+        leads_used m calling (unmatched ev g us) (use_of us) w v u mid u' r n
+        (λ t. sym (ap (λ y. Noted (used (key_of w g y)) (unmatched ev g y (at m w) t)) k
+        ∙ ap (Noted (used (key_of w g vs))) (none_match vs g x.0 (unmatched ev g vs) (ordered w g vs) t (ap length (sym (h ∙ ap (ordered w g) k)) ∙ z)) ∙ right_count x.0 t x.1 x.2))
+        q p l
 
-    pub some_called : (us : List Val) (ms : List ℕ) (r : Result Doing Stop) → true ≡ takes_in (slice_get w.generics.functions g) (length vs) → us ≡ vs → ms ≡ ordered w g us
-        → (length ms ≡ 0 → ⊥) → ((f : Function) → Some f ≡ slice_get w.generics.functions g → Leads (inside m (matched ev us g f ms)) w r n) → Leads (inside m calling) w r n
-    some_called us ms r e k h z l =
+    pub some_called : (us : List Val) (ms : List ℕ) (r : Result Doing Stop) (v : State) (u mid : Uses) → true ≡ takes_in (slice_get w.generics.functions g) (length vs)
+        → us ≡ vs → ms ≡ ordered w g us → (length ms ≡ 0 → ⊥) → v ≡ w → mid ≡ after_notes (use_of us) u
+        → ((f : Function) → Some f ≡ slice_get v.generics.functions g → Leads (inside m (matched ev us g f ms)) v r n) → LeadsBy (inside m calling) w u r n mid
+    some_called us ms r v u mid e k h z q p l =
         let x = function_taken (slice_get w.generics.functions g) (length vs) e in
-        goes (matched ev us g x.0 ms) calling r
-        (λ t. ap (λ y. bare (matched ev y g x.0 ms (at m w) t)) k
-        ∙ ap bare (some_match vs g x.0 (unmatched ev g vs) ms t z) ∙ ap (λ y. bare (matched_or ev vs g x.0 (unmatched ev g vs) y (at m w) t)) (h ∙ ap (ordered w g) k)
-        ∙ right_count x.0 t x.1 x.2) (l x.0 x.1)
+        leads_used m calling (matched ev us g x.0 ms) (use_of us) w v u mid mid r n
+        (λ t. sym (ap (λ y. Noted (used (key_of w g y)) (matched ev y g x.0 ms (at m w) t)) k
+        ∙ ap (Noted (used (key_of w g vs))) (some_match vs g x.0 (unmatched ev g vs) ms t z ∙ ap (λ y. matched_or ev vs g x.0 (unmatched ev g vs) y (at m w) t) (h ∙ ap (ordered w g) k))
+        ∙ right_count x.0 t x.1 x.2))
+        q p (leads_none (inside m (matched ev us g x.0 ms)) v mid mid r n refl (l x.0 (x.1 ∙ ap (λ y. slice_get y.generics.functions g) (sym q))))
 
     -- ---- no-applicable-method
 
@@ -104,22 +116,40 @@ module _ (m n : Machine) (ev : Eval) (w : State) where
       abbrev number : ℕ
       number = system_number NoApplicableMethod
 
+      abbrev pub use_told : List Note
+      use_told = used (key_of w number us) ∷ []
+
       as_told : (o : Option Function) (t : ℕ) → o ≡ slice_get w.generics.functions number → unmatched_by ev us o (at m w) t ≡ unmatched ev g vs (at m w) t
       as_told o t e = ap (λ x. unmatched_by ev us x (at m w) t) e ∙ ap (λ x. unmatched_by ev x (slice_get w.generics.functions number) (at m w) t) k
 
-      pub untold : (c : Condition) → None ≡ slice_get w.generics.functions number → c ≡ record { kind = ProgramError; items = [] } → Leads (inside m (unmatched ev g vs)) w (Err (Refused c)) n
-      untold c e h = stops (unmatched ev g vs) c (λ t. ap bare (sym (as_told None t e))) h
+      pub untold : (u : Uses) (c : Condition) → None ≡ slice_get w.generics.functions number → c ≡ record { kind = ProgramError; items = [] }
+          → LeadsBy (inside m (unmatched ev g vs)) w u (Err (Refused c)) n u
+      untold u c e h =
+          leads_none (inside m (unmatched ev g vs)) w u u (Err (Refused c)) n refl (stops (unmatched ev g vs) c (λ t. sym (as_told None t e)) h)
 
-      pub none_told : (f : Function) (ms : List ℕ) (c : Condition) → Some f ≡ slice_get w.generics.functions number → ms ≡ ordered w number us → length ms ≡ 0
-          → c ≡ record { kind = ProgramError; items = [] } → Leads (inside m (unmatched ev g vs)) w (Err (Refused c)) n
-      none_told f ms c e h z j =
-          stops (unmatched ev g vs) c (λ t. sym (ap bare (none_match us number f (stopped ProgramError []) ms t z) ∙ ap (λ y. bare (matched_or ev us number f (stopped ProgramError []) y (at m w) t)) h ∙ ap bare (as_told (Some f) t e))) j
+      -- what is done with these methods
+      told : (f : Function) (ms : List ℕ) (run : Run) (t : ℕ) → Some f ≡ slice_get w.generics.functions number → ms ≡ ordered w number us
+          → run (at m w) t ≡ matched_or ev us number f (stopped ProgramError []) ms (at m w) t
+          → unmatched ev g vs (at m w) t ≡ noting use_told (run (at m w) t)
+      told f ms run t e h j =
+          sym (ap (Noted (used (key_of w number us))) (j ∙ ap (λ y. matched_or ev us number f (stopped ProgramError []) y (at m w) t) h)
+          ∙ ap (λ k. Noted (used k) (matched_or ev us number f (stopped ProgramError []) (ordered w number us) (at m w) t)) (sym (key_bound m.locals w number us))
+          ∙ as_told (Some f) t e)
 
-      pub some_told : (f : Function) (ms : List ℕ) (r : Result Doing Stop) → Some f ≡ slice_get w.generics.functions number → ms ≡ ordered w number us → (length ms ≡ 0 → ⊥)
-          → Leads (inside m (matched ev us number f ms)) w r n → Leads (inside m (unmatched ev g vs)) w r n
-      some_told f ms r e h z l =
-          goes (matched ev us number f ms) (unmatched ev g vs) r
-          (λ t. ap bare (some_match us number f (stopped ProgramError []) ms t z) ∙ ap (λ y. bare (matched_or ev us number f (stopped ProgramError []) y (at m w) t)) h ∙ ap bare (as_told (Some f) t e)) l
+      pub none_told : (f : Function) (ms : List ℕ) (c : Condition) (u mid : Uses) → Some f ≡ slice_get w.generics.functions number → ms ≡ ordered w number us
+          → length ms ≡ 0 → mid ≡ after_notes use_told u → c ≡ record { kind = ProgramError; items = [] } → LeadsBy (inside m (unmatched ev g vs)) w u (Err (Refused c)) n mid
+      none_told f ms c u mid e h z p j =
+          leads_used m (unmatched ev g vs) (stopped ProgramError []) use_told w w u mid mid (Err (Refused c)) n
+          (λ t. told f ms (stopped ProgramError []) t e h (none_match us number f (stopped ProgramError []) ms t z)) refl p
+          (leads_none (inside m (stopped ProgramError [])) w mid mid (Err (Refused c)) n refl (stops (stopped ProgramError []) c (λ t. refl) j))
+
+      pub some_told : (f : Function) (ms : List ℕ) (r : Result Doing Stop) (v : State) (u mid : Uses) → Some f ≡ slice_get w.generics.functions number
+          → ms ≡ ordered w number us → (length ms ≡ 0 → ⊥) → v ≡ w → mid ≡ after_notes use_told u
+          → Leads (inside m (matched ev us number f ms)) v r n → LeadsBy (inside m (unmatched ev g vs)) w u r n mid
+      some_told f ms r v u mid e h z q p l =
+          leads_used m (unmatched ev g vs) (matched ev us number f ms) use_told w v u mid mid r n
+          (λ t. told f ms (matched ev us number f ms) t e h (some_match us number f (stopped ProgramError []) ms t z)) q p
+          (leads_none (inside m (matched ev us number f ms)) v mid mid r n refl l)
 
     -- ---- a call for which these methods are applicable
 
@@ -128,14 +158,14 @@ module _ (m n : Machine) (ev : Eval) (w : State) where
           → Leads (inside m (matched ev vs g f ms)) w (Err (Refused c)) n
       keywords_wrong c e h =
           stops (matched ev vs g f ms) c
-          (λ t. ap (λ b. bare (if b then combined_run ev (in_call (record { generic = g; methods = ms }) vs) f (comb.effective w.combinations w.generics g ms) (at m w) t else stopped ProgramError [] (at m w) t)) (sym e)) h
+          (λ t. ap (λ b. if b then combined_run ev (in_call (record { generic = g; methods = ms }) vs) f (comb.effective w.combinations w.generics g ms) (at m w) t else stopped ProgramError [] (at m w) t) (sym e)) h
 
       pub keywords_right : (x : Combined) (r : Result Doing Stop) → true ≡ keywords_fit w.generics g ms (after_positional f.shape vs) → x ≡ comb.effective w.combinations w.generics g ms
           → Leads (inside m (combined_run ev (in_call (record { generic = g; methods = ms }) vs) f x)) w r n → Leads (inside m (matched ev vs g f ms)) w r n
       keywords_right x r e h l =
           goes (combined_run ev (in_call (record { generic = g; methods = ms }) vs) f x) (matched ev vs g f ms) r
-          (λ t. ap (λ y. bare (combined_run ev (in_call (record { generic = g; methods = ms }) vs) f y (at m w) t)) h
-          ∙ ap (λ b. bare (if b then combined_run ev (in_call (record { generic = g; methods = ms }) vs) f (comb.effective w.combinations w.generics g ms) (at m w) t else stopped ProgramError [] (at m w) t)) e) l
+          (λ t. ap (λ y. combined_run ev (in_call (record { generic = g; methods = ms }) vs) f y (at m w) t) h
+          ∙ ap (λ b. if b then combined_run ev (in_call (record { generic = g; methods = ms }) vs) f (comb.effective w.combinations w.generics g ms) (at m w) t else stopped ProgramError [] (at m w) t) e) l
 
   -- ---- the methods are not combined
 

@@ -8,9 +8,11 @@ ghost use Rattle.clos_forms.specs.declared.operator.FunctionName.TheVariants.{Sy
 ghost use Rattle.clos_machine.specs.clos_world.clos_generic.Table.{named};
 ghost use Rattle.clos_machine.specs.clos_world.FunctionName.{setter_value};
 ghost use Rattle.clos_machine.specs.clos_world.Functions.{function_in};
+ghost use Rattle.clos_machine.specs.clos_world.Uses.{uses_of};
 ghost use Rattle.clos_machine.specs.clos_world.World.{seen};
 ghost use Rattle.clos_machine.specs.clos_meaning.Calls.{applied_to, called_defined, called_function, called_setter};
 ghost use Rattle.clos_machine.specs.clos_meaning.Fault.{answered};
+ghost use Rattle.clos_machine.specs.Uses.{LeadsBy};
 ghost use Rattle.clos_machine.specs.Machine.{Leads, Grows, at, inside, collected, collect_weight, value_weight, here, Does};
 ghost use Rattle.clos_machine.specs.clos_meaning.Meaning.{function_value, is_plain_function, other_function};
 ghost use Rattle.clos_machine.specs.declared.machine.Action.TheVariants.{Call};
@@ -64,7 +66,7 @@ pub fn compute(
 }
 
 /// A call of the function of the program's of this name.
-#[tactic(auto, using(clos_machine::proofs::Turns::stopped_through, clos_machine::proofs::Turns::grows_more))]
+#[tactic(auto, using(clos_machine::proofs::Turns::stopped_through, clos_machine::proofs::Turns::grows_more, clos_machine::proofs::Uses::leads_none, clos_machine::proofs::Uses::leads_storage))]
 pub fn call(
     alloc: Global,
     machine: &mut Machine,
@@ -72,7 +74,7 @@ pub fn call(
     name: &Name,
     values: Values,
 ) -> Result<Doing, Stop>
-    ensures leads { Leads (here machine.old (λ ev env w. called_function ev name.now values (named w.generics (Symbol name.now)) w)) (seen world.old) result machine.new }
+    ensures leads { LeadsBy (here machine.old (λ ev env w. called_function ev name.now values (named w.generics (Symbol name.now)) w)) (seen world.old) (uses_of world.old) result machine.new (uses_of world.new) }
     ensures same { seen world.new ≡ seen world.old }
     ensures small { Grows value_weight machine.old.levels result machine.new }
 {
@@ -104,7 +106,7 @@ fn call_named(
 }
 
 /// A call of the function `(setf name)`, whose first argument is the last of the values.
-#[tactic(auto, using(clos_machine::proofs::Turns::stopped_through, clos_machine::proofs::Turns::grows_more))]
+#[tactic(auto, using(clos_machine::proofs::Turns::stopped_through, clos_machine::proofs::Turns::grows_more, clos_machine::proofs::Uses::leads_storage))]
 pub fn call_setter(
     alloc: Global,
     machine: &mut Machine,
@@ -112,7 +114,7 @@ pub fn call_setter(
     name: &Name,
     mut values: Values,
 ) -> Result<Doing, Stop>
-    ensures leads { Leads (here machine.old (λ ev env. called_setter ev name.now values)) (seen world.old) result machine.new }
+    ensures leads { LeadsBy (here machine.old (λ ev env. called_setter ev name.now values)) (seen world.old) (uses_of world.old) result machine.new (uses_of world.new) }
     ensures same { seen world.new ≡ seen world.old }
     ensures small { Grows value_weight machine.old.levels result machine.new }
 {

@@ -3,10 +3,12 @@ ghost use Rattle.std.specs.Prelude.{◌≡◌, [], IfOk, Some, slice_get};
 ghost use Rattle.clos_comb.specs.Effective.{effective};
 ghost use Rattle.clos_comb.specs.OutcomeView.{combined_of};
 ghost use Rattle.clos_machine.specs.clos_world.clos_generic.Table.{Function};
+ghost use Rattle.clos_machine.specs.clos_world.Uses.{uses_of};
 ghost use Rattle.clos_machine.specs.clos_world.World.{seen};
 ghost use Rattle.clos_machine.specs.clos_meaning.Bodies.{scoped};
 ghost use Rattle.clos_machine.specs.clos_meaning.Contexts.{in_call};
 ghost use Rattle.clos_machine.specs.clos_meaning.GenericCalls.{called_generic, combined_run, invoked, matched, unmatched};
+ghost use Rattle.clos_machine.specs.Uses.{LeadsBy};
 ghost use Rattle.clos_machine.specs.Machine.{Leads, Grows, call_growth, here, Does};
 ghost use Rattle.clos_machine.specs.clos_meaning.Meaning.{meaning};
 ghost use Rattle.clos_machine.specs.Fault.{TellsCondition};
@@ -27,6 +29,7 @@ use std::alloc::{AllocError, Global};
 use std::rc::Rc;
 
 /// A call of the generic function of this number.
+#[tactic(auto, using(clos_machine::proofs::Uses::leads_storage, clos_machine::proofs::Uses::leads_refused_use))]
 pub fn call_generic(
     alloc: Global,
     machine: &mut Machine,
@@ -34,7 +37,7 @@ pub fn call_generic(
     id: GenericId,
     values: Values,
 ) -> Result<Doing, Stop>
-    ensures leads { Leads (here machine.old (λ ev env w. called_generic ev values id.0 (slice_get w.generics.functions id.0) w)) (seen world.old) result machine.new }
+    ensures leads { LeadsBy (here machine.old (λ ev env w. called_generic ev values id.0 (slice_get w.generics.functions id.0) w)) (seen world.old) (uses_of world.old) result machine.new (uses_of world.new) }
     ensures same { seen world.new ≡ seen world.old }
     ensures small { Grows call_growth machine.old.levels result machine.new }
 {
@@ -60,6 +63,7 @@ pub fn takes(world: &World, id: GenericId, count: usize) -> bool
 }
 
 /// The function no-applicable-method is called with a generic function and its arguments.
+#[tactic(auto, using(clos_machine::proofs::Uses::leads_storage, clos_machine::proofs::Uses::leads_refused_use))]
 fn call_unmatched(
     alloc: Global,
     machine: &mut Machine,
@@ -67,7 +71,7 @@ fn call_unmatched(
     id: GenericId,
     arguments: &Arguments,
 ) -> Result<Doing, Stop>
-    ensures leads { Leads (here machine.old (λ ev env. unmatched ev id.0 arguments.now)) (seen world.old) result machine.new }
+    ensures leads { LeadsBy (here machine.old (λ ev env. unmatched ev id.0 arguments.now)) (seen world.old) (uses_of world.old) result machine.new (uses_of world.new) }
     ensures same { seen world.new ≡ seen world.old }
     ensures small { Grows call_growth machine.old.levels result machine.new }
 {
@@ -196,7 +200,7 @@ pub fn invoke(
     function: SystemFunction,
     values: Values,
 ) -> Result<Doing, Stop>
-    ensures leads { Leads (here machine.old (λ ev env. invoked ev function values)) (seen world.old) result machine.new }
+    ensures leads { LeadsBy (here machine.old (λ ev env. invoked ev function values)) (seen world.old) (uses_of world.old) result machine.new (uses_of world.new) }
     ensures same { seen world.new ≡ seen world.old }
     ensures small { Grows call_growth machine.old.levels result machine.new }
 {

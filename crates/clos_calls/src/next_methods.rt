@@ -4,12 +4,14 @@ ghost use Rattle.lisp_data.specs.Numbers.{same_numbers};
 ghost use Rattle.lisp_data.specs.Value.{generic, method};
 ghost use Rattle.lisp_data.specs.ValueView.{value_of};
 ghost use Rattle.clos_method.specs.MethodIds.{method_numbers};
+ghost use Rattle.clos_machine.specs.clos_world.Uses.{uses_of};
 ghost use Rattle.clos_machine.specs.clos_world.World.{seen};
 ghost use Rattle.clos_machine.specs.clos_meaning.Calls.{made_run};
 ghost use Rattle.clos_machine.specs.clos_meaning.Contexts.{with_arguments};
+ghost use Rattle.clos_machine.specs.Uses.{KeptAfter, LeadsBy};
 ghost use Rattle.clos_machine.specs.Machine.{Leads, Grows, call_growth, collect_weight, perform_weight, here};
 ghost use Rattle.clos_machine.specs.clos_meaning.NextMethods.{has_next, next_called, next_given, none_next};
-ghost use Rattle.clos_calls.specs.NextMethods.{Refuses, refusal_for, refusal_of};
+ghost use Rattle.clos_calls.specs.NextMethods.{Refuses, asked_for, asked_of, refusal_for, refusal_of};
 ghost use Rattle.clos_machine.specs.clos_meaning.Meaning.{next_method};
 ghost use Rattle.clos_machine.specs.declared.machine.Action.TheVariants.{CallNext};
 
@@ -61,14 +63,16 @@ pub fn call_next_given(
     world: &mut World,
     values: Values,
 ) -> Result<Doing, Stop>
-    ensures leads { Leads (here machine.old (λ ev env. next_given ev env env.running values)) (seen world.old) result machine.new }
+    ensures leads { LeadsBy (here machine.old (λ ev env. next_given ev env env.running values)) (seen world.old) (uses_of world.old) result machine.new (uses_of world.new) }
     ensures same { seen world.new ≡ seen world.old }
     ensures small { Grows perform_weight machine.old.levels result machine.new }
 {
     match permit(alloc, machine, world, values.as_slice()) {
         Err(stop) => Err(stop),
         Ok(()) => {
-            let arguments = Arguments::new(alloc, values)?;
+            let Ok(arguments) = Arguments::new(alloc, values) else {
+                return Err(Stop::Storage);
+            };
             run_next(alloc, machine, world, arguments)
         }
     }
@@ -78,6 +82,7 @@ pub fn call_next_given(
 fn permit(alloc: Global, machine: &Machine, world: &mut World, values: &[Value]) -> Result<(), Stop>
     ensures refuses { Refuses (refusal_of (seen world.old) machine.now.context.running machine.now.context.call (map value_of values.now)) result }
     ensures same { seen world.new ≡ seen world.old }
+    ensures kept { KeptAfter (asked_of (seen world.old) machine.now.context.running machine.now.context.call (map value_of values.now)) result (uses_of world.old) (uses_of world.new) }
 {
     match &machine.context.running {
         None => Err(Stop::Refused(plain(alloc, ConditionKind::ProgramError))),
@@ -89,6 +94,7 @@ fn permit(alloc: Global, machine: &Machine, world: &mut World, values: &[Value])
 }
 
 /// Whether the next method of this one may be called with these arguments in a call.
+#[tactic(auto, using(crate::proofs::Nexting::none_asked, crate::proofs::Nexting::one_asked, crate::proofs::Nexting::asking_refused))]
 fn permit_in(
     alloc: Global,
     world: &mut World,
@@ -98,13 +104,17 @@ fn permit_in(
 ) -> Result<(), Stop>
     ensures refuses { Refuses (refusal_for (seen world.old) id.0 call.now (map value_of values.now)) result }
     ensures same { seen world.new ≡ seen world.old }
+    ensures kept { KeptAfter (asked_for (seen world.old) call.now (map value_of values.now)) result (uses_of world.old) (uses_of world.new) }
 {
     if !takes(world, call.generic(), values.len()) {
         return Err(Stop::Refused(plain(alloc, ConditionKind::ProgramError)));
     }
     let found = world.effective_method(alloc, call.generic(), values)?;
     if !same_methods(found.methods.as_slice(), call.methods()) {
-        let condition = about(alloc, ConditionKind::NextArguments, Value::Method(id))?;
+        let kind = ConditionKind::NextArguments;
+        let Ok(condition) = about(alloc, kind, Value::Method(id)) else {
+            return Err(Stop::Storage);
+        };
         return Err(Stop::Refused(condition));
     }
     Ok(())

@@ -3,6 +3,7 @@ ghost use Rattle.std.specs.Prelude.{◌≡◌, ◌++◌, ℕ, List, ◌≤◌, I
 ghost use Rattle.lisp_data.specs.Value.{Val};
 ghost use Rattle.lisp_data.specs.ValueView.{value_of};
 ghost use Rattle.clos_machine.specs.clos_world.Values.{only_value};
+ghost use Rattle.clos_machine.specs.clos_world.Uses.{uses_of};
 ghost use Rattle.clos_machine.specs.clos_world.World.{Local, seen, bound_as, names_of};
 ghost use Rattle.clos_machine.specs.Machine.{Changes, Grows, Turns, inside, value_weight};
 ghost use Rattle.clos_machine.specs.clos_meaning.Outcome.{step_then};
@@ -40,6 +41,7 @@ fn line_of(alloc: Global, text: &[u8]) -> Result<Vec<u8>, AllocError>
 fn write(alloc: Global, world: &mut World, bytes: &[u8], steps: &mut u64) -> Result<(), Stop>
     ensures changes { (v : Val) (l : List Local) → Changes (written bytes.now v) v (bound_as l (seen world.old)) steps.old result (bound_as l (seen world.new)) steps.new }
     ensures fewer { steps.new ≤ steps.old }
+    ensures kept { uses_of world.new ≡ uses_of world.old }
 {
     if *steps == 0 {
         return Err(Stop::Refused(plain(alloc, ConditionKind::StepLimit)));
@@ -61,6 +63,7 @@ fn write_giving(
     ensures turns { Turns (inside machine.now (step_then (written bytes.now (value_of value)))) (seen world.old) steps.old result machine.now (seen world.new) steps.new }
     ensures small { Grows value_weight machine.now.levels result machine.now }
     ensures fewer { steps.new ≤ steps.old }
+    ensures kept { uses_of world.new ≡ uses_of world.old }
 {
     let _ = machine;
     match write(alloc, world, bytes, steps) {
@@ -81,6 +84,7 @@ pub fn print(
     ensures turns { Turns (inside machine.old (output_of output (only_value values.now))) (seen world.old) steps.old result machine.new (seen world.new) steps.new }
     ensures small { Grows value_weight machine.old.levels result machine.new }
     ensures fewer { steps.new ≤ steps.old }
+    ensures kept { uses_of world.new ≡ uses_of world.old }
 {
     let Some(value) = values.only() else {
         return Err(Stop::Refused(plain(alloc, ConditionKind::ProgramError)));
@@ -101,6 +105,7 @@ pub fn end_line(
     ensures turns { Turns (inside machine.old (line_ended values.now)) (seen world.old) steps.old result machine.new (seen world.new) steps.new }
     ensures small { Grows value_weight machine.old.levels result machine.new }
     ensures fewer { steps.new ≤ steps.old }
+    ensures kept { uses_of world.new ≡ uses_of world.old }
 {
     match values.as_slice() {
         [] => write_giving(alloc, machine, world, b"\n", nil(), steps),

@@ -16,8 +16,8 @@ use Rattle.clos_syntax.specs.declared.class.ClassDefinition.{ClassDefinition}
 use Rattle.clos_watch.specs.declared.notice.Notice.{Notice}
 use Rattle.clos_world.specs.Hearing.{Hearing, telling}
 use Rattle.clos_world.specs.World.{State}
-use Rattle.clos_definition.specs.Class.{class_changes, class_functions, class_methods, class_notices, class_number, class_refusal, class_removals, condition_for, noting, others_refusal, with_accessors, with_class}
-use Rattle.clos_definition.specs.Effect.{changing, with_effect}
+use Rattle.clos_definition.specs.Class.{accessors_concerned, class_changes, class_functions, class_methods, class_notices, class_number, class_refusal, class_removals, condition_for, noting, others_refusal, with_accessors, with_class}
+use Rattle.clos_definition.specs.Effect.{changing, concerned, concerned_by, with_effect}
 use Rattle.clos_definition.specs.declared.effect.Effect.{Effect}
 
 -- An effect that was found in a state that is the same is that of the accessors.
@@ -26,6 +26,12 @@ pub effect_made : (d : ClassDefinition) (w u : State) (e : Effect) → u ≡ w �
 effect_made d w u e q h g told =
     ap (λ c. changing c.removals c.definitions e.methods.items (noting told w)) (subst (λ x. e.changes ≡ class_changes d x) q h)
     ∙ ap (λ m. changing (class_removals d w) (class_functions d w) m (noting told w)) (subst (λ x. e.methods.items ≡ class_methods d x) q g)
+
+pub concerned_made : (d : ClassDefinition) (w u : State) (e : Effect) → u ≡ w → e.changes ≡ class_changes d u → e.methods.items ≡ class_methods d u
+    → concerned_by e w.generics ≡ accessors_concerned d w
+concerned_made d w u e q h g =
+    ap (λ c. concerned c.removals c.definitions e.methods.items w.generics) (subst (λ x. e.changes ≡ class_changes d x) q h)
+    ∙ ap (λ m. concerned (class_removals d w) (class_functions d w) m w.generics) (subst (λ x. e.methods.items ≡ class_methods d x) q g)
 
 -- ---- the first check that fails decides
 

@@ -4,12 +4,13 @@ use Rattle.lisp_data.specs.Name.{Name}
 use Rattle.lisp_data.specs.Value.{Val}
 use Rattle.clos_class.specs.Table.{cells_to_make, list_with, number, refusal, with_definition}
 use Rattle.clos_class.specs.declared.reserve.NewCell.{NewCell}
-use Rattle.clos_hierarchy.specs.Table.{Refusal, program_error, table_limit, invalid_superclass, superclass_cycle, incomplete_class, inconsistent_precedence}
+use Rattle.clos_hierarchy.specs.Table.{Refusal, program_error, table_limit, invalid_superclass, superclass_cycle, incomplete_class, inconsistent_precedence, changed}
 use Rattle.clos_forms.specs.Form.{Form}
 use Rattle.clos_forms.specs.Quotation.{name_value}
 use Rattle.clos_forms.specs.declared.operator.FunctionName.TheVariants.{Symbol}
 use Rattle.clos_store.specs.Store.{has_room_for, with_cells}
 use Rattle.clos_syntax.specs.declared.class.ClassDefinition.{ClassDefinition}
+use Rattle.clos_cache.specs.Cache.{Change, of_classes}
 use Rattle.clos_generic.specs.Changes.{Changes}
 use Rattle.clos_generic.specs.declared.changes.Definition.{Definition}
 use Rattle.clos_generic.specs.declared.changes.Removal.{Removal}
@@ -22,7 +23,8 @@ use Rattle.clos_world.specs.World.{State}
 use Rattle.clos_world.specs.declared.condition.Condition.{Condition}
 use Rattle.clos_world.specs.declared.condition.ConditionKind.TheVariants.{ProgramError, InvalidSuperclass, InconsistentPrecedence, SuperclassCycle, IncompleteClass, TableLimit}
 use Rattle.clos_definition.specs.Accessor.{accessor_methods, accessors_of, accessors_refusal, earlier_accessors, functions_for}
-use Rattle.clos_definition.specs.Effect.{changes_of, changing}
+use Rattle.clos_definition.specs.Effect.{changes_of, changing, concerned, concerned_by}
+use Rattle.clos_definition.specs.declared.effect.Effect.{Effect}
 use Rattle.clos_definition.specs.Refusal.{or_else, table_full, table_refusal, when}
 
 -- the condition of a definition of the class of this name that the table of classes refuses
@@ -101,3 +103,20 @@ noting notices w = record w { hearing = telling notices w.hearing }
 -- the state after it is defined; of the class is told before its accessors
 abbrev pub with_defined_class : ClassDefinition → List (Option Val) → State → State
 with_defined_class d values w = with_class d values (with_accessors d (noting (class_notices d w) w))
+
+-- ---- the calls that it concerns
+
+abbrev pub accessors_concerned : ClassDefinition → State → List Change
+accessors_concerned d w = concerned (class_removals d w) (class_functions d w) (class_methods d w) w.generics
+
+-- those with arguments of classes whose precedence lists change as it is defined
+abbrev pub lists_concerned : ClassDefinition → List (Option Val) → State → Change
+lists_concerned d values w = of_classes (changed w.classes.table.classes (with_class d values w).classes.table.classes)
+
+-- and those of its accessors
+abbrev pub class_concerned : ClassDefinition → List (Option Val) → State → List Change
+class_concerned d values w = lists_concerned d values w ∷ accessors_concerned d w
+
+-- the same, where its accessors are prepared
+abbrev pub class_concerned_by : ClassDefinition → List (Option Val) → Effect → State → List Change
+class_concerned_by d values accessors w = lists_concerned d values w ∷ concerned_by accessors w.generics

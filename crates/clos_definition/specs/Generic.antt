@@ -8,6 +8,7 @@ use Rattle.clos_forms.specs.Form.{Form}
 use Rattle.clos_syntax.specs.declared.generic.CombinationUse.{CombinationUse}
 use Rattle.clos_syntax.specs.declared.generic.GenericDefinition.{GenericDefinition}
 use Rattle.clos_syntax.specs.declared.method.MethodDefinition.{MethodDefinition}
+use Rattle.clos_cache.specs.Cache.{Change}
 use Rattle.clos_generic.specs.Changes.{Changes}
 use Rattle.clos_generic.specs.Initial.{left_to_right, standard}
 use Rattle.clos_generic.specs.Table.{Table, methods_of, named, number}
@@ -23,7 +24,7 @@ use Rattle.clos_world.specs.clos_comb.Fault.{Misuse, undefined, arguments, misus
 use Rattle.clos_world.specs.World.{State}
 use Rattle.clos_world.specs.declared.condition.Condition.{Condition}
 use Rattle.clos_world.specs.declared.condition.ConditionKind.TheVariants.{UndefinedCombination}
-use Rattle.clos_definition.specs.Effect.{changes_of, changing, removal}
+use Rattle.clos_definition.specs.Effect.{changes_of, changing, concerned, removal}
 use Rattle.clos_definition.specs.Method.{eql_form, method_with, open_addition, specializers_refusal}
 use Rattle.clos_definition.specs.Refusal.{or_else, program_error, table_refusal, taken_refusal}
 
@@ -113,3 +114,7 @@ generic_refusal d vs w = or_else (names_refusal d w) (table_refusal d.name (gene
 abbrev pub with_defined_generic : GenericDefinition → List (Option Val) → State → State
 with_defined_generic d vs w =
     changing (earlier_methods w.generics (named w.generics d.name)) (definition_of d ∷ []) (initial_methods d vs w) w
+
+-- the calls that it concerns
+abbrev pub generic_concerned : GenericDefinition → List (Option Val) → State → List Change
+generic_concerned d vs w = concerned (earlier_methods w.generics (named w.generics d.name)) (definition_of d ∷ []) (initial_methods d vs w) w.generics

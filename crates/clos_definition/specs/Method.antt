@@ -11,6 +11,7 @@ use Rattle.clos_forms.specs.declared.operator.FunctionName.{FunctionName}
 use Rattle.clos_syntax.specs.declared.method.MethodDefinition.{MethodDefinition}
 use Rattle.clos_syntax.specs.declared.method.ParameterSpecializer.{ParameterSpecializer}
 use Rattle.clos_syntax.specs.declared.method.ParameterSpecializer.TheVariants.{Class, Eql}
+use Rattle.clos_cache.specs.Cache.{Change}
 use Rattle.clos_generic.specs.Changes.{Changes}
 use Rattle.clos_generic.specs.Initial.{standard_options}
 use Rattle.clos_generic.specs.Table.{Table, named as function_named, number}
@@ -25,7 +26,7 @@ use Rattle.clos_method.specs.declared.shape.Shape.{Shape}
 use Rattle.clos_world.specs.Class.{named}
 use Rattle.clos_world.specs.World.{State}
 use Rattle.clos_world.specs.declared.condition.Condition.{Condition}
-use Rattle.clos_definition.specs.Effect.{changes_of, changing}
+use Rattle.clos_definition.specs.Effect.{changes_of, changing, concerned}
 use Rattle.clos_definition.specs.Refusal.{or_else, table_refusal, taken_refusal, undefined_class, when}
 
 -- ---- qualifiers: atoms, as they would be quoted
@@ -108,3 +109,7 @@ method_refusal name m vs w =
 abbrev pub with_defined_method : FunctionName → MethodDefinition → List (Option Val) → State → State
 with_defined_method name m vs w =
     changing [] (function_for w.generics name (shape_of m.lambda_list)) (defined_method name m vs w ∷ []) w
+
+-- the calls that it concerns
+abbrev pub method_concerned : FunctionName → MethodDefinition → List (Option Val) → State → List Change
+method_concerned name m vs w = concerned [] (function_for w.generics name (shape_of m.lambda_list)) (defined_method name m vs w ∷ []) w.generics

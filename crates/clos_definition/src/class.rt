@@ -12,7 +12,7 @@ ghost use Rattle.clos_world.specs.Kept.{ClassesKeep};
 ghost use Rattle.clos_world.specs.World.{seen};
 ghost use Rattle.clos_world.specs.declared.condition.Stop.TheVariants.{Storage};
 ghost use Rattle.clos_definition.specs.Accessor.{accessors_of, accessors_refusal};
-ghost use Rattle.clos_definition.specs.Class.{cells_needed, class_changes, class_functions, class_methods, class_notices, class_number, class_refusal, condition_for, noting, others_refusal, with_accessors, with_class};
+ghost use Rattle.clos_definition.specs.Class.{accessors_concerned, cells_needed, class_changes, class_functions, class_methods, class_notices, class_number, class_refusal, condition_for, noting, others_refusal, with_accessors, with_class};
 ghost use Rattle.clos_definition.specs.Effect.{IsReserved, changes_of, concerned_by, possible_notices, with_effect};
 ghost use Rattle.clos_definition.specs.Refusal.{Allows, StopsFor, table_full, table_refusal, when};
 
@@ -66,6 +66,7 @@ pub fn prepare_class(
     ensures class { IfOk result (λ p. p.0.0 ≡ class_number definition.now (seen world.old)) }
     ensures reserved { IfOk result (λ p. IsReserved p.1 world.new.generics) }
     ensures effect { IfOk result (λ p. (told : List Notice) → with_effect p.1 (noting told (seen world.old)) ≡ with_accessors definition.now (noting told (seen world.old))) }
+    ensures concerned { IfOk result (λ p. concerned_by p.1 (seen world.old).generics ≡ accessors_concerned definition.now (seen world.old)) }
     ensures same { seen world.new ≡ seen world.old }
 {
     let class = reserve_class(alloc, world, definition)?.class;

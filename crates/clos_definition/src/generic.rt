@@ -5,8 +5,8 @@ ghost use Rattle.clos_generic.specs.Initial.{standard};
 ghost use Rattle.clos_generic.specs.Table.{named};
 ghost use Rattle.clos_method.specs.MethodIds.{method_numbers};
 ghost use Rattle.clos_world.specs.World.{seen};
-ghost use Rattle.clos_definition.specs.Effect.{IsReserved, adding, addition_of, removing, with_effect};
-ghost use Rattle.clos_definition.specs.Generic.{combination_refusal, definition_of, earlier_methods, eql_forms, generic_refusal, initial_among, is_initial, methods_refusal, methods_with, names_refusal, options_of, place_in, precedence_of, with_defined_generic};
+ghost use Rattle.clos_definition.specs.Effect.{IsReserved, adding, addition_of, concerned_by, removing, with_effect};
+ghost use Rattle.clos_definition.specs.Generic.{combination_refusal, definition_of, earlier_methods, eql_forms, generic_concerned, generic_refusal, initial_among, is_initial, methods_refusal, methods_with, names_refusal, options_of, place_in, precedence_of, with_defined_generic};
 ghost use Rattle.clos_definition.specs.Method.{open_addition};
 ghost use Rattle.clos_definition.specs.Refusal.{Allows};
 
@@ -70,6 +70,7 @@ pub fn prepare_generic(
     ensures allows { Allows (generic_refusal definition (Some values.now) (seen world.old)) result }
     ensures reserved { IfOk result (λ e. IsReserved e world.new.generics) }
     ensures effect { IfOk result (λ e. with_effect e (seen world.old) ≡ with_defined_generic definition values.now (seen world.old)) }
+    ensures concerned { IfOk result (λ e. concerned_by e (seen world.old).generics ≡ generic_concerned definition values.now (seen world.old)) }
     ensures same { seen world.new ≡ seen world.old }
 {
     refuse_generic(alloc, world, &definition)?;

@@ -7,8 +7,8 @@ ghost use Rattle.clos_forms.specs.Quotation.{quotation};
 ghost use Rattle.clos_generic.specs.Table.{number};
 ghost use Rattle.clos_method.specs.Specializer.{specializer_of};
 ghost use Rattle.clos_world.specs.World.{seen};
-ghost use Rattle.clos_definition.specs.Effect.{IsReserved, with_effect};
-ghost use Rattle.clos_definition.specs.Method.{defined_method, eql_form, first_value, function_for, method_changes, method_refusal, method_with, qualifiers_of, specializer_refusal, specializer_with, specializers_refusal, specializers_with, with_defined_method};
+ghost use Rattle.clos_definition.specs.Effect.{IsReserved, concerned_by, with_effect};
+ghost use Rattle.clos_definition.specs.Method.{defined_method, eql_form, first_value, function_for, method_changes, method_concerned, method_refusal, method_with, qualifiers_of, specializer_refusal, specializer_with, specializers_refusal, specializers_with, with_defined_method};
 ghost use Rattle.clos_definition.specs.Refusal.{Allows};
 
 use crate::effect::{Effect, check, reserve};
@@ -70,6 +70,7 @@ pub fn prepare_method(
     ensures allows { Allows (method_refusal name.now definition (Some values.now) (seen world.old)) result }
     ensures reserved { IfOk result (λ e. IsReserved e world.new.generics) }
     ensures effect { IfOk result (λ e. with_effect e (seen world.old) ≡ with_defined_method name.now definition values.now (seen world.old)) }
+    ensures concerned { IfOk result (λ e. concerned_by e (seen world.old).generics ≡ method_concerned name.now definition values.now (seen world.old)) }
     ensures same { seen world.new ≡ seen world.old }
 {
     refuse_taken(alloc, world, name)?;

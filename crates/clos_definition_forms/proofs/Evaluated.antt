@@ -12,10 +12,12 @@ use Rattle.clos_machine.specs.clos_meaning.Contexts.{known}
 use Rattle.clos_machine.specs.Machine.{Answers, AnswersWith, TakesWith, leaves_by}
 use Rattle.clos_machine.specs.clos_meaning.Host.{Host, answered_by}
 use Rattle.clos_machine.specs.clos_meaning.Meaning.{evaluation}
-use Rattle.clos_machine.specs.clos_meaning.Outcome.{Asked, Looked, Noted, Out, Gave, Stopped, Run, then_do, leaves}
+use Rattle.clos_machine.specs.clos_meaning.Outcome.{Asked, Given, Looked, Noted, Out, Gave, Signalled, Stopped, Run, then_do, leaves}
+use Rattle.clos_machine.specs.clos_world.clos_cache.Cache.{Change}
 use Rattle.clos_machine.proofs.Answering.{answered_then, leaves_then, stopped_then}
 use Rattle.clos_machine.proofs.Runs.{quiet_answered}
 use Rattle.clos_machine.proofs.clos_meaning.Quiet.{evaluation_quiet}
+use Rattle.clos_definition_forms.specs.Definition.{AnswersNoting}
 use Rattle.clos_definition_forms.specs.Forms.{EndsBefore, GoesOn, form_evaluated, forms_evaluated}
 use Rattle.clos_definition_forms.specs.Variable.{room_below}
 
@@ -182,6 +184,23 @@ all_evaluated host all (c ∷ cs) vs w0 u s0 k past0 past e h = absurd (omega ar
 
 -- ---- and then what is made with them
 
+-- What a run answers that asks nothing, whatever it notes.
+abbrev pub AnswersAt : Host → Run → State → ℕ → Result Value Stop → State → ℕ → Type 0
+AnswersAt host run w s (Ok v) w' s' = answered_by host (run w s) [] ≡ Some (Given (value_of v) w' s')
+AnswersAt host run w s (Err (Refused c)) w' s' = answered_by host (run w s) [] ≡ Some (Signalled c w' s')
+AnswersAt host run w s (Err Storage) w' s' = (k : ℕ) × (s ≡ k + s') × leaves (run w k) w' 0
+
+pub answers_at : (host : Host) (run : Run) (w : State) (s : ℕ) (r : Result Value Stop) (x : State) (j : ℕ) → Answers run w s r x j → AnswersAt host run w s r x j
+answers_at host run w s (Ok v) x j h = ap (λ o. answered_by host o []) h
+answers_at host run w s (Err (Refused c)) x j h = ap (λ o. answered_by host o []) h
+answers_at host run w s (Err Storage) x j h = h
+
+pub noting_at : (host : Host) (cs : List Change) (run : Run) (w : State) (s : ℕ) (r : Result Value Stop) (x : State) (j : ℕ) → AnswersNoting cs run w s r x j
+    → AnswersAt host run w s r x j
+noting_at host cs run w s (Ok v) x j h = ap (λ o. answered_by host o []) h
+noting_at host cs run w s (Err (Refused c)) x j h = ap (λ o. answered_by host o []) h
+noting_at host cs run w s (Err Storage) x j h = h
+
 module _ (host : Host) (cs : List (Option Form)) (made : List (Option Val) → Run) (w u : State) (s k : ℕ) (past past' : List ℤ) where
   pub forms_stop : (stop : Stop) → ((vs : List (Option Val)) → leaves (made vs u 0) u 0) → EndsBefore host (forms_evaluated cs []) w s past
       stop u k past'
@@ -194,12 +213,12 @@ module _ (host : Host) (cs : List (Option Form)) (made : List (Option Val) → R
   made_then vs t h = ap (answered_by host (forms_evaluated cs [] made w (h.0 + t))) (sym (append-nil h.1)) ∙ h.4 made t []
 
   pub forms_go_on : (vs : List (Option Val)) (r : Result Value Stop) (x : State) (j : ℕ) → GoesOn host (forms_evaluated cs []) w s past vs u
-      k past' → Answers (made vs) u k r x j
+      k past' → AnswersAt host (made vs) u k r x j
       → AnswersWith host (forms_evaluated cs [] made) w s past r x j past'
   forms_go_on vs (Ok v) x j h a =
-      (h.1, h.3, ap (λ i. answered_by host (forms_evaluated cs [] made w i) h.1) h.2 ∙ made_then vs k h ∙ ap (λ o. answered_by host o []) a)
+      (h.1, h.3, ap (λ i. answered_by host (forms_evaluated cs [] made w i) h.1) h.2 ∙ made_then vs k h ∙ a)
   forms_go_on vs (Err (Refused c)) x j h a =
-      (h.1, h.3, ap (λ i. answered_by host (forms_evaluated cs [] made w i) h.1) h.2 ∙ made_then vs k h ∙ ap (λ o. answered_by host o []) a)
+      (h.1, h.3, ap (λ i. answered_by host (forms_evaluated cs [] made w i) h.1) h.2 ∙ made_then vs k h ∙ a)
   forms_go_on vs (Err Storage) x j h a =
       let y : leaves_by host (made vs u a.0) [] x 0 = quiet_answered host (made vs u a.0) x 0 a.2 in (
         h.1,
@@ -208,3 +227,11 @@ module _ (host : Host) (cs : List (Option Form)) (made : List (Option Val) → R
         h.2 ∙ ap (λ i. h.0 + i) a.1 ∙ sym (add_assoc h.0 a.0 j),
         (y.0, made_then vs a.0 h ∙ y.1, y.2),
       )
+
+-- the same of a run by itself
+pub noting_with : (host : Host) (cs : List Change) (run : Run) (w : State) (s : ℕ) (past : List ℤ) (r : Result Value Stop) (x : State) (j : ℕ)
+    → AnswersNoting cs run w s r x j → AnswersWith host run w s past r x j past
+noting_with host cs run w s past (Ok v) x j h = ([], sym (append-nil past), ap (λ o. answered_by host o []) h)
+noting_with host cs run w s past (Err (Refused c)) x j h = ([], sym (append-nil past), ap (λ o. answered_by host o []) h)
+noting_with host cs run w s past (Err Storage) x j h =
+    ([], sym (append-nil past), h.0, h.1, quiet_answered host (run w h.0) x 0 h.2)

@@ -10,11 +10,12 @@ use Rattle.clos_machine.specs.clos_world.clos_generic.Table.{number}
 use Rattle.clos_syntax.specs.declared.class.ClassDefinition.{ClassDefinition}
 use Rattle.clos_syntax.specs.declared.generic.GenericDefinition.{GenericDefinition}
 use Rattle.clos_syntax.specs.declared.method.MethodDefinition.{MethodDefinition}
+use Rattle.clos_machine.specs.clos_world.clos_cache.Cache.{Change}
 use Rattle.clos_machine.specs.clos_world.World.{State}
 use Rattle.clos_machine.specs.clos_world.declared.condition.Condition.{Condition}
-use Rattle.clos_definition.specs.Class.{cells_needed, class_number, class_refusal, initforms, with_defined_class}
-use Rattle.clos_definition.specs.Generic.{eql_forms, generic_refusal, with_defined_generic}
-use Rattle.clos_definition.specs.Method.{eql_form, method_refusal, with_defined_method}
+use Rattle.clos_definition.specs.Class.{cells_needed, class_concerned, class_number, class_refusal, initforms, with_defined_class}
+use Rattle.clos_definition.specs.Generic.{eql_forms, generic_concerned, generic_refusal, with_defined_generic}
+use Rattle.clos_definition.specs.Method.{eql_form, method_concerned, method_refusal, with_defined_method}
 use Rattle.clos_definition.specs.Removal.{removable}
 use Rattle.clos_machine.specs.clos_meaning.Outcome.{Out, Run, leaves}
 use Rattle.clos_definition_forms.specs.Combination.{define_combination}
@@ -26,13 +27,13 @@ pub unless_quiet : (o : Option Condition) (go : Run) (w : State) → leaves (go 
 unless_quiet None go w h = h
 unless_quiet (Some c) go w h = (refl, refl)
 
-pub effect_quiet : (o : Option Condition) (v : Val) (u w : State) → leaves (unless o (takes_effect v u) w 0) w 0
-effect_quiet o v u w = unless_quiet o (takes_effect v u) w (refl, refl)
+pub effect_quiet : (o : Option Condition) (cs : List Change) (v : Val) (u w : State) → leaves (unless o (takes_effect cs v u) w 0) w 0
+effect_quiet o cs v u w = unless_quiet o (takes_effect cs v u) w (refl, refl)
 
 -- ---- defmethod
 
 pub method_made_quiet : (name : FunctionName) (m : MethodDefinition) (vs : List (Option Val)) (w : State) → leaves (method_made name m vs w 0) w 0
-method_made_quiet name m vs w = effect_quiet (method_refusal name m (Some vs) w) (method (length w.generics.methods)) (with_defined_method name m vs w) w
+method_made_quiet name m vs w = effect_quiet (method_refusal name m (Some vs) w) (method_concerned name m vs w) (method (length w.generics.methods)) (with_defined_method name m vs w) w
 
 pub method_forms_quiet : (name : FunctionName) (m : MethodDefinition) (w : State) → w.locals ≡ [] → leaves (forms_evaluated (map eql_form m.specializers) [] (method_made name m) w 0) w 0
 method_forms_quiet name m w e = forms_quiet (map eql_form m.specializers) [] (method_made name m) w e (λ vs. method_made_quiet name m vs w)
@@ -44,7 +45,7 @@ define_method_quiet name m w e =
 -- ---- defgeneric
 
 pub generic_made_quiet : (d : GenericDefinition) (vs : List (Option Val)) (w : State) → leaves (generic_made d vs w 0) w 0
-generic_made_quiet d vs w = effect_quiet (generic_refusal d (Some vs) w) (generic (number w.generics d.name)) (with_defined_generic d vs w) w
+generic_made_quiet d vs w = effect_quiet (generic_refusal d (Some vs) w) (generic_concerned d vs w) (generic (number w.generics d.name)) (with_defined_generic d vs w) w
 
 pub generic_forms_quiet : (d : GenericDefinition) (w : State) → w.locals ≡ [] → leaves (forms_evaluated (eql_forms d.methods) [] (generic_made d) w 0) w 0
 generic_forms_quiet d w e = forms_quiet (eql_forms d.methods) [] (generic_made d) w e (λ vs. generic_made_quiet d vs w)
@@ -55,7 +56,7 @@ define_generic_quiet d w e = unless_quiet (generic_refusal d None w) (forms_eval
 -- ---- defclass
 
 pub class_made_quiet : (d : ClassDefinition) (vs : List (Option Val)) (w : State) → leaves (class_made d vs w 0) w 0
-class_made_quiet d vs w = effect_quiet (class_refusal d (length vs) w) (class (class_number d w)) (with_defined_class d vs w) w
+class_made_quiet d vs w = effect_quiet (class_refusal d (length vs) w) (class_concerned d vs w) (class (class_number d w)) (with_defined_class d vs w) w
 
 pub class_forms_quiet : (d : ClassDefinition) (fs : List (Option Form)) (w : State) → w.locals ≡ [] → leaves (forms_evaluated fs [] (class_made d) w 0) w 0
 class_forms_quiet d fs w e = forms_quiet fs [] (class_made d) w e (λ vs. class_made_quiet d vs w)

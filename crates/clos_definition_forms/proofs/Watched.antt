@@ -1,9 +1,8 @@
 -- Dependents that are added or taken out, and why they are not.
 use Rattle.std.proofs.Common.{◌≡◌, ℕ, List, Option, Result, Ok, Err, refl, ap, sym, ◌∙◌, subst}
-use Rattle.std.specs.Prelude.{OnErr, OnOk, true}
+use Rattle.std.specs.Prelude.{OnErr, OnOk}
 use Rattle.lisp_data.specs.Value.{Val}
 use Rattle.lisp_data.specs.declared.value.Value.{Value}
-use Rattle.lisp_prims.specs.Primitive.{truth}
 use Rattle.clos_watch.specs.Watching.{Watched, watching}
 use Rattle.clos_watch.specs.declared.notice.Metaobject.{Metaobject}
 use Rattle.clos_machine.specs.clos_world.Hearing.{Hearing, hearing_of}
@@ -15,8 +14,8 @@ use Rattle.clos_machine.specs.clos_world.World.{State}
 use Rattle.clos_machine.specs.clos_world.declared.condition.Condition.{Condition}
 use Rattle.clos_machine.specs.clos_world.declared.condition.Stop.{Stop}
 use Rattle.clos_machine.specs.clos_world.declared.condition.Stop.TheVariants.{Refused, Storage}
-use Rattle.clos_definition_forms.specs.Definition.{takes_effect, value_at}
-use Rattle.clos_definition_forms.specs.Dependents.{FindsWatched, change_of, changed_if, values_watched, watched, with_change}
+use Rattle.clos_definition_forms.specs.Definition.{value_at}
+use Rattle.clos_definition_forms.specs.Dependents.{FindsWatched, change_of, changed_if, takes_step, values_watched, watched, with_change}
 use Rattle.clos_definition_forms.specs.declared.dependents.Change.{Change}
 use Rattle.clos_definition_forms.proofs.Defining.{answers_same, storage_at}
 
@@ -44,13 +43,17 @@ module _ (c : Change) (vs : List (Option Val)) (w : State) (s : ℕ) where
       (subst (λ x. FindsWatched (watched w.hearing.names m x) (Err stop)) q h))
 
   pub is_changed : (m d : Val) (o : Metaobject) (n j : ℕ) (u : State) (r : Result Value Stop) → m ≡ value_at vs 0 → d ≡ value_at vs 1
-      → watched w.hearing.names m d ≡ Ok (o, n) → Answers (takes_effect (truth true) (with_change c o n w)) w s r u j
+      → watched w.hearing.names m d ≡ Ok (o, n) → Answers (takes_step (with_change c o n w)) w s r u j
       → Answers (values_watched c vs) w s r u j
   is_changed m d o n j u r e q h a =
       let p : watched w.hearing.names (value_at vs 0) (value_at vs 1) ≡ Ok (o, n) =
       ap (λ x. watched w.hearing.names x (value_at vs 1)) (sym e) ∙ ap (watched w.hearing.names m) (sym q) ∙ h in
-      answers_same (takes_effect (truth true) (with_change c o n w)) (values_watched c vs) w s r u j
+      answers_same (takes_step (with_change c o n w)) (values_watched c vs) w s r u j
       (λ i. sym (ap (λ x. changed_if c x w i) p)) a
+
+-- no memory for the change
+pub change_not_made : (t w u : State) (s : ℕ) → u ≡ w → Answers (takes_step t) w s (Err Storage) u s
+change_not_made t w u s e = subst (λ x. Answers (takes_step t) w s (Err Storage) x s) (sym e) (storage_at (takes_step t) w s (refl, refl))
 
 -- ---- what is changed
 

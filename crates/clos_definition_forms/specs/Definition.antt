@@ -1,7 +1,9 @@
 -- What definition forms do (HyperSpec 7.7): all checks come first, then the forms that are evaluated, then the checks again, now with
 -- their values, and last one step for the whole of the effect.
-use Rattle.std.specs.Prelude.{ℕ, List, [], ◌∷◌, length, map, slice_get, Option, Some, None, Result, Ok, Err}
+use Rattle.std.specs.Prelude.{◌≡◌, ℕ, ◌+◌, List, [], ◌∷◌, length, map, slice_get, Option, Some, None, Result, Ok, Err}
 use Rattle.lisp_data.specs.Value.{Val, class, generic, list, method, nil}
+use Rattle.lisp_data.specs.ValueView.{value_of}
+use Rattle.lisp_data.specs.declared.value.Value.{Value}
 use Rattle.clos_forms.specs.Form.{Form}
 use Rattle.clos_forms.specs.declared.operator.FunctionName.{FunctionName}
 use Rattle.clos_machine.specs.clos_world.clos_generic.Table.{number}
@@ -10,11 +12,14 @@ use Rattle.clos_syntax.specs.declared.generic.GenericDefinition.{GenericDefiniti
 use Rattle.clos_syntax.specs.declared.method.MethodDefinition.{MethodDefinition}
 use Rattle.clos_machine.specs.clos_world.World.{State}
 use Rattle.clos_machine.specs.clos_world.declared.condition.Condition.{Condition}
-use Rattle.clos_definition.specs.Class.{cells_needed, class_number, class_refusal, initforms, with_defined_class}
-use Rattle.clos_definition.specs.Generic.{eql_forms, generic_refusal, with_defined_generic}
-use Rattle.clos_definition.specs.Method.{eql_form, method_refusal, with_defined_method}
-use Rattle.clos_definition.specs.Removal.{removable, with_removed}
-use Rattle.clos_machine.specs.clos_meaning.Outcome.{Gave, Run, Stopped, step_then}
+use Rattle.clos_definition.specs.Class.{cells_needed, class_concerned, class_number, class_refusal, initforms, with_defined_class}
+use Rattle.clos_definition.specs.Generic.{eql_forms, generic_concerned, generic_refusal, with_defined_generic}
+use Rattle.clos_definition.specs.Method.{eql_form, method_concerned, method_refusal, with_defined_method}
+use Rattle.clos_definition.specs.Removal.{concerned_by_removal, removable, with_removed}
+use Rattle.clos_machine.specs.clos_meaning.Outcome.{Gave, Noted, Run, Stopped, changed, leaves, step_then}
+use Rattle.clos_machine.specs.clos_world.clos_cache.Cache.{Change}
+use Rattle.clos_machine.specs.clos_world.declared.condition.Stop.{Stop}
+use Rattle.clos_machine.specs.clos_world.declared.condition.Stop.TheVariants.{Refused, Storage}
 use Rattle.clos_definition_forms.specs.Forms.{forms_evaluated}
 
 -- it goes on where nothing is wrong
@@ -22,16 +27,22 @@ abbrev pub unless : Option Condition → Run → Run
 unless None go w k = go w k
 unless (Some c) go w k = Stopped c w k
 
--- one step, after which the state is this
-abbrev pub takes_effect : Val → State → Run
-takes_effect value u = step_then (λ w k. Gave value u k)
+-- one step, after which the state is this; what it concerns of the calls is noted
+abbrev pub takes_effect : List Change → Val → State → Run
+takes_effect concerned value u = step_then (λ w k. Noted (changed w concerned) (Gave value u k))
+
+-- The run notes that this is concerned, and gives the value; or it stops, and notes nothing.
+abbrev pub AnswersNoting : List Change → Run → State → ℕ → Result Value Stop → State → ℕ → Type 0
+AnswersNoting concerned run w s (Ok v) w' s' = run w s ≡ Noted (changed w concerned) (Gave (value_of v) w' s')
+AnswersNoting concerned run w s (Err (Refused c)) w' s' = run w s ≡ Stopped c w' s'
+AnswersNoting concerned run w s (Err Storage) w' s' = (k : ℕ) × (s ≡ k + s') × leaves (run w k) w' 0
 
 -- ---- defmethod
 
 -- with the values of the eql forms, which may refuse it too; the method is given
 abbrev pub method_made : FunctionName → MethodDefinition → List (Option Val) → Run
 method_made name m vs w k =
-    unless (method_refusal name m (Some vs) w) (takes_effect (method (length w.generics.methods)) (with_defined_method name m vs w)) w k
+    unless (method_refusal name m (Some vs) w) (takes_effect (method_concerned name m vs w) (method (length w.generics.methods)) (with_defined_method name m vs w)) w k
 
 -- the eql forms are evaluated only where nothing stands against it without their values
 abbrev pub define_method : FunctionName → MethodDefinition → Run
@@ -42,7 +53,7 @@ define_method name m w k = unless (method_refusal name m None w) (forms_evaluate
 -- with the values of the eql forms of its own methods; the generic function is given
 abbrev pub generic_made : GenericDefinition → List (Option Val) → Run
 generic_made d vs w k =
-    unless (generic_refusal d (Some vs) w) (takes_effect (generic (number w.generics d.name)) (with_defined_generic d vs w)) w k
+    unless (generic_refusal d (Some vs) w) (takes_effect (generic_concerned d vs w) (generic (number w.generics d.name)) (with_defined_generic d vs w)) w k
 
 -- the eql forms of its :method options, in order, where nothing stands against it without their values
 abbrev pub define_generic : GenericDefinition → Run
@@ -52,7 +63,7 @@ define_generic d w k = unless (generic_refusal d None w) (forms_evaluated (eql_f
 
 -- with the values of the initforms of its shared slots, evaluated this once; the class is given
 abbrev pub class_made : ClassDefinition → List (Option Val) → Run
-class_made d vs w k = unless (class_refusal d (length vs) w) (takes_effect (class (class_number d w)) (with_defined_class d vs w)) w k
+class_made d vs w k = unless (class_refusal d (length vs) w) (takes_effect (class_concerned d vs w) (class (class_number d w)) (with_defined_class d vs w)) w k
 
 -- A new class, of whose direct superclasses some may not be defined yet; or one that is defined, and is defined again (4.3.6).
 abbrev pub define_class : ClassDefinition → Run
@@ -63,7 +74,7 @@ define_class d w k = unless (class_refusal d (length (cells_needed d w)) w) (for
 -- the function is given, also where the method is not one of its own
 abbrev pub removed_if : Val → Result (ℕ × ℕ) Condition → Run
 removed_if function (Err c) w k = Stopped c w k
-removed_if function (Ok p) w k = takes_effect function (with_removed p.0 p.1 w) w k
+removed_if function (Ok p) w k = takes_effect (concerned_by_removal p.0 p.1 w.generics) function (with_removed p.0 p.1 w) w k
 
 -- a value of a wrong type, or a method of the system, is a condition, and takes no step
 abbrev pub method_removed : Val → Val → Run
@@ -82,6 +93,14 @@ value_at vs n = object_in (slice_get vs n)
 -- the value of the first form is the function, that of the second the method
 abbrev pub values_removed : List (Option Val) → Run
 values_removed vs w k = method_removed (value_at vs 0) (value_at vs 1) w k
+
+-- the calls that it concerns
+abbrev pub concerned_if : Result (ℕ × ℕ) Condition → State → List Change
+concerned_if (Err c) w = []
+concerned_if (Ok p) w = concerned_by_removal p.0 p.1 w.generics
+
+abbrev pub values_concerned : List (Option Val) → State → List Change
+values_concerned vs w = concerned_if (removable (value_at vs 0) (value_at vs 1)) w
 
 -- from left to right, each form by itself
 abbrev pub remove_method : Form → Form → Run

@@ -6,7 +6,7 @@ use Rattle.lisp_prims.specs.Primitive.{truth}
 use Rattle.clos_forms.specs.Form.{Form}
 use Rattle.clos_forms.specs.Quotation.{name_value}
 use Rattle.clos_machine.specs.clos_meaning.ClassFunctions.{symbol_in, wrong_type}
-use Rattle.clos_machine.specs.clos_meaning.Outcome.{Run, Stopped}
+use Rattle.clos_machine.specs.clos_meaning.Outcome.{Gave, Run, Stopped, step_then}
 use Rattle.clos_machine.specs.clos_world.World.{State}
 use Rattle.clos_machine.specs.clos_world.declared.condition.Condition.{Condition}
 use Rattle.clos_machine.specs.clos_world.declared.condition.ConditionKind.TheVariants.{UnknownDependent}
@@ -16,7 +16,7 @@ use Rattle.clos_watch.specs.Handed.{place_of}
 use Rattle.clos_watch.specs.Watching.{Watching, with_dependent, without_dependent}
 use Rattle.clos_watch.specs.declared.notice.Metaobject.{Metaobject}
 use Rattle.clos_watch.specs.declared.notice.Metaobject.TheVariants.{Class, Generic}
-use Rattle.clos_definition_forms.specs.Definition.{takes_effect, value_at}
+use Rattle.clos_definition_forms.specs.Definition.{value_at}
 use Rattle.clos_definition_forms.specs.Forms.{forms_evaluated}
 use Rattle.clos_definition_forms.specs.declared.dependents.Change.{Change}
 use Rattle.clos_definition_forms.specs.declared.dependents.Change.TheVariants.{Add, Remove}
@@ -72,10 +72,14 @@ change_of Remove m p w = without_dependent m p w
 abbrev pub with_change : Change → Metaobject → ℕ → State → State
 with_change c m p w = record w { hearing = record w.hearing { watching = change_of c m p w.hearing.watching } }
 
+-- one step, after which the state is this; T is given
+abbrev pub takes_step : State → Run
+takes_step u = step_then (λ w k. Gave (truth true) u k)
+
 -- T is given, also where nothing is changed
 abbrev pub changed_if : Change → Result (Metaobject × ℕ) Condition → Run
 changed_if change (Err c) w k = Stopped c w k
-changed_if change (Ok p) w k = takes_effect (truth true) (with_change change p.0 p.1 w) w k
+changed_if change (Ok p) w k = takes_step (with_change change p.0 p.1 w) w k
 
 -- the value of the first form is the metaobject, that of the second names the dependent
 abbrev pub values_watched : Change → List (Option Val) → Run

@@ -4,14 +4,13 @@ ghost use Rattle.std.specs.Prelude.{◌≡◌, [], ◌∷◌, None, Some, IfOk, 
 ghost use Rattle.lisp_data.specs.ValueView.{value_of};
 ghost use Rattle.clos_machine.specs.clos_world.World.{seen};
 ghost use Rattle.lisp_data.specs.Value.{class};
-ghost use Rattle.clos_definition.specs.Class.{class_notices, class_refusal, initforms, noting, with_class};
-ghost use Rattle.clos_definition.specs.Effect.{IsReserved, with_effect};
-ghost use Rattle.clos_definition.specs.Generic.{eql_forms};
-ghost use Rattle.clos_definition.specs.Method.{eql_form};
-ghost use Rattle.clos_definition.specs.Removal.{with_removed};
-ghost use Rattle.clos_machine.specs.Machine.{Answers};
+ghost use Rattle.clos_definition.specs.Class.{class_concerned, class_concerned_by, class_notices, class_refusal, initforms, noting, with_class};
+ghost use Rattle.clos_definition.specs.Effect.{IsReserved, concerned_by, with_effect};
+ghost use Rattle.clos_definition.specs.Generic.{eql_forms, generic_concerned};
+ghost use Rattle.clos_definition.specs.Method.{eql_form, method_concerned};
+ghost use Rattle.clos_definition.specs.Removal.{concerned_by_removal, with_removed};
 ghost use Rattle.clos_eval.specs.Host.{AnswersBy};
-ghost use Rattle.clos_definition_forms.specs.Definition.{class_made, define_class, define_generic, define_method, generic_made, method_made, remove_method, takes_effect, value_at, values_removed};
+ghost use Rattle.clos_definition_forms.specs.Definition.{AnswersNoting, class_made, define_class, define_generic, define_method, generic_made, method_made, remove_method, takes_effect, value_at, values_concerned, values_removed};
 ghost use Rattle.clos_definition_forms.specs.Forms.{forms_evaluated};
 ghost use Rattle.clos_definition_forms.specs.Hearing.{Heard};
 
@@ -96,7 +95,7 @@ fn make_method<D: Dependents>(
     values: &[Slot],
     steps: &mut u64,
 ) -> Result<Value, Stop>
-    ensures answers { Answers (method_made name definition values.now) (seen world.old) steps.old result (seen world.new) steps.new }
+    ensures answers { AnswersNoting (method_concerned name definition values.now (seen world.old)) (method_made name definition values.now) (seen world.old) steps.old result (seen world.new) steps.new }
     ensures heard { Heard (D.told dependents.old) (seen world.old) (D.told dependents.new) (seen world.new) }
     ensures names { D.names dependents.new ≡ D.names dependents.old }
 {
@@ -166,7 +165,7 @@ fn make_generic<D: Dependents>(
     values: &[Slot],
     steps: &mut u64,
 ) -> Result<Value, Stop>
-    ensures answers { Answers (generic_made definition values.now) (seen world.old) steps.old result (seen world.new) steps.new }
+    ensures answers { AnswersNoting (generic_concerned definition values.now (seen world.old)) (generic_made definition values.now) (seen world.old) steps.old result (seen world.new) steps.new }
     ensures heard { Heard (D.told dependents.old) (seen world.old) (D.told dependents.new) (seen world.new) }
     ensures names { D.names dependents.new ≡ D.names dependents.old }
 {
@@ -187,7 +186,7 @@ fn take_effect<D: Dependents>(
     steps: &mut u64,
 ) -> Result<Value, Stop>
     requires { IsReserved effect world.old.generics }
-    ensures answers { Answers (takes_effect (value_of value) (with_effect effect (seen world.old))) (seen world.old) steps.old result (seen world.new) steps.new }
+    ensures answers { AnswersNoting (concerned_by effect (seen world.old).generics) (takes_effect (concerned_by effect (seen world.old).generics) (value_of value) (with_effect effect (seen world.old))) (seen world.old) steps.old result (seen world.new) steps.new }
     ensures heard { Heard (D.told dependents.old) (seen world.old) (D.told dependents.new) (seen world.new) }
     ensures names { D.names dependents.new ≡ D.names dependents.old }
 {
@@ -299,7 +298,7 @@ fn make_checked_class<D: Dependents>(
     values: Vec<Slot>,
     steps: &mut u64,
 ) -> Result<Value, Stop>
-    ensures answers { Answers (class_made definition.now values.items) (seen world.old) steps.old result (seen world.new) steps.new }
+    ensures answers { AnswersNoting (class_concerned definition.now values.items (seen world.old)) (class_made definition.now values.items) (seen world.old) steps.old result (seen world.new) steps.new }
     ensures heard { Heard (D.told dependents.old) (seen world.old) (D.told dependents.new) (seen world.new) }
     ensures names { D.names dependents.new ≡ D.names dependents.old }
 {
@@ -326,7 +325,7 @@ fn make_prepared_class<D: Dependents>(
 ) -> Result<Value, Stop>
     requires allowed { class_refusal definition.now (length values.items) (seen world.old) ≡ None }
     requires reserved { IsReserved accessors world.old.generics }
-    ensures answers { Answers (takes_effect (class id.0) (with_class definition.now values.items (with_effect accessors (noting (class_notices definition.now (seen world.old)) (seen world.old))))) (seen world.old) steps.old result (seen world.new) steps.new }
+    ensures answers { AnswersNoting (class_concerned_by definition.now values.items accessors (seen world.old)) (takes_effect (class_concerned_by definition.now values.items accessors (seen world.old)) (class id.0) (with_class definition.now values.items (with_effect accessors (noting (class_notices definition.now (seen world.old)) (seen world.old))))) (seen world.old) steps.old result (seen world.new) steps.new }
     ensures heard { Heard (D.told dependents.old) (seen world.old) (D.told dependents.new) (seen world.new) }
     ensures names { D.names dependents.new ≡ D.names dependents.old }
 {
@@ -395,7 +394,7 @@ fn remove_evaluated<D: Dependents>(
     values: &[Slot],
     steps: &mut u64,
 ) -> Result<Value, Stop>
-    ensures answers { Answers (values_removed values.now) (seen world.old) steps.old result (seen world.new) steps.new }
+    ensures answers { AnswersNoting (values_concerned values.now (seen world.old)) (values_removed values.now) (seen world.old) steps.old result (seen world.new) steps.new }
     ensures heard { Heard (D.told dependents.old) (seen world.old) (D.told dependents.new) (seen world.new) }
     ensures names { D.names dependents.new ≡ D.names dependents.old }
 {
@@ -421,7 +420,7 @@ fn take_out<D: Dependents>(
     function: Value,
     steps: &mut u64,
 ) -> Result<Value, Stop>
-    ensures answers { Answers (takes_effect (value_of function) (with_removed generic.0 method.0 (seen world.old))) (seen world.old) steps.old result (seen world.new) steps.new }
+    ensures answers { AnswersNoting (concerned_by_removal generic.0 method.0 (seen world.old).generics) (takes_effect (concerned_by_removal generic.0 method.0 (seen world.old).generics) (value_of function) (with_removed generic.0 method.0 (seen world.old))) (seen world.old) steps.old result (seen world.new) steps.new }
     ensures heard { Heard (D.told dependents.old) (seen world.old) (D.told dependents.new) (seen world.new) }
     ensures names { D.names dependents.new ≡ D.names dependents.old }
 {

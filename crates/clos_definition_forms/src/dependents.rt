@@ -6,8 +6,7 @@ ghost use Rattle.clos_machine.specs.Machine.{Answers};
 ghost use Rattle.clos_machine.specs.clos_meaning.ClassFunctions.{symbol_in};
 ghost use Rattle.clos_machine.specs.clos_world.World.{seen};
 ghost use Rattle.clos_eval.specs.Host.{AnswersBy};
-ghost use Rattle.clos_definition_forms.specs.Definition.{takes_effect};
-ghost use Rattle.clos_definition_forms.specs.Dependents.{FindsNamed, FindsWatched, change_dependents, dependent_named, metaobject_in, values_watched, watched, with_change};
+ghost use Rattle.clos_definition_forms.specs.Dependents.{FindsNamed, FindsWatched, change_dependents, dependent_named, metaobject_in, takes_step, values_watched, watched, with_change};
 
 use crate::definition::{both, value_or_nil};
 use crate::forms::evaluate_forms;
@@ -127,7 +126,7 @@ fn change_at(
     place: usize,
     steps: &mut u64,
 ) -> Result<Value, Stop>
-    ensures { Answers (takes_effect (truth true) (with_change change metaobject place (seen world.old))) (seen world.old) steps.old result
+    ensures { Answers (takes_step (with_change change metaobject place (seen world.old))) (seen world.old) steps.old result
         (seen world.new) steps.new }
 {
     if *steps == 0 {

@@ -1,5 +1,6 @@
 -- Calls of stored functions, as turns of the machine.
 use Rattle.std.proofs.Common.{◌≡◌, ◌≢◌, ℕ, suc, true, List, [], ◌∷◌, ◌++◌, Option, Some, None, Result, Ok, Err, length, refl, ap, sym, subst, ◌∙◌, append_assoc}
+use Rattle.std.proofs.Common.{inl}
 use Rattle.std.specs.Prelude.{ℤ, if◌then◌else◌}
 use Rattle.std.proofs.lemmas.Bool.{ne_eqb}
 use Rattle.std.specs.Cmp.{unsigned_Decides}
@@ -14,6 +15,9 @@ use Rattle.clos_machine.specs.clos_meaning.Host.{Host, answered_by, may_answer}
 use Rattle.clos_machine.specs.clos_meaning.Meaning.{closed}
 use Rattle.clos_machine.specs.clos_meaning.Natives.{integer_in, integers_given, integers_in, with_first, native_called, native_named as named_native, native_found, native_sought}
 use Rattle.clos_machine.specs.clos_meaning.Outcome.{Asked, Gave, Looked, Out, Run, Signalled, Stopped}
+use Rattle.clos_machine.specs.clos_meaning.Uses.{after_notes, notes_by}
+use Rattle.clos_machine.specs.Uses.{Notes}
+use Rattle.clos_machine.specs.clos_world.clos_cache.Uses.{Uses}
 use Rattle.clos_machine.specs.clos_world.World.{State, unbound}
 use Rattle.clos_machine.specs.clos_world.declared.condition.Condition.{Condition}
 use Rattle.clos_machine.specs.clos_world.declared.condition.ConditionKind.TheVariants.{ProgramError, StepLimit, TypeError, UnknownNative}
@@ -23,6 +27,7 @@ use Rattle.clos_machine.specs.declared.machine.Doing.TheVariants.{Give, Native}
 use Rattle.clos_machine.specs.declared.machine.Machine.{Machine}
 use Rattle.clos_machine.proofs.Runs.{one_more}
 use Rattle.clos_machine.proofs.Turns.{asked_through, looked_through, stopped_through}
+use Rattle.clos_machine.proofs.Uses.{none_made}
 use Rattle.clos_eval.specs.Host.{takes_in}
 use Rattle.clos_eval.specs.Natives.{Calls, NotIntegers, Passes, StopsAt, Tells}
 
@@ -30,21 +35,28 @@ use Rattle.clos_eval.specs.Natives.{Calls, NotIntegers, Passes, StopsAt, Tells}
 
 passes_asked : (host : Host) (name : Name) (xs : List ℤ) (more : ℤ → Out) (x : ℤ) → may_answer (host name) xs x ≡ true
     → Passes host (Asked name xs more) x (more x)
-passes_asked host name xs more x h = λ ls env rest.
-    ap (λ o. answered_by host (closed o) (x ∷ rest)) (asked_through ls env name xs more)
-    ∙ ap (λ b. if b then answered_by host (closed (resume ls env (more x))) rest else None) h
+passes_asked host name xs more x h = λ ls env rest. (
+  ap (λ o. answered_by host (closed o) (x ∷ rest)) (asked_through ls env name xs more)
+      ∙ ap (λ b. if b then answered_by host (closed (resume ls env (more x))) rest else None) h,
+  ap (λ o. notes_by host (closed o) (x ∷ rest)) (asked_through ls env name xs more),
+)
 
 passes_looked : (host : Host) (name : Name) (more : Option ℕ → Out) (x : ℤ) (o : Out) → Passes host (more (takes_in host name)) x o
     → Passes host (Looked name more) x o
-passes_looked host name more x o h = λ ls env rest. ap (λ p. answered_by host (closed p) (x ∷ rest)) (looked_through ls env name more)
-    ∙ h ls env rest
+passes_looked host name more x o h = λ ls env rest. (
+  ap (λ p. answered_by host (closed p) (x ∷ rest)) (looked_through ls env name more) ∙ (h ls env rest).0,
+  ap (λ p. notes_by host (closed p) (x ∷ rest)) (looked_through ls env name more) ∙ (h ls env rest).1,
+)
 
 stops_at : (host : Host) (c : Condition) (w : State) (s : ℕ) → StopsAt host (Stopped c w s) c w s
-stops_at host c w s = λ ls env. ap (λ o. answered_by host o []) (stopped_through ls env c w s)
+stops_at host c w s = λ ls env. (ap (λ o. answered_by host o []) (stopped_through ls env c w s), ap (λ o. notes_by host o []) (stopped_through ls env c w s))
 
 stops_looked : (host : Host) (name : Name) (more : Option ℕ → Out) (c : Condition) (w : State) (s : ℕ)
     → StopsAt host (more (takes_in host name)) c w s → StopsAt host (Looked name more) c w s
-stops_looked host name more c w s h = λ ls env. ap (λ p. answered_by host (closed p) []) (looked_through ls env name more) ∙ h ls env
+stops_looked host name more c w s h = λ ls env. (
+  ap (λ p. answered_by host (closed p) []) (looked_through ls env name more) ∙ (h ls env).0,
+  ap (λ p. notes_by host (closed p) []) (looked_through ls env name more) ∙ (h ls env).1,
+)
 
 -- ---- calls
 
@@ -199,13 +211,33 @@ asks_law host vs s past x v s' past' q h m w =
       x ∷ [],
       h.0 ∙ sym (one_more s'),
       h.1,
-      λ t more. sym (ap (λ k. answered_by host (denote m (Native vs) w k) (x ∷ more)) (one_more t) ∙ h.2 (at m w) t m.levels
-          m.context more),
+      λ t more. sym (ap (λ k. answered_by host (denote m (Native vs) w k) (x ∷ more)) (one_more t) ∙ (h.2 (at m w) t m.levels m.context more).0),
+    )
+
+pub notes_law : (host : Host) (vs : List Val) (s : ℕ) (past : List ℤ) (x : ℤ) (v : Value) (s' : ℕ) (past' : List ℤ) → v ≡ Int x
+    → Calls host (native_called vs) s past (Ok x) s' past'
+    → (m : Machine) (w : State) (u : Uses) → Notes host (denote m (Native vs)) w s past u (Ok (Give v)) m w s' past' u
+notes_law host vs s past x v s' past' q h m w u =
+    subst (λ y. Notes host (denote m (Native vs)) w s past u (Ok (Give y)) m w s' past' u) (sym q) (
+      1,
+      x ∷ [],
+      [],
+      h.0 ∙ sym (one_more s'),
+      h.1,
+      refl,
+      λ t more. ap (λ k. notes_by host (denote m (Native vs) w k) (x ∷ more)) (one_more t) ∙ (h.2 (at m w) t m.levels m.context more).1,
     )
 
 pub stops_law : (host : Host) (vs : List Val) (s : ℕ) (past : List ℤ) (stop : Stop) (s' : ℕ) (past' : List ℤ)
     → Calls host (native_called vs) s past (Err stop) s' past'
     → (m : Machine) (w : State) → Asks host (denote m (Native vs)) w s past (Err stop) m w s' past'
 stops_law host vs s past (Refused c) s' past' h m w =
-    (h.1, h.2 (at m w) m.levels m.context ∙ ap (λ k. Some (Signalled c (unbound w) k)) (sym h.0))
+    (h.1, (h.2 (at m w) m.levels m.context).0 ∙ ap (λ k. Some (Signalled c (unbound w) k)) (sym h.0))
 stops_law host vs s past Storage s' past' h m w = (h.1, refl, h.0)
+
+pub notes_stop : (host : Host) (vs : List Val) (s : ℕ) (past : List ℤ) (stop : Stop) (s' : ℕ) (past' : List ℤ)
+    → Calls host (native_called vs) s past (Err stop) s' past'
+    → (m : Machine) (w : State) (u : Uses) → Notes host (denote m (Native vs)) w s past u (Err stop) m w s' past' u
+notes_stop host vs s past (Refused c) s' past' h m w u = (h.1, ap (λ l. after_notes l u) (sym (h.2 (at m w) m.levels m.context).1))
+notes_stop host vs s past Storage s' past' h m w u =
+    (h.1, h.0, λ t. none_made (notes_by host (denote m (Native vs) w t) []) u u (record { kept = refl; built = inl refl }))

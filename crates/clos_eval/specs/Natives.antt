@@ -5,6 +5,7 @@ use Rattle.clos_machine.specs.Machine.{resume}
 use Rattle.clos_machine.specs.clos_meaning.Host.{Host, answered_by}
 use Rattle.clos_machine.specs.clos_meaning.Meaning.{closed}
 use Rattle.clos_machine.specs.clos_meaning.Outcome.{Gave, Out, Run, Signalled}
+use Rattle.clos_machine.specs.clos_meaning.Uses.{notes_by}
 use Rattle.clos_machine.specs.clos_meaning.declared.arguments.Context.{Context}
 use Rattle.clos_machine.specs.clos_world.World.{State, unbound}
 use Rattle.clos_machine.specs.clos_world.declared.condition.Condition.{Condition}
@@ -14,15 +15,18 @@ use Rattle.clos_machine.specs.clos_world.declared.condition.Stop.{Stop}
 use Rattle.clos_machine.specs.clos_world.declared.condition.Stop.TheVariants.{Refused, Storage}
 use Rattle.clos_machine.specs.declared.machine.Level.{Level}
 
--- with this answer it is this, whatever the levels of the machine do then
+-- with this answer it is this, whatever the levels of the machine do then, and notes as much
 abbrev pub Passes : Host → Out → ℤ → Out → Type 0
 Passes host o x o' =
-    (ls : List Level) (env : Context) (more : List ℤ) → answered_by host (closed (resume ls env o)) (x ∷ more) ≡ answered_by host
-    (closed (resume ls env o')) more
+    (ls : List Level) (env : Context) (more : List ℤ)
+    → (answered_by host (closed (resume ls env o)) (x ∷ more) ≡ answered_by host (closed (resume ls env o')) more)
+    × (notes_by host (closed (resume ls env o)) (x ∷ more) ≡ notes_by host (closed (resume ls env o')) more)
 
--- it stops before anything is asked
+-- it stops before anything is asked or noted
 abbrev pub StopsAt : Host → Out → Condition → State → ℕ → Type 0
-StopsAt host o c w s = (ls : List Level) (env : Context) → answered_by host (closed (resume ls env o)) [] ≡ Some (Signalled c (unbound w) s)
+StopsAt host o c w s =
+    (ls : List Level) (env : Context) → (answered_by host (closed (resume ls env o)) [] ≡ Some (Signalled c (unbound w) s))
+    × (notes_by host (closed (resume ls env o)) [] ≡ [])
 
 -- One answer came, in one step; or none, and no step was taken.
 abbrev pub Calls : Host → Run → ℕ → List ℤ → Result ℤ Stop → ℕ → List ℤ → Type 0

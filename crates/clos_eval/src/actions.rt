@@ -1,8 +1,10 @@
 //! Actions: what is called, set, read and changed with values that are there; and what methods do that have no forms.
 ghost use Rattle.std.specs.Prelude.{◌≤◌};
+ghost use Rattle.clos_machine.specs.clos_world.Uses.{uses_of};
 ghost use Rattle.clos_machine.specs.clos_world.World.{seen};
+ghost use Rattle.clos_machine.specs.Uses.{TurnsBy};
 ghost use Rattle.clos_machine.specs.clos_meaning.Functions.{called, place_read, place_set};
-ghost use Rattle.clos_machine.specs.Machine.{access_of, acted, act_weight, action_weight, perform_weight, performed, Shrinks, Turns, here, visited};
+ghost use Rattle.clos_machine.specs.Machine.{access_of, acted, act_weight, action_weight, perform_weight, performed, Shrinks, here, visited};
 
 use clos_calls::functions::{call, call_setter, compute};
 use clos_calls::next_methods::call_next_given;
@@ -25,7 +27,7 @@ use lisp_data::InstanceId;
 use std::alloc::Global;
 
 /// A function is called.
-#[tactic(auto, using(clos_machine::proofs::Turns::shrinks_by))]
+#[tactic(auto, using(clos_machine::proofs::Uses::turns_none, clos_machine::proofs::Uses::turns_none_of, clos_machine::proofs::Uses::turns_by, clos_machine::proofs::Turns::shrinks_by))]
 fn apply(
     alloc: Global,
     machine: &mut Machine,
@@ -34,7 +36,7 @@ fn apply(
     values: Values,
     steps: &mut u64,
 ) -> Result<Doing, Stop>
-    ensures turns { Turns (here machine.old (λ ev env. called ev env name.now values)) (seen world.old) steps.old result machine.new (seen world.new) steps.new }
+    ensures turns { TurnsBy (here machine.old (λ ev env. called ev env name.now values)) (seen world.old) steps.old (uses_of world.old) result machine.new (seen world.new) steps.new (uses_of world.new) }
     ensures small { Shrinks act_weight steps.old steps.new machine.old.levels result machine.new }
     ensures fewer { steps.new ≤ steps.old }
 {
@@ -57,7 +59,7 @@ fn apply(
 }
 
 /// A place is set with its arguments and the new value.
-#[tactic(auto, using(crate::proofs::Calling::turns_of_call, clos_machine::proofs::Turns::shrinks_by))]
+#[tactic(auto, using(clos_machine::proofs::Uses::turns_none, clos_machine::proofs::Uses::turns_none_of, clos_machine::proofs::Uses::turns_by, clos_machine::proofs::Turns::shrinks_by))]
 fn set_place(
     alloc: Global,
     machine: &mut Machine,
@@ -66,7 +68,7 @@ fn set_place(
     values: Values,
     steps: &mut u64,
 ) -> Result<Doing, Stop>
-    ensures turns { Turns (here machine.old (λ ev env. place_set ev env (access_of target.now) values)) (seen world.old) steps.old result machine.new (seen world.new) steps.new }
+    ensures turns { TurnsBy (here machine.old (λ ev env. place_set ev env (access_of target.now) values)) (seen world.old) steps.old (uses_of world.old) result machine.new (seen world.new) steps.new (uses_of world.new) }
     ensures small { Shrinks act_weight steps.old steps.new machine.old.levels result machine.new }
     ensures fewer { steps.new ≤ steps.old }
 {
@@ -77,7 +79,7 @@ fn set_place(
 }
 
 /// A place is read with its arguments.
-#[tactic(auto, using(clos_machine::proofs::Turns::shrinks_by))]
+#[tactic(auto, using(clos_machine::proofs::Uses::turns_none, clos_machine::proofs::Uses::turns_none_of, clos_machine::proofs::Uses::turns_by, clos_machine::proofs::Turns::shrinks_by))]
 fn read_place(
     alloc: Global,
     machine: &mut Machine,
@@ -86,7 +88,7 @@ fn read_place(
     values: Values,
     steps: &mut u64,
 ) -> Result<Doing, Stop>
-    ensures turns { Turns (here machine.old (λ ev env. place_read ev env (access_of target.now) values)) (seen world.old) steps.old result machine.new (seen world.new) steps.new }
+    ensures turns { TurnsBy (here machine.old (λ ev env. place_read ev env (access_of target.now) values)) (seen world.old) steps.old (uses_of world.old) result machine.new (seen world.new) steps.new (uses_of world.new) }
     ensures small { Shrinks act_weight steps.old steps.new machine.old.levels result machine.new }
     ensures fewer { steps.new ≤ steps.old }
 {
@@ -106,7 +108,7 @@ fn read_place(
 }
 
 /// A method without forms runs on these arguments.
-#[tactic(auto, using(crate::proofs::Calling::shrinks_more))]
+#[tactic(auto, using(clos_machine::proofs::Uses::turns_none, clos_machine::proofs::Uses::turns_none_of, clos_machine::proofs::Uses::turns_by, crate::proofs::Calling::shrinks_more))]
 pub fn perform(
     alloc: Global,
     machine: &mut Machine,
@@ -115,7 +117,7 @@ pub fn perform(
     arguments: &Arguments,
     steps: &mut u64,
 ) -> Result<Doing, Stop>
-    ensures turns { Turns (here machine.old (λ ev env. performed ev env method arguments.now)) (seen world.old) steps.old result machine.new (seen world.new) steps.new }
+    ensures turns { TurnsBy (here machine.old (λ ev env. performed ev env method arguments.now)) (seen world.old) steps.old (uses_of world.old) result machine.new (seen world.new) steps.new (uses_of world.new) }
     ensures small { Shrinks perform_weight steps.old steps.new machine.old.levels result machine.new }
     ensures fewer { steps.new ≤ steps.old }
 {
@@ -133,7 +135,7 @@ pub fn perform(
 }
 
 /// This is done with an instance, which is up to date.
-#[tactic(auto, using(clos_machine::proofs::Runs::turns_of_leads, clos_machine::proofs::Turns::shrinks_by, crate::proofs::Calling::shrinks_more))]
+#[tactic(auto, using(clos_machine::proofs::Uses::turns_none, clos_machine::proofs::Uses::turns_none_of, clos_machine::proofs::Uses::turns_by, clos_machine::proofs::Turns::shrinks_by, crate::proofs::Calling::shrinks_more))]
 fn visit(
     alloc: Global,
     machine: &mut Machine,
@@ -142,7 +144,7 @@ fn visit(
     visit: Visit,
     steps: &mut u64,
 ) -> Result<Doing, Stop>
-    ensures turns { Turns (here machine.old (λ ev env. visited ev env id.0 visit)) (seen world.old) steps.old result machine.new (seen world.new) steps.new }
+    ensures turns { TurnsBy (here machine.old (λ ev env. visited ev env id.0 visit)) (seen world.old) steps.old (uses_of world.old) result machine.new (seen world.new) steps.new (uses_of world.new) }
     ensures small { Shrinks perform_weight steps.old steps.new machine.old.levels result machine.new }
     ensures fewer { steps.new ≤ steps.old }
 {
@@ -159,7 +161,7 @@ fn visit(
 }
 
 /// An action is done with its values.
-#[tactic(auto, using(clos_machine::proofs::Runs::turns_of_leads, clos_machine::proofs::Turns::shrinks_by, crate::proofs::Calling::shrinks_more))]
+#[tactic(auto, using(clos_machine::proofs::Uses::turns_none, clos_machine::proofs::Uses::turns_none_of, clos_machine::proofs::Uses::turns_by, clos_machine::proofs::Turns::shrinks_by, crate::proofs::Calling::shrinks_more))]
 pub fn act(
     alloc: Global,
     machine: &mut Machine,
@@ -168,7 +170,7 @@ pub fn act(
     values: Values,
     steps: &mut u64,
 ) -> Result<Doing, Stop>
-    ensures turns { Turns (here machine.old (λ ev env. acted ev env action values)) (seen world.old) steps.old result machine.new (seen world.new) steps.new }
+    ensures turns { TurnsBy (here machine.old (λ ev env. acted ev env action values)) (seen world.old) steps.old (uses_of world.old) result machine.new (seen world.new) steps.new (uses_of world.new) }
     ensures small { Shrinks (action_weight action) steps.old steps.new machine.old.levels result machine.new }
     ensures fewer { steps.new ≤ steps.old }
 {

@@ -1,6 +1,8 @@
 //! Evaluation: the machine takes one turn after another, up to the value of the whole.
+ghost use Rattle.clos_machine.specs.clos_world.Uses.{uses_of};
 ghost use Rattle.clos_machine.specs.clos_world.World.{seen};
 ghost use Rattle.clos_machine.specs.Machine.{TakesWith};
+ghost use Rattle.clos_machine.specs.Uses.{KeepsBy};
 ghost use Rattle.clos_machine.specs.clos_meaning.Meaning.{evaluation};
 ghost use Rattle.clos_eval.specs.Host.{AnswersBy};
 
@@ -20,7 +22,8 @@ use lisp_data::Value;
 use std::alloc::Global;
 
 /// Evaluates a form with this much room for depth. Steps fall by those taken, and the answers of the host's functions that
-/// were called come after those that are there. Where memory is refused, the world is that after the steps taken.
+/// were called come after those that are there. What is kept of calls, and how many effective methods were worked out, follows
+/// the uses that the form makes. Where memory is refused, the world is that after the steps taken.
 pub fn evaluate<N: Natives>(
     alloc: Global,
     world: &mut World,
@@ -34,6 +37,8 @@ pub fn evaluate<N: Natives>(
         answers.new }
     ensures taken { TakesWith (N.host natives.now) (evaluation room form)
         (seen world.old) steps.old answers.old.items result (seen world.new) steps.new answers.new.items }
+    ensures uses { KeepsBy (N.host natives.now) (evaluation room form) (seen world.old) steps.old answers.old.items (uses_of world.old) result
+        steps.new answers.new.items (uses_of world.new) }
 {
     let Ok(arguments) = Arguments::new(alloc, Values::new(alloc)) else {
         return Err(Stop::Storage);

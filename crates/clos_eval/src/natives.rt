@@ -2,6 +2,8 @@
 ghost use Rattle.std.specs.Prelude.{◌≡◌, Some, Ok, IfOk, IfErr, length, map};
 ghost use Rattle.lisp_data.specs.ValueView.{value_of};
 ghost use Rattle.clos_machine.specs.Machine.{Asks, denote, native_weight, Shrinks};
+ghost use Rattle.clos_machine.specs.Uses.{Notes};
+ghost use Rattle.clos_machine.specs.clos_world.clos_cache.Uses.{Uses};
 ghost use Rattle.clos_machine.specs.clos_meaning.Natives.{integers_given, integers_in, native_called, native_found, native_sought};
 ghost use Rattle.clos_machine.specs.clos_world.World.{State};
 ghost use Rattle.clos_machine.specs.clos_world.declared.condition.ConditionKind.TheVariants.{TypeError};
@@ -17,7 +19,7 @@ use std::alloc::Global;
 
 /// A function that the host stored is called: the first value names it, the others are its arguments. Its answer comes after
 /// those of earlier calls.
-#[tactic(auto, using(crate::proofs::Asking::asks_law, crate::proofs::Asking::stops_law))]
+#[tactic(auto, using(crate::proofs::Asking::asks_law, crate::proofs::Asking::stops_law, crate::proofs::Asking::notes_law, crate::proofs::Asking::notes_stop))]
 pub fn call_native<N: Natives>(
     alloc: Global,
     machine: &Machine,
@@ -28,6 +30,8 @@ pub fn call_native<N: Natives>(
 ) -> Result<Doing, Stop>
     ensures asks { (w : State) → Asks (N.host natives.now) (denote machine.now (doing.Native values.now)) w steps.old answers.old.items
         result machine.now w steps.new answers.new.items }
+    ensures notes { (w : State) (u : Uses) → Notes (N.host natives.now) (denote machine.now (doing.Native values.now)) w steps.old answers.old.items u
+        result machine.now w steps.new answers.new.items u }
     ensures small { Shrinks native_weight steps.old steps.new machine.now.levels result machine.now }
 {
     let _ = machine;

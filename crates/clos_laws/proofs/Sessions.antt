@@ -39,10 +39,10 @@ use Rattle.clos_session.specs.clos_world.clos_comb.clos_combination.declared.com
 use Rattle.clos_session.specs.clos_world.declared.condition.Condition.{Condition}
 use Rattle.clos_session.specs.clos_world.declared.condition.ConditionKind.TheVariants.{TableLimit}
 use Rattle.clos_session.specs.clos_world.declared.functions.Function.{Function}
-use Rattle.clos_session.specs.clos_definition_forms.clos_definition.Class.{cells_needed, class_number, class_refusal, initforms, with_defined_class}
-use Rattle.clos_session.specs.clos_definition_forms.clos_definition.Generic.{eql_forms, generic_refusal, with_defined_generic}
-use Rattle.clos_session.specs.clos_definition_forms.clos_definition.Method.{eql_form, method_refusal, with_defined_method}
-use Rattle.clos_session.specs.clos_definition_forms.clos_definition.Removal.{removable, with_removed}
+use Rattle.clos_session.specs.clos_definition_forms.clos_definition.Class.{cells_needed, class_concerned, class_number, class_refusal, initforms, with_defined_class}
+use Rattle.clos_session.specs.clos_definition_forms.clos_definition.Generic.{eql_forms, generic_concerned, generic_refusal, with_defined_generic}
+use Rattle.clos_session.specs.clos_definition_forms.clos_definition.Method.{eql_form, method_concerned, method_refusal, with_defined_method}
+use Rattle.clos_session.specs.clos_definition_forms.clos_definition.Removal.{concerned_by_removal, removable, with_removed}
 use Rattle.clos_session.specs.clos_definition_forms.Combination.{combination_defined, define_combination}
 use Rattle.clos_session.specs.clos_definition_forms.Definition.{class_made, define_class, define_generic, define_method, generic_made, method_made, remove_method, removed_if, takes_effect, unless, value_at, values_removed}
 use Rattle.clos_session.specs.clos_definition_forms.Dependents.{change_dependents, changed_if, values_watched, watched, with_change}
@@ -55,7 +55,8 @@ use Rattle.clos_session.specs.clos_definition_forms.declared.dependents.Change.T
 use Rattle.clos_session.specs.clos_definition_forms.lisp_prims.Primitive.{truth}
 use Rattle.clos_session.specs.clos_machine.clos_meaning.Meaning.{evaluation}
 use Rattle.clos_session.specs.clos_machine.clos_meaning.Host.{Host, answered_by, may_answer}
-use Rattle.clos_session.specs.clos_machine.clos_meaning.Outcome.{Asked, End, Gave, Looked, Noted, Out, Run, Stopped, step_then, stopped, then_do}
+use Rattle.clos_session.specs.clos_machine.clos_meaning.Outcome.{Asked, End, Gave, Looked, Noted, Out, Run, Stopped, changed, step_then, stopped, then_do}
+use Rattle.clos_session.specs.clos_world.clos_cache.Cache as of_calls
 use Rattle.clos_meaning.proofs.Kept.{SameAfter, evaluation_kept}
 use Rattle.clos_session.specs.Step.{checked, performed, room_of, step}
 use Rattle.clos_laws.specs.Reached.{state_in}
@@ -193,16 +194,16 @@ unless_sound : (o : Option Condition) (go : Run) (w : State) (k : ℕ) → IsSou
 unless_sound None go w k s h = h refl
 unless_sound (Some c) go w k s h = s
 
-effect_sound : (v : Val) (u w : State) (k : ℕ) → IsSound w.generics → IsSound u.generics → SoundAfter (takes_effect v u w k)
-effect_sound v u w k s h = step_sound (λ x j. Gave v u j) (λ x j i. h) w k s
+effect_sound : (cs : List of_calls.Change) (v : Val) (u w : State) (k : ℕ) → IsSound w.generics → IsSound u.generics → SoundAfter (takes_effect cs v u w k)
+effect_sound cs v u w k s h = step_sound (λ x j. Noted (changed x cs) (Gave v u j)) (λ x j i. h) w k s
 
 method_keeps : (name : FunctionName) (m : MethodDefinition) → IsSpecialized m → Keeps (define_method name m)
 method_keeps name m h w k s =
     unless_sound (method_refusal name m None w) (forms_evaluated (map eql_form m.specializers) [] (method_made name m)) w k s
     (λ e. forms_sound (map eql_form m.specializers) [] (method_made name m)
     (λ vs u j i. unless_sound (method_refusal name m (Some vs) u)
-    (takes_effect (method (length u.generics.methods)) (with_defined_method name m vs u)) u j i
-    (λ none. effect_sound (method (length u.generics.methods)) (with_defined_method name m vs u) u j i
+    (takes_effect (method_concerned name m vs u) (method (length u.generics.methods)) (with_defined_method name m vs u)) u j i
+    (λ none. effect_sound (method_concerned name m vs u) (method (length u.generics.methods)) (with_defined_method name m vs u) u j i
     (method_sound name m vs u h i none))) w k s)
 
 generic_keeps : (d : GenericDefinition) → IsOrderly d → Each IsSpecialized d.methods → Keeps (define_generic d)
@@ -210,8 +211,8 @@ generic_keeps d o h w k s =
     unless_sound (generic_refusal d None w) (forms_evaluated (eql_forms d.methods) [] (generic_made d)) w k s
     (λ e. forms_sound (eql_forms d.methods) [] (generic_made d)
     (λ vs u j i. unless_sound (generic_refusal d (Some vs) u)
-    (takes_effect (generic (number u.generics d.name)) (with_defined_generic d vs u)) u j i
-    (λ none. effect_sound (generic (number u.generics d.name)) (with_defined_generic d vs u) u j i
+    (takes_effect (generic_concerned d vs u) (generic (number u.generics d.name)) (with_defined_generic d vs u)) u j i
+    (λ none. effect_sound (generic_concerned d vs u) (generic (number u.generics d.name)) (with_defined_generic d vs u) u j i
     (generic_sound d vs u o h i none))) w k s)
 
 class_keeps : (d : ClassDefinition) → Keeps (define_class d)
@@ -220,13 +221,13 @@ class_keeps d w k s =
     (forms_evaluated (initforms (cells_needed d w)) [] (class_made d)) w k s
     (λ e. forms_sound (initforms (cells_needed d w)) [] (class_made d)
     (λ vs u j i. unless_sound (class_refusal d (length vs) u)
-    (takes_effect (class (class_number d u)) (with_defined_class d vs u)) u j i
-    (λ none. effect_sound (class (class_number d u)) (with_defined_class d vs u) u j i
+    (takes_effect (class_concerned d vs u) (class (class_number d u)) (with_defined_class d vs u)) u j i
+    (λ none. effect_sound (class_concerned d vs u) (class (class_number d u)) (with_defined_class d vs u) u j i
     (class_sound d (length vs) vs u i none))) w k s)
 
 removed_keeps : (v : Val) (r : Result (ℕ × ℕ) Condition) → Keeps (removed_if v r)
 removed_keeps v (Err c) w k s = s
-removed_keeps v (Ok p) w k s = effect_sound v (with_removed p.0 p.1 w) w k s (removal_sound p.0 p.1 w s)
+removed_keeps v (Ok p) w k s = effect_sound (concerned_by_removal p.0 p.1 w.generics) v (with_removed p.0 p.1 w) w k s (removal_sound p.0 p.1 w s)
 
 removal_keeps : (f m : Form) → Keeps (remove_method f m)
 removal_keeps f m w k s =
@@ -235,7 +236,7 @@ removal_keeps f m w k s =
 
 changed_keeps : (c : Change) (r : Result (Metaobject × ℕ) Condition) → Keeps (changed_if c r)
 changed_keeps c (Err e) w k s = s
-changed_keeps c (Ok p) w k s = effect_sound (truth true) (with_change c p.0 p.1 w) w k s s
+changed_keeps c (Ok p) w k s = step_sound (λ x j. Gave (truth true) (with_change c p.0 p.1 w) j) (λ x j i. s) w k s
 
 change_keeps : (c : Change) (m d : Form) → Keeps (change_dependents c m d)
 change_keeps c m d w k s =

@@ -4,4 +4,5 @@ pub mod Quiet
 pub mod Runs
 pub mod Answering
 pub mod Updates
+pub mod Uses
 pub use Rattle.clos_meaning.proofs as clos_meaning

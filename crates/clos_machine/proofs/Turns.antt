@@ -59,30 +59,8 @@ then_then (Noted n o) f g = ap (Noted n) (then_then o f g)
 then_then (Looked name more) f g = looked_same name _ _ (λ n. then_then (more n) f g)
 then_then (Asked name xs more) f g = asked_same name xs _ _ (λ x. then_then (more x) f g)
 
-pub noted_closed : (ls : List Level) (env : Context) (n : Note) (o : Out) → closed (resume ls env (Noted n o)) ≡ closed (resume ls env o)
+pub noted_closed : (ls : List Level) (env : Context) (n : Note) (o : Out) → closed (resume ls env (Noted n o)) ≡ Noted n (closed (resume ls env o))
 noted_closed ls env n o = ap closed (noted_through ls env n o)
-
--- an outcome without what was noted first, which ends in the same
-abbrev pub bare : Out → Out
-bare (Gave v w s) = Gave v w s
-bare (Stopped c w s) = Stopped c w s
-bare (Noted n o) = bare o
-bare (Looked name more) = Looked name (λ n. bare (more n))
-bare (Asked name xs more) = Asked name xs (λ x. bare (more x))
-
-pub bare_through : (ls : List Level) (env : Context) (o : Out) → closed (resume ls env o) ≡ closed (resume ls env (bare o))
-bare_through ls env (Gave v w s) = refl
-bare_through ls env (Stopped c w s) = refl
-bare_through ls env (Noted n o) = noted_closed ls env n o ∙ bare_through ls env o
-bare_through ls env (Looked name more) =
-    ap closed (looked_through ls env name more) ∙ looked_same name _ _ (λ n. bare_through ls env (more n))
-    ∙ sym (ap closed (looked_through ls env name (λ n. bare (more n))))
-bare_through ls env (Asked name xs more) =
-    ap closed (asked_through ls env name xs more) ∙ asked_same name xs _ _ (λ x. bare_through ls env (more x))
-    ∙ sym (ap closed (asked_through ls env name xs (λ x. bare (more x))))
-
-pub bare_same : (ls : List Level) (env : Context) (o o' : Out) → bare o ≡ bare o' → closed (resume ls env o) ≡ closed (resume ls env o')
-bare_same ls env o o' e = bare_through ls env o ∙ ap (λ x. closed (resume ls env x)) e ∙ sym (bare_through ls env o')
 
 -- what does nothing more with a value
 pub then_gave : (o : Out) → then_do o gave ≡ o

@@ -36,6 +36,9 @@ use Rattle.clos_machine.specs.declared.machine.Doing.TheVariants.{Invoke}
 use Rattle.clos_machine.specs.declared.machine.Frame.TheVariants.{Updated}
 use Rattle.clos_machine.specs.declared.machine.Machine.{Machine}
 use Rattle.clos_machine.specs.declared.machine.Visit.{Visit}
+use Rattle.clos_machine.proofs.Uses.{turns_by_same}
+use Rattle.clos_machine.specs.Uses.{TurnsBy}
+use Rattle.clos_meaning.specs.clos_world.clos_cache.Uses.{Uses}
 use Rattle.clos_machine.proofs.Runs.{stops_at_once, turns_same}
 
 -- ---- a list that can't be made
@@ -104,6 +107,12 @@ due_there w i l h = stale_there w i (store.instance w.store i) l refl h
 pub turns_due : (m n : Machine) (what : Eval → Context → Run) (i : ℕ) (o : Option Layout) (w : State) (s : ℕ) (r : Result Doing Stop) (w' : State) (s' : ℕ) → o ≡ due w i
     → Turns (here m (λ ev env. updated_if ev i (what ev env) o)) w s r n w' s' → Turns (here m (λ ev env. updated ev i (what ev env))) w s r n w' s'
 turns_due m n what i o w s r w' s' e h = subst (λ x. Turns (here m (λ ev env. updated_if ev i (what ev env) x)) w s r n w' s') e h
+
+pub turns_due_by : (m n : Machine) (what : Eval → Context → Run) (i : ℕ) (o : Option Layout) (w : State) (s : ℕ) (u : Uses) (r : Result Doing Stop) (w' : State)
+    (s' : ℕ) (u' : Uses) → o ≡ due w i → TurnsBy (here m (λ ev env. updated_if ev i (what ev env) o)) w s u r n w' s' u'
+    → TurnsBy (here m (λ ev env. updated ev i (what ev env))) w s u r n w' s' u'
+turns_due_by m n what i o w s u r w' s' u' e h = turns_by_same (here m (λ ev env. updated_if ev i (what ev env) o)) w s u u' r n w' s'
+    (here m (λ ev env. updated ev i (what ev env))) (λ t. ap (λ x. here m (λ ev env. updated_if ev i (what ev env) x) w t) e) h
 
 module _ (m n : Machine) (i : ℕ) (l : Layout) (v : Visit) (w : State) (s : ℕ) where
   abbrev what : Eval → Context → Run

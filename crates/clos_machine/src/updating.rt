@@ -4,6 +4,7 @@ ghost use Rattle.lisp_data.specs.Value.{instance};
 ghost use Rattle.lisp_data.specs.ValueView.{value_of};
 ghost use Rattle.clos_forms.specs.Quotation.{name_value};
 ghost use Rattle.clos_meaning.specs.clos_world.clos_store.UpdateView.{values_of};
+ghost use Rattle.clos_meaning.specs.clos_world.Uses.{uses_of};
 ghost use Rattle.clos_meaning.specs.clos_world.World.{class_of_instance, seen};
 ghost use Rattle.clos_meaning.specs.ClassFunctions.{Tells};
 ghost use Rattle.clos_meaning.specs.Updating.{due, layout_if, listed, names_listed, properties, restructured, told, updated};
@@ -35,6 +36,7 @@ pub fn layout_of(world: &World, id: InstanceId) -> Option<&Layout>
 pub fn due(world: &mut World, id: InstanceId) -> Result<Option<Layout>, AllocError>
     ensures value { IfOk result (λ r. r ≡ due (seen world.old) id.0) }
     ensures same { seen world.new ≡ seen world.old }
+    ensures kept { uses_of world.new ≡ uses_of world.old }
 {
     world.objects.due(id)
 }
@@ -142,6 +144,7 @@ pub fn update(
     ensures turns { Turns (here machine.old (λ ev env. updated ev id.0 (visited ev env id.0 visit))) (seen world.old) steps.old result machine.new (seen world.new) steps.new }
     ensures small { Shrinks act_weight steps.old steps.new machine.old.levels result machine.new }
     ensures fewer { steps.new ≤ steps.old }
+    ensures kept { uses_of world.new ≡ uses_of world.old }
 {
     match told(alloc, world, id, layout) {
         Err(stop) => {
@@ -167,6 +170,7 @@ fn restructure(
     ensures turns { Turns (here machine.old (λ ev env. restructured ev id.0 layout.now arguments (visited ev env id.0 visit))) (seen world.old) steps.old result machine.new (seen world.new) steps.new }
     ensures small { Shrinks act_weight steps.old steps.new machine.old.levels result machine.new }
     ensures fewer { steps.new ≤ steps.old }
+    ensures kept { uses_of world.new ≡ uses_of world.old }
 {
     if *steps == 0 {
         drop(visit);

@@ -25,7 +25,8 @@ use Rattle.clos_meaning.specs.ClassFunctions.{symbol_in}
 use Rattle.clos_meaning.specs.Contexts.{known}
 use Rattle.clos_meaning.specs.GenericCalls.{invoked}
 use Rattle.clos_meaning.specs.Objects.{designated}
-use Rattle.clos_meaning.specs.Outcome.{Noted, Out, used, Stopped, Run, Eval, then_do, gave, stopped, step_then}
+use Rattle.clos_meaning.specs.Outcome.{Note, used, Stopped, Run, Eval, then_do, gave, stopped, step_then}
+use Rattle.clos_meaning.specs.Uses.{noting}
 use Rattle.clos_meaning.specs.Parameters.{are_pairs, argument_named, is_allow_other_keys, is_allowing, is_symbol_named}
 use Rattle.clos_meaning.specs.declared.arguments.Context.{Context}
 
@@ -37,9 +38,8 @@ abbrev pub methods_reached : State → SystemFunction → List Val → ℕ → V
 methods_reached w f vs i names = ordered w (system_number f) vs ++ ordered w (system_number SharedInitialize) (instance i ∷ names ∷ [])
 
 -- asking for them is a use of each function
-abbrev pub with_uses : State → SystemFunction → List Val → ℕ → Val → Out → Out
-with_uses w f vs i names o =
-    Noted (used (key_of w (system_number f) vs)) (Noted (used (key_of w (system_number SharedInitialize) (instance i ∷ names ∷ []))) o)
+abbrev pub reaching : State → SystemFunction → List Val → ℕ → Val → List Note
+reaching w f vs i names = used (key_of w (system_number f) vs) ∷ used (key_of w (system_number SharedInitialize) (instance i ∷ names ∷ [])) ∷ []
 
 abbrev pub fills : List EffectiveSlot → Val → Bool
 fills slots v = list_any (λ s. list_any (λ n. is_symbol_named n v) s.initargs) slots
@@ -80,7 +80,7 @@ initialized ev c vs i None w s = then_do (invoked ev InitializeInstance (instanc
 
 abbrev pub checked : Eval → ℕ → Effective → List Val → ℕ → Run
 checked ev c e vs i w s =
-    with_uses w InitializeInstance (instance i ∷ []) i (truth true)
+    noting (reaching w InitializeInstance (instance i ∷ []) i (truth true))
     (initialized ev c vs i (invalid_initarg w.generics.methods (methods_reached w InitializeInstance (instance i ∷ []) i (truth true)) e.slots vs) w s)
 
 abbrev pub made : Eval → Context → ℕ → Effective → List Val → Run

@@ -23,6 +23,7 @@ pub mod NextMethods
 pub mod FindMethod
 pub mod Natives
 pub mod Host
+pub mod Uses
 pub mod Functions
 pub mod SlotNames
 pub mod Meaning

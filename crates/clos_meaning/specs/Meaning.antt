@@ -193,7 +193,7 @@ meaning (suc n) env f w s = step_then (body (meaning n) env f) w s
 abbrev pub closed : Out → Out
 closed (Gave v w s) = Gave v (unbound w) s
 closed (Stopped c w s) = Stopped c (unbound w) s
-closed (Noted n o) = closed o
+closed (Noted n o) = Noted n (closed o)
 closed (Looked name more) = Looked name (λ n. closed (more n))
 closed (Asked name xs more) = Asked name xs (λ x. closed (more x))
 

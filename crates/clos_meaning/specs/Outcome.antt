@@ -4,15 +4,17 @@ use Rattle.lisp_data.specs.Name.{Name}
 use Rattle.lisp_data.specs.Value.{Val, list, nil}
 use Rattle.clos_forms.specs.Form.{Form}
 use Rattle.clos_world.specs.World.{State}
+use Rattle.clos_world.specs.clos_cache.Cache.{Change}
 use Rattle.clos_world.specs.clos_cache.Key.{Key}
 use Rattle.clos_world.specs.declared.condition.Condition.{Condition}
 use Rattle.clos_world.specs.declared.condition.ConditionKind.{ConditionKind}
 use Rattle.clos_world.specs.declared.condition.ConditionKind.TheVariants.{StepLimit}
 use Rattle.clos_meaning.specs.declared.arguments.Context.{Context}
 
--- what is told beside an evaluation, and read by none: that the methods of a generic function were asked for, for a call of this key
+-- what is told beside an evaluation, and read by none
 pub data Note : Type 0 where
-  used : Key → Note
+  used : Key → Note  -- the methods of a generic function were asked for, for a call of this key
+  changed : State → List Change → Note  -- a definition changed these, in this state
 
 -- the value or the condition, the state after, and the steps left; or that something was noted first; or, where the host has
 -- to answer before it goes on, what comes of each answer

@@ -1,18 +1,17 @@
 -- Instances that change their class, and the system's methods that are told of updates.
-use Rattle.std.proofs.Common.{◌≡◌, ℕ, suc, ◌+◌, List, [], ◌∷◌, Bool, true, false, Option, Some, None, Result, Ok, Err, length, arith, refl, ap, sym, subst, ◌∙◌}
+use Rattle.std.proofs.Common.{◌≡◌, ℕ, suc, ◌+◌, List, [], ◌∷◌, Bool, true, false, Option, Some, None, Result, Ok, Err, arith, refl, ap, sym, ◌∙◌}
 use Rattle.std.specs.Prelude.{IsSome, option_map, unwrap_or, if◌then◌else◌}
 use Rattle.lisp_data.specs.Value.{Val}
 use Rattle.lisp_data.specs.Value as value
-use Rattle.lisp_data.specs.ValueView.{value_of}
 use Rattle.lisp_data.specs.declared.ids.InstanceId.{InstanceId}
 use Rattle.lisp_data.specs.declared.value.Value.TheVariants.{Instance}
 use Rattle.clos_forms.specs.Form.{Forms, nil}
 use Rattle.clos_class.specs.Slots.{Layout}
 use Rattle.clos_method.specs.declared.system.SystemFunction.TheVariants.{UpdateInstanceForRedefinedClass, UpdateInstanceForDifferentClass}
 use Rattle.clos_machine.specs.clos_world.Class.{layout}
-use Rattle.clos_machine.specs.clos_world.clos_store.Store.{Object, has_room, next_instance}
+use Rattle.clos_machine.specs.clos_world.clos_store.Store.{has_room, next_instance}
 use Rattle.clos_machine.specs.clos_world.clos_store.Update.{with_change}
-use Rattle.clos_machine.specs.clos_world.World.{State, class_of_instance, unbound}
+use Rattle.clos_machine.specs.clos_world.World.{State, class_of_instance}
 use Rattle.clos_machine.specs.clos_world.declared.condition.Condition.{Condition}
 use Rattle.clos_machine.specs.clos_world.declared.condition.ConditionKind.TheVariants.{ProgramError, StepLimit, TableLimit}
 use Rattle.clos_machine.specs.clos_world.declared.condition.Stop.{Stop}
@@ -21,17 +20,20 @@ use Rattle.clos_machine.specs.clos_meaning.ChangeClass.{change_called, changed_b
 use Rattle.clos_machine.specs.clos_meaning.ClassFunctions.{Answer, Tells}
 use Rattle.clos_machine.specs.clos_meaning.Meaning.{closed, meaning}
 use Rattle.clos_machine.specs.clos_meaning.Objects.{designated}
-use Rattle.clos_machine.specs.clos_meaning.Outcome.{Eval, Run, Stopped, step_then, stopped}
+use Rattle.clos_machine.specs.clos_meaning.Outcome.{Eval, Run, Stopped, stopped}
 use Rattle.clos_machine.specs.clos_meaning.Slots.{instance_in}
 use Rattle.clos_machine.specs.clos_meaning.SystemMethods.{checked_shared, different, different_from, different_with, new_slots, redefined, system_method_run}
 use Rattle.clos_machine.specs.clos_meaning.Updating.{names_listed, updated}
 use Rattle.clos_machine.specs.Machine.{Designates, DesignatesInstance, Leads, Turns, at, denote, inside, resume}
+use Rattle.clos_machine.specs.Uses.{LeadsBy}
+use Rattle.clos_machine.specs.clos_world.clos_cache.Uses.{Uses}
 use Rattle.clos_machine.specs.declared.machine.Doing.{Doing}
 use Rattle.clos_machine.specs.declared.machine.Doing.TheVariants.{Invoke}
 use Rattle.clos_machine.specs.declared.machine.Frame.TheVariants.{Keep}
 use Rattle.clos_machine.specs.declared.machine.Machine.{Machine}
 use Rattle.clos_machine.proofs.Runs.{stops_at_once, turns_same}
 use Rattle.clos_machine.proofs.Turns.{leads_same}
+use Rattle.clos_machine.proofs.Uses.{leads_by_same}
 use Rattle.clos_objects.specs.Objects.{current_and_initargs, names_and_initargs}
 use Rattle.clos_objects.proofs.Methods.{leads_refused, leads_stops, no_instance}
 
@@ -70,10 +72,10 @@ module _ (m n : Machine) (ev : Eval) (v : Val) (w : State) where
           leads_same (inside m (redefined ev (v ∷ rest) p.0 p.1 (instance_in v))) (inside m redefining) w (Err stop) n (λ t. ap (λ o. closed (resume m.levels m.context o)) (runs t))
           (no_instance m n w (redefined ev (v ∷ rest) p.0 p.1) (instance_in v) stop (λ c t. refl) d)
 
-      pub redefined_goes : (xs : List Val) (i : ℕ) (r : Result Doing Stop) → xs ≡ us → instance_in v ≡ Ok i
-          → Leads (inside m (checked_shared ev UpdateInstanceForRedefinedClass xs p.0 p.1 i)) w r n → Leads (inside m redefining) w r n
-      redefined_goes xs i r k d l =
-          leads_same (inside m (checked_shared ev UpdateInstanceForRedefinedClass xs p.0 p.1 i)) (inside m redefining) w r n
+      pub redefined_goes : (xs : List Val) (i : ℕ) (r : Result Doing Stop) (u u' : Uses) → xs ≡ us → instance_in v ≡ Ok i
+          → LeadsBy (inside m (checked_shared ev UpdateInstanceForRedefinedClass xs p.0 p.1 i)) w u r n u' → LeadsBy (inside m redefining) w u r n u'
+      redefined_goes xs i r u u' k d l =
+          leads_by_same (inside m (checked_shared ev UpdateInstanceForRedefinedClass xs p.0 p.1 i)) w u u' r n (inside m redefining)
           (λ t. ap (λ o. closed (resume m.levels m.context o))
           (ap (λ x. checked_shared ev UpdateInstanceForRedefinedClass x p.0 p.1 i (at m w) t) (k ∙ e)
           ∙ ap (λ x. redefined ev (v ∷ rest) p.0 p.1 x (at m w) t) (sym d) ∙ runs t)) l
@@ -112,10 +114,10 @@ module _ (m n : Machine) (ev : Eval) (v : Val) (w : State) where
           leads_same (inside m (different ev v p.0 p.1 (instance_in v))) (inside m differing) w (Err stop) n (λ t. ap (λ o. closed (resume m.levels m.context o)) (differs t))
           (no_instance m n w (different ev v p.0 p.1) (instance_in v) stop (λ c t. refl) d)
 
-      pub different_goes : (xs : List Val) (copy : ℕ) (r : Result Doing Stop) → xs ≡ us → instance_in v ≡ Ok copy
-          → Leads (inside m (different_from ev xs p.1 copy (instance_in p.0))) w r n → Leads (inside m differing) w r n
-      different_goes xs copy r k d l =
-          leads_same (inside m (different_from ev xs p.1 copy (instance_in p.0))) (inside m differing) w r n
+      pub different_goes : (xs : List Val) (copy : ℕ) (r : Result Doing Stop) (u u' : Uses) → xs ≡ us → instance_in v ≡ Ok copy
+          → LeadsBy (inside m (different_from ev xs p.1 copy (instance_in p.0))) w u r n u' → LeadsBy (inside m differing) w u r n u'
+      different_goes xs copy r u u' k d l =
+          leads_by_same (inside m (different_from ev xs p.1 copy (instance_in p.0))) w u u' r n (inside m differing)
           (λ t. ap (λ o. closed (resume m.levels m.context o))
           (ap (λ x. different_from ev x p.1 copy (instance_in p.0) (at m w) t) (k ∙ e ∙ rest_is rest p h)
           ∙ ap (λ x. different ev v p.0 p.1 x (at m w) t) (sym d) ∙ differs t)) l
@@ -125,10 +127,10 @@ module _ (m n : Machine) (ev : Eval) (us initargs : List Val) (copy : ℕ) (w : 
   pub current_none : (v : Val) (stop : Stop) → DesignatesInstance (instance_in v) (Err stop) → Leads (inside m (different_from ev us initargs copy (instance_in v))) w (Err stop) n
   current_none v stop d = no_instance m n w (different_from ev us initargs copy) (instance_in v) stop (λ c t. refl) d
 
-  pub current_there : (v : Val) (i : ℕ) (r : Result Doing Stop) → instance_in v ≡ Ok i
-      → Leads (inside m (λ u. different_with ev us initargs i (names_listed (new_slots u copy i)) u)) w r n → Leads (inside m (different_from ev us initargs copy (instance_in v))) w r n
-  current_there v i r d l =
-      leads_same (inside m (λ u. different_with ev us initargs i (names_listed (new_slots u copy i)) u)) (inside m (different_from ev us initargs copy (instance_in v))) w r n
+  pub current_there : (v : Val) (i : ℕ) (r : Result Doing Stop) (k k' : Uses) → instance_in v ≡ Ok i
+      → LeadsBy (inside m (λ u. different_with ev us initargs i (names_listed (new_slots u copy i)) u)) w k r n k' → LeadsBy (inside m (different_from ev us initargs copy (instance_in v))) w k r n k'
+  current_there v i r k k' d l =
+      leads_by_same (inside m (λ u. different_with ev us initargs i (names_listed (new_slots u copy i)) u)) w k k' r n (inside m (different_from ev us initargs copy (instance_in v)))
       (λ t. ap (λ x. inside m (different_from ev us initargs copy x) w t) (sym d)) l
 
   module _ (i : ℕ) where
@@ -139,10 +141,10 @@ module _ (m n : Machine) (ev : Eval) (us initargs : List Val) (copy : ℕ) (w : 
     names_refused x Storage e h = tt
     names_refused x (Refused c) e h = leads_stops m n w with_names c (λ t. ap (λ y. different_with ev us initargs i y (at m w) t) (sym e ∙ h))
 
-    pub names_there : (x : Answer) (names : Val) (r : Result Doing Stop) → x ≡ names_listed (new_slots w copy i) → x ≡ Ok names
-        → Leads (inside m (checked_shared ev UpdateInstanceForDifferentClass us names initargs i)) w r n → Leads (inside m with_names) w r n
-    names_there x names r e h l =
-        leads_same (inside m (checked_shared ev UpdateInstanceForDifferentClass us names initargs i)) (inside m with_names) w r n
+    pub names_there : (x : Answer) (names : Val) (r : Result Doing Stop) (k k' : Uses) → x ≡ names_listed (new_slots w copy i) → x ≡ Ok names
+        → LeadsBy (inside m (checked_shared ev UpdateInstanceForDifferentClass us names initargs i)) w k r n k' → LeadsBy (inside m with_names) w k r n k'
+    names_there x names r k k' e h l =
+        leads_by_same (inside m (checked_shared ev UpdateInstanceForDifferentClass us names initargs i)) w k k' r n (inside m with_names)
         (λ t. ap (λ y. inside m (different_with ev us initargs i y) w t) (sym h ∙ e)) l
 
 -- ---- change-class

@@ -19,12 +19,15 @@ use Rattle.clos_machine.specs.clos_world.declared.condition.Stop.TheVariants.{Re
 use Rattle.clos_machine.specs.clos_meaning.Bodies.{restoring}
 use Rattle.clos_machine.specs.clos_meaning.Contexts.{known}
 use Rattle.clos_machine.specs.clos_meaning.GenericCalls.{invoked}
-use Rattle.clos_machine.specs.clos_meaning.Initialization.{allocate, checked, defaulted, instance_made, making, initialized, invalid_for, invalid_initarg, is_given, made, making_of, methods_reached}
+use Rattle.clos_machine.specs.clos_meaning.Initialization.{allocate, checked, defaulted, instance_made, making, initialized, invalid_for, invalid_initarg, is_given, made, making_of, methods_reached, reaching}
 use Rattle.clos_machine.specs.Machine.{apart, Designates, Leads, Turns, at, inside, resume, default_given, Shrinks, act_weight, given, load, step_weight, value_weight}
 use Rattle.clos_machine.specs.clos_meaning.Meaning.{closed, meaning}
 use Rattle.clos_machine.specs.clos_meaning.Objects.{designated}
 use Rattle.clos_machine.specs.clos_meaning.Parameters.{are_pairs}
-use Rattle.clos_machine.specs.clos_meaning.Outcome.{Run, Eval, Stopped, gave, then_do, step_then, stopped}
+use Rattle.clos_machine.specs.clos_meaning.Outcome.{Note, Run, Eval, Stopped, gave, then_do, step_then, stopped}
+use Rattle.clos_machine.specs.clos_meaning.Uses.{after_notes, noting}
+use Rattle.clos_machine.specs.Uses.{LeadsBy, MadeSome}
+use Rattle.clos_machine.specs.clos_world.clos_cache.Uses.{Uses}
 use Rattle.clos_machine.specs.clos_meaning.declared.arguments.Context.{Context}
 use Rattle.clos_machine.specs.declared.finalized.Finalized.{Finalized}
 use Rattle.clos_machine.specs.declared.machine.Action.TheVariants.{Initialize}
@@ -32,10 +35,11 @@ use Rattle.clos_machine.specs.declared.machine.Doing.{Doing}
 use Rattle.clos_machine.specs.declared.machine.Doing.TheVariants.{Act}
 use Rattle.clos_machine.specs.declared.machine.Machine.{Machine}
 use Rattle.clos_machine.proofs.Runs.{turns_of_leads, stops_at_once, turns_same}
-use Rattle.clos_machine.proofs.Turns.{bare, bare_same, leads_same, stopped_through}
+use Rattle.clos_machine.proofs.Turns.{leads_same, stopped_through}
+use Rattle.clos_machine.proofs.Uses.{kept_all, leads_noting}
 use Rattle.clos_machine.specs.Fault.{TellsCondition}
 use Rattle.clos_objects.specs.Objects.{Enters, default_first, ungiven}
-use Rattle.clos_objects.proofs.Methods.{leads_refused_after}
+use Rattle.clos_objects.proofs.Methods.{leads_refused, reaching_bound}
 use Rattle.clos_class.specs.declared.effective_slots.EffectiveSlot.{EffectiveSlot}
 use Rattle.clos_method.specs.declared.method.Method.{Method}
 use Rattle.clos_method.specs.declared.system.SystemFunction.TheVariants.{InitializeInstance}
@@ -163,17 +167,39 @@ module _ (m n : Machine) (ev : Eval) (c : ℕ) (e : Effective) (vs : List Val) (
       ∙ ap (λ x. invalid_initarg w.generics.methods (methods_reached w InitializeInstance (instance i ∷ []) i (truth true)) x us) j
       ∙ ap (invalid_initarg w.generics.methods (methods_reached w InitializeInstance (instance i ∷ []) i (truth true)) e.slots) q
 
-  pub invalid_new : (k : Val) (stop : Stop) → Some k ≡ wrong_new → TellsCondition (invalid_for k (class_name w.classes c)) stop → Leads (inside m (checked ev c e vs i)) w (Err stop) n
-  invalid_new k Storage h d = tt
-  invalid_new k (Refused x) h d =
-      leads_refused_after m n w (checked ev c e vs i) x (invalid_for k (class_name w.classes c)) (λ t. ap (λ o. bare (initialized ev c vs i o (at m w) t)) (sym h)) d
+  abbrev reached : List Note
+  reached = reaching w InitializeInstance (instance i ∷ []) i (truth true)
 
-  pub valid_new : (r : Result Doing Stop) → None ≡ wrong_new
-      → Leads (inside m (λ u k. then_do (invoked ev InitializeInstance (instance i ∷ vs) u k) (λ v. gave (instance i)))) w r n → Leads (inside m (checked ev c e vs i)) w r n
-  valid_new r h l =
-      leads_same (inside m (initialized ev c vs i None)) (inside m (checked ev c e vs i)) w r n
-      (λ t. ap (λ o. inside m (initialized ev c vs i o) w t) h
-      ∙ bare_same m.levels m.context (initialized ev c vs i wrong_new (at m w) t) (checked ev c e vs i (at m w) t) refl) l
+  module _ (u u' : Uses) where
+    checks : (t : ℕ) → checked ev c e vs i (at m w) t ≡ noting reached (initialized ev c vs i wrong_new (at m w) t)
+    checks t = ap (λ ns. noting ns (initialized ev c vs i wrong_new (at m w) t)) (reaching_bound m.locals w InitializeInstance (instance i ∷ []) i (truth true))
+
+    pub invalid_new : (k : Val) (stop : Stop) → Some k ≡ wrong_new → TellsCondition (invalid_for k (class_name w.classes c)) stop → u' ≡ after_notes reached u
+        → LeadsBy (inside m (checked ev c e vs i)) w u (Err stop) n u'
+    invalid_new k stop h d q =
+        leads_noting m (checked ev c e vs i) (initialized ev c vs i wrong_new) reached w u u' (Err stop) n checks (refusing stop d) (kept_all {A = Doing} reached (Err stop) u u' q)
+      where
+        refusing : (x : Stop) → TellsCondition (invalid_for k (class_name w.classes c)) x → Leads (inside m (initialized ev c vs i wrong_new)) w (Err x) n
+        refusing Storage y = tt
+        refusing (Refused z) y = leads_refused m n w (initialized ev c vs i wrong_new) z (invalid_for k (class_name w.classes c))
+            (λ t. ap (λ o. initialized ev c vs i o (at m w) t) (sym h)) y
+
+    pub valid_new : (r : Result Doing Stop) → None ≡ wrong_new → u' ≡ after_notes reached u
+        → Leads (inside m (λ v k. then_do (invoked ev InitializeInstance (instance i ∷ vs) v k) (λ x. gave (instance i)))) w r n → LeadsBy (inside m (checked ev c e vs i)) w u r n u'
+    valid_new r h q l =
+        leads_noting m (checked ev c e vs i) (initialized ev c vs i wrong_new) reached w u u' r n checks
+        (leads_same (inside m (initialized ev c vs i None)) (inside m (initialized ev c vs i wrong_new)) w r n (λ t. ap (λ o. inside m (initialized ev c vs i o) w t) h) l)
+        (kept_all reached r u u' q)
+
+    -- memory was refused, for the methods or after they were there
+    pub storage_new : (names : Val) → names ≡ truth true → MadeSome (reaching w InitializeInstance (instance i ∷ []) i names) u u'
+        → LeadsBy (inside m (checked ev c e vs i)) w u (Err Storage) n u'
+    storage_new names k q =
+        leads_noting m (checked ev c e vs i) (initialized ev c vs i wrong_new) reached w u u' (Err Storage) n checks tt
+        (subst (λ x. MadeSome (reaching w InitializeInstance (instance i ∷ []) i x) u u') k q)
+
+    pub storage_initialized : u' ≡ after_notes reached u → LeadsBy (inside m (checked ev c e vs i)) w u (Err Storage) n u'
+    storage_initialized q = storage_new (truth true) refl (kept_all {A = Doing} reached (Err Storage) u u' q)
 
 -- ---- within a body without variables
 

@@ -1,13 +1,16 @@
 -- What the system's methods do.
-use Rattle.std.proofs.Common.{◌≡◌, ℕ, List, [], ◌∷◌, true, false, Option, Some, None, Result, Ok, Err, refl, ap, sym, ◌∙◌}
+use Rattle.std.proofs.Common.{◌≡◌, ℕ, List, [], ◌∷◌, true, false, Option, Some, None, Result, Ok, Err, refl, ap, sym, subst, ◌∙◌}
 use Rattle.std.specs.Prelude.{if◌then◌else◌}
-use Rattle.lisp_data.specs.Value.{Val}
+use Rattle.lisp_data.specs.Value.{Val, instance}
 use Rattle.clos_class.specs.Slots.{Effective}
 use Rattle.clos_class.specs.declared.effective_slots.EffectiveSlot.{EffectiveSlot}
+use Rattle.clos_method.specs.System.{system_number}
 use Rattle.clos_method.specs.declared.method.Method.{Method}
 use Rattle.clos_machine.specs.clos_meaning.Parameters.{are_even}
 use Rattle.clos_machine.specs.clos_world.Class.{class_name}
-use Rattle.clos_machine.specs.clos_world.World.{State}
+use Rattle.clos_machine.specs.clos_world.Keys.{key_of}
+use Rattle.clos_machine.specs.clos_world.World.{Local, State, bound_as}
+use Rattle.clos_machine.specs.clos_world.clos_cache.Uses.{Uses}
 use Rattle.clos_machine.specs.clos_world.declared.condition.Condition.{Condition}
 use Rattle.clos_machine.specs.clos_world.declared.condition.ConditionKind.TheVariants.{ProgramError}
 use Rattle.clos_machine.specs.clos_world.declared.condition.Stop.{Stop}
@@ -16,18 +19,28 @@ use Rattle.clos_method.specs.declared.system.SystemFunction.{SystemFunction}
 use Rattle.clos_method.specs.declared.system.SystemFunction.TheVariants.{InitializeInstance, ReinitializeInstance, SharedInitialize, UpdateInstanceForRedefinedClass, UpdateInstanceForDifferentClass, SlotUnbound, SlotMissing, NoApplicableMethod, NoNextMethod}
 use Rattle.clos_machine.specs.clos_meaning.ClassFunctions.{wrong_type}
 use Rattle.clos_machine.specs.clos_meaning.Filling.{are_slot_names}
-use Rattle.clos_machine.specs.clos_meaning.Initialization.{invalid_for, invalid_initarg, methods_reached}
+use Rattle.clos_machine.specs.clos_meaning.Initialization.{invalid_for, invalid_initarg, methods_reached, reaching}
 use Rattle.clos_machine.specs.Machine.{DesignatesInstance, Leads, Turns, at, inside, resume, initargs_in, names_in}
 use Rattle.clos_machine.specs.clos_meaning.Meaning.{closed}
-use Rattle.clos_machine.specs.clos_meaning.Outcome.{Eval, Run, Stopped, stopped}
+use Rattle.clos_machine.specs.clos_meaning.Outcome.{Eval, Run, Stopped, stopped, used}
+use Rattle.clos_machine.specs.clos_meaning.Uses.{after_notes, noting}
+use Rattle.clos_machine.specs.Uses.{LeadsBy, MadeSome}
 use Rattle.clos_machine.specs.clos_meaning.Slots.{instance_in}
 use Rattle.clos_machine.specs.clos_meaning.SystemMethods.{checked_shared, class_in, filled_as, if_valid, initialize_slots, shared_if_valid, shared_initialize, shared_initialized, slots_filled, system_method_run}
 use Rattle.clos_machine.specs.clos_meaning.Updating.{updated}
 use Rattle.clos_machine.specs.declared.machine.Doing.{Doing}
 use Rattle.clos_machine.specs.declared.machine.Machine.{Machine}
-use Rattle.clos_machine.proofs.Runs.{turns_of_leads, turns_same}
-use Rattle.clos_machine.proofs.Turns.{bare, bare_same, bare_through, leads_same, stopped_through}
+use Rattle.clos_machine.proofs.Runs.{turns_same}
+use Rattle.clos_machine.proofs.Turns.{leads_same, stopped_through}
+use Rattle.clos_machine.proofs.Uses.{kept_all, key_bound, leads_noting}
 use Rattle.clos_machine.specs.Fault.{TellsCondition}
+
+-- variables are no part of what initargs reach
+pub reaching_bound : (ls : List Local) (w : State) (f : SystemFunction) (vs : List Val) (i : ℕ) (names : Val)
+    → reaching (bound_as ls w) f vs i names ≡ reaching w f vs i names
+reaching_bound ls w f vs i names =
+    ap (λ k. used k ∷ used (key_of (bound_as ls w) (system_number SharedInitialize) (instance i ∷ names ∷ [])) ∷ []) (key_bound ls w (system_number f) vs)
+    ∙ ap (λ k. used (key_of w (system_number f) vs) ∷ used k ∷ []) (key_bound ls w (system_number SharedInitialize) (instance i ∷ names ∷ []))
 
 module _ (m n : Machine) (w : State) where
   -- a run that stops at once
@@ -36,12 +49,6 @@ module _ (m n : Machine) (w : State) where
 
   pub leads_refused : (run : Run) (c d : Condition) → ((t : ℕ) → run (at m w) t ≡ Stopped d (at m w) t) → c ≡ d → Leads (inside m run) w (Err (Refused c)) n
   leads_refused run c d h e = leads_stops run c (λ t. h t ∙ ap (λ x. Stopped x (at m w) t) (sym e))
-
-  -- the same after something was noted
-  pub leads_refused_after : (run : Run) (c d : Condition) → ((t : ℕ) → bare (run (at m w) t) ≡ Stopped d (at m w) t) → c ≡ d → Leads (inside m run) w (Err (Refused c)) n
-  leads_refused_after run c d h e = λ t.
-      bare_through m.levels m.context (run (at m w) t)
-      ∙ ap (λ o. closed (resume m.levels m.context o)) (h t ∙ ap (λ x. Stopped x (at m w) t) (sym e)) ∙ stopped_through m.levels m.context c (at m w) t
 
   -- what is no instance
   pub no_instance : (go : Result ℕ Condition → Run) (d : Result ℕ Condition) (stop : Stop) → ((c : Condition) (t : ℕ) → go (Err c) (at m w) t ≡ Stopped c (at m w) t)
@@ -87,21 +94,39 @@ module _ (m n : Machine) (w : State) where
         ∙ ap (λ x. invalid_initarg w.generics.methods x slots vs) (k ∙ ap (methods_reached w f us i) l)
         ∙ ap (λ x. invalid_initarg w.generics.methods (methods_reached w f us i names) x vs) j
 
-    pub invalid_shared : (p : ℕ × Effective) (k : Val) (stop : Stop) → Some p ≡ class_in w i → Some k ≡ wrong p.1 → TellsCondition (invalid_for k (class_name w.classes p.0)) stop
-        → Leads (inside m sharing) w (Err stop) n
-    invalid_shared p k Storage e h d = tt
-    invalid_shared p k (Refused c) e h d =
-        leads_refused_after sharing c (invalid_for k (class_name w.classes p.0))
-        (λ t. ap (λ o. bare (shared_if_valid ev f us names vs i o (at m w) t)) (sym e) ∙ ap (λ o. bare (if_valid p.0 o (shared_initialized ev i names vs) (at m w) t)) (sym h)) d
+    module _ (p : ℕ × Effective) (e : Some p ≡ class_in w i) (u u' : Uses) where
+      -- what is done once the methods are there that the initargs reach
+      abbrev checking : Run
+      checking = if_valid p.0 (wrong p.1) (shared_initialized ev i names vs)
 
-    pub valid_shared : (p : ℕ × Effective) (v : Val) (r : Result Doing Stop) → Some p ≡ class_in w i → None ≡ wrong p.1 → v ≡ names
-        → Leads (inside m (shared_initialized ev i v vs)) w r n → Leads (inside m sharing) w r n
-    valid_shared p v r e h q l =
-        leads_same (inside m (shared_initialized ev i v vs)) (inside m sharing) w r n
-        (λ t. ap (λ x. inside m (shared_initialized ev i x vs) w t) q
-        ∙ ap (λ o. inside m (if_valid p.0 o (shared_initialized ev i names vs)) w t) h
-        ∙ bare_same m.levels m.context (if_valid p.0 (wrong p.1) (shared_initialized ev i names vs) (at m w) t) (shared_if_valid ev f us names vs i (Some p) (at m w) t) refl
-        ∙ ap (λ o. inside m (shared_if_valid ev f us names vs i o) w t) e) l
+      checks : (t : ℕ) → sharing (at m w) t ≡ noting (reaching w f us i names) (checking (at m w) t)
+      checks t = ap (λ o. shared_if_valid ev f us names vs i o (at m w) t) (sym e) ∙ ap (λ ns. noting ns (checking (at m w) t)) (reaching_bound m.locals w f us i names)
+
+      pub invalid_shared : (k : Val) (stop : Stop) → Some k ≡ wrong p.1 → TellsCondition (invalid_for k (class_name w.classes p.0)) stop
+          → u' ≡ after_notes (reaching w f us i names) u → LeadsBy (inside m sharing) w u (Err stop) n u'
+      invalid_shared k stop h d q =
+          leads_noting m sharing checking (reaching w f us i names) w u u' (Err stop) n checks (refusing stop d) (kept_all {A = Doing} (reaching w f us i names) (Err stop) u u' q)
+        where
+          refusing : (x : Stop) → TellsCondition (invalid_for k (class_name w.classes p.0)) x → Leads (inside m checking) w (Err x) n
+          refusing Storage y = tt
+          refusing (Refused c) y = leads_refused checking c (invalid_for k (class_name w.classes p.0))
+              (λ t. ap (λ o. if_valid p.0 o (shared_initialized ev i names vs) (at m w) t) (sym h)) y
+
+      pub valid_shared : (v : Val) (r : Result Doing Stop) → None ≡ wrong p.1 → v ≡ names → u' ≡ after_notes (reaching w f us i names) u
+          → Leads (inside m (shared_initialized ev i v vs)) w r n → LeadsBy (inside m sharing) w u r n u'
+      valid_shared v r h k q l =
+          leads_noting m sharing checking (reaching w f us i names) w u u' r n checks
+          (leads_same (inside m (shared_initialized ev i v vs)) (inside m checking) w r n
+          (λ t. ap (λ x. inside m (shared_initialized ev i x vs) w t) k ∙ ap (λ o. inside m (if_valid p.0 o (shared_initialized ev i names vs)) w t) h) l)
+          (kept_all (reaching w f us i names) r u u' q)
+
+      -- memory was refused, for the methods or after they were there
+      pub storage_shared : (v : Val) → v ≡ names → MadeSome (reaching w f us i v) u u' → LeadsBy (inside m sharing) w u (Err Storage) n u'
+      storage_shared v k q =
+          leads_noting m sharing checking (reaching w f us i names) w u u' (Err Storage) n checks tt (subst (λ x. MadeSome (reaching w f us i x) u u') k q)
+
+      pub storage_reached : u' ≡ after_notes (reaching w f us i names) u → LeadsBy (inside m sharing) w u (Err Storage) n u'
+      storage_reached q = storage_shared names refl (kept_all {A = Doing} (reaching w f us i names) (Err Storage) u u' q)
 
   -- ---- slots that are initialized
 

@@ -4,6 +4,7 @@ ghost use Rattle.lisp_data.specs.Value.{instance};
 ghost use Rattle.lisp_data.specs.ValueView.{value_of};
 ghost use Rattle.clos_machine.specs.clos_world.Class.{layout};
 ghost use Rattle.clos_machine.specs.clos_world.clos_store.Store.{next_instance};
+ghost use Rattle.clos_machine.specs.clos_world.Uses.{uses_of};
 ghost use Rattle.clos_machine.specs.clos_world.World.{class_of_instance, seen};
 ghost use Rattle.clos_machine.specs.Machine.{Shrinks, Turns, act_weight, here};
 ghost use Rattle.clos_machine.specs.Updating.{IsThere};
@@ -33,6 +34,7 @@ pub fn change_class(
     ensures turns { Turns (here machine.old (λ ev env. change_called ev values)) (seen world.old) steps.old result machine.new (seen world.new) steps.new }
     ensures small { Shrinks act_weight steps.old steps.new machine.old.levels result machine.new }
     ensures fewer { steps.new ≤ steps.old }
+    ensures kept { uses_of world.new ≡ uses_of world.old }
 {
     let Some(object) = values.take_first() else {
         return Err(Stop::Refused(plain(alloc, ConditionKind::ProgramError)));
@@ -59,6 +61,7 @@ fn change_object(
     ensures turns { Turns (here machine.old (λ ev env. changed_of ev (value_of class) initargs (instance_in (value_of object)))) (seen world.old) steps.old result machine.new (seen world.new) steps.new }
     ensures small { Shrinks act_weight steps.old steps.new machine.old.levels result machine.new }
     ensures fewer { steps.new ≤ steps.old }
+    ensures kept { uses_of world.new ≡ uses_of world.old }
 {
     match instance_in(alloc, &object) {
         Err(stop) => {
@@ -85,6 +88,7 @@ fn update_and_change(
     ensures turns { Turns (here machine.old (λ ev env. updated ev id.0 (changed_to ev id.0 class.0 initargs))) (seen world.old) steps.old result machine.new (seen world.new) steps.new }
     ensures small { Shrinks act_weight steps.old steps.new machine.old.levels result machine.new }
     ensures fewer { steps.new ≤ steps.old }
+    ensures kept { uses_of world.new ≡ uses_of world.old }
 {
     match due(world, id)? {
         None => change_to(alloc, machine, world, id, class, initargs, steps),
@@ -122,6 +126,7 @@ pub fn change_to(
     ensures turns { Turns (here machine.old (λ ev env. changed_to ev id.0 class.0 initargs)) (seen world.old) steps.old result machine.new (seen world.new) steps.new }
     ensures small { Shrinks act_weight steps.old steps.new machine.old.levels result machine.new }
     ensures fewer { steps.new ≤ steps.old }
+    ensures kept { uses_of world.new ≡ uses_of world.old }
 {
     let Some(copy) = world.store().next_instance() else {
         return Err(Stop::Refused(plain(alloc, ConditionKind::TableLimit)));
@@ -152,6 +157,7 @@ fn change(
     ensures turns { Turns (here machine.old (λ ev env. class_changed ev id.0 class.0 layout.now initargs)) (seen world.old) steps.old result machine.new (seen world.new) steps.new }
     ensures small { Shrinks act_weight steps.old steps.new machine.old.levels result machine.new }
     ensures fewer { steps.new ≤ steps.old }
+    ensures kept { uses_of world.new ≡ uses_of world.old }
 {
     if *steps == 0 {
         return Err(Stop::Refused(plain(alloc, ConditionKind::StepLimit)));

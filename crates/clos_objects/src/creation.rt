@@ -2,8 +2,10 @@
 ghost use Rattle.std.specs.Prelude.{◌≡◌, ◌+◌, ◌≤◌, ◌<◌, ◌∷◌, [], IfOk, IfSome, MatchOption, drop, length, map, Some};
 ghost use Rattle.lisp_data.specs.ValueView.{value_of};
 ghost use Rattle.clos_machine.specs.clos_world.Class.{class_name, effective};
+ghost use Rattle.clos_machine.specs.clos_world.Uses.{uses_of};
 ghost use Rattle.clos_machine.specs.clos_world.World.{State, seen};
 ghost use Rattle.clos_machine.specs.clos_meaning.Initialization.{allocate, checked, defaulted, instance_made, invalid_for, making_of};
+ghost use Rattle.clos_machine.specs.Uses.{LeadsBy};
 ghost use Rattle.clos_machine.specs.Machine.{Grows, Leads, Turns, at, act_weight, value_weight, default_given, Shrinks, here, Does};
 ghost use Rattle.clos_machine.specs.Fault.{TellsCondition};
 ghost use Rattle.clos_objects.specs.Objects.{Enters, default_first, ungiven};
@@ -36,6 +38,7 @@ pub fn make_instance(
     ensures turns { Turns (here machine.old (λ ev env. instance_made ev values)) (seen world.old) steps.old result machine.new (seen world.new) steps.new }
     ensures small { Shrinks act_weight steps.old steps.new machine.old.levels result machine.new }
     ensures fewer { steps.new ≤ steps.old }
+    ensures kept { uses_of world.new ≡ uses_of world.old }
 {
     match values.take_first() {
         None => Err(Stop::Refused(plain(alloc, ConditionKind::ProgramError))),
@@ -55,6 +58,7 @@ fn make(
     ensures turns { Turns (here machine.old (λ ev env. instance_made ev (value_of class ∷ initargs))) (seen world.old) steps.old result machine.new (seen world.new) steps.new }
     ensures small { Shrinks act_weight steps.old steps.new machine.old.levels result machine.new }
     ensures fewer { steps.new ≤ steps.old }
+    ensures kept { uses_of world.new ≡ uses_of world.old }
 {
     if !are_pairs(initargs.as_slice()) {
         drop(class);
@@ -77,6 +81,7 @@ fn make_of(
     ensures turns { Turns (here machine.old (λ ev env w. making_of ev initargs class.0 (effective w.classes class.0) w)) (seen world.old) steps.old result machine.new (seen world.new) steps.new }
     ensures small { Shrinks act_weight steps.old steps.new machine.old.levels result machine.new }
     ensures fewer { steps.new ≤ steps.old }
+    ensures kept { uses_of world.new ≡ uses_of world.old }
 {
     match Finalized::find(world, class)? {
         None => Err(Stop::Refused(plain(alloc, ConditionKind::ProgramError))),
@@ -105,6 +110,7 @@ fn make_within(
     ensures turns { Turns (here machine.old (λ ev env. making_of ev initargs class.0 (Some effective))) (seen world.old) steps.old result machine.new (seen world.new) steps.new }
     ensures small { Shrinks act_weight steps.old steps.new machine.old.levels result machine.new }
     ensures fewer { steps.new ≤ steps.old }
+    ensures kept { uses_of world.new ≡ uses_of world.old }
 {
     enter(alloc, machine)?;
     match next_ungiven(&effective, 0, initargs.as_slice()) {
@@ -221,6 +227,7 @@ pub fn allocate(
     ensures turns { Turns (here machine.old (λ ev env. allocate ev env class.0 effective initargs)) (seen world.old) steps.old result machine.new (seen world.new) steps.new }
     ensures small { Shrinks value_weight steps.old steps.new machine.old.levels result machine.new }
     ensures fewer { steps.new ≤ steps.old }
+    ensures kept { uses_of world.new ≡ uses_of world.old }
 {
     let _ = machine;
     let Some(id) = world.store().next_instance() else {
@@ -237,7 +244,7 @@ pub fn allocate(
 }
 
 /// The instance that was made is initialized, unless an initarg is not valid; then it is given.
-#[tactic(auto, using(clos_machine::proofs::Turns::grows_more))]
+#[tactic(auto, using(clos_machine::proofs::Turns::grows_more, clos_machine::proofs::Uses::leads_storage))]
 pub fn initialize(
     alloc: Global,
     machine: &mut Machine,
@@ -247,18 +254,22 @@ pub fn initialize(
     id: InstanceId,
     mut initargs: Values,
 ) -> Result<Doing, Stop>
-    ensures leads { Leads (here machine.old (λ ev env. checked ev class.0 effective.now initargs id.0)) (seen world.old) result machine.new }
+    ensures leads { LeadsBy (here machine.old (λ ev env. checked ev class.0 effective.now initargs id.0)) (seen world.old) (uses_of world.old) result machine.new (uses_of world.new) }
     ensures same { seen world.new ≡ seen world.old }
     ensures small { Grows value_weight machine.old.levels result machine.new }
 {
     let function = SystemFunction::InitializeInstance;
     let object = [Value::Instance(id)];
-    let reached = methods_reached(alloc, world, function, &object, id, t())?;
+    let Ok(reached) = methods_reached(alloc, world, function, &object, id, t()) else {
+        return Err(Stop::Storage);
+    };
     let methods = world.generics.methods();
     if let Some(name) = invalid_initarg(methods, &reached, effective.slots(), initargs.as_slice()) {
         return Err(refuse(alloc, world, class, name));
     }
-    initargs.push_first(Value::Instance(id))?;
+    let Ok(()) = initargs.push_first(Value::Instance(id)) else {
+        return Err(Stop::Storage);
+    };
     let frame = Frame::Keep(Forms::new(), Value::Instance(id));
     invoke_under(machine, function, initargs, frame)
 }

@@ -4,6 +4,7 @@ ghost use Rattle.std.specs.Option.{option_map_or};
 ghost use Rattle.lisp_data.specs.Value.{list, nil};
 ghost use Rattle.lisp_data.specs.ValueView.{value_of};
 ghost use Rattle.clos_machine.specs.clos_world.clos_store.Store.{slot_found};
+ghost use Rattle.clos_machine.specs.clos_world.Uses.{uses_of};
 ghost use Rattle.clos_machine.specs.clos_world.World.{class_of_instance, seen};
 ghost use Rattle.clos_machine.specs.clos_meaning.Filling.{is_named, fill, filler, is_the_class, unbound_filler};
 ghost use Rattle.clos_machine.specs.Machine.{Shrinks, Turns, slots_left, subject_of, act_weight, fill_with, here};
@@ -95,6 +96,7 @@ pub fn fill(
     ensures turns { Turns (here machine.old (λ ev env. fill ev env (subject_of filling) (slots_left filling))) (seen world.old) steps.old result machine.new (seen world.new) steps.new }
     ensures small { Shrinks act_weight steps.old steps.new machine.old.levels result machine.new }
     ensures fewer { steps.new ≤ steps.old }
+    ensures kept { uses_of world.new ≡ uses_of world.old }
 {
     match next_filler(world, &filling)? {
         None => Ok(Doing::Give(Value::Instance(filling.instance))),
@@ -120,6 +122,7 @@ fn fill_first(
     ensures turns { Turns (here machine.now (λ ev env. first_filled ev env (subject_of filling) (slots_left filling) (value_of value))) (seen world.old) steps.old result machine.now (seen world.new) steps.new }
     ensures small { Shrinks act_weight steps.old steps.new machine.now.levels result machine.now }
     ensures fewer { steps.new ≤ steps.old }
+    ensures kept { uses_of world.new ≡ uses_of world.old }
 {
     let _ = machine;
     let Some((slot, next)) = slot_at(&filling) else {
@@ -160,6 +163,7 @@ pub fn fill_with(
     ensures turns { Turns (here machine.old (λ ev env. fill_with ev env (subject_of filling) (slots_left filling) (value_of value))) (seen world.old) steps.old result machine.new (seen world.new) steps.new }
     ensures small { Shrinks act_weight steps.old steps.new machine.old.levels result machine.new }
     ensures fewer { steps.new ≤ steps.old }
+    ensures kept { uses_of world.new ≡ uses_of world.old }
 {
     if !is_the_class(world, &filling) {
         return Ok(Doing::Give(Value::Instance(filling.instance)));

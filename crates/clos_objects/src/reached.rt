@@ -1,5 +1,5 @@
 //! The methods that the initargs of an instance reach (HyperSpec 7.1.2).
-ghost use Rattle.std.specs.Prelude.{◌≡◌, ◌∷◌, [], IfOk, map};
+ghost use Rattle.std.specs.Prelude.{◌≡◌, ◌∷◌, [], IfOk, OnErr, OnOk, map};
 ghost use Rattle.std.specs.List.{list_any};
 ghost use Rattle.lisp_data.specs.Value.{instance};
 ghost use Rattle.lisp_data.specs.ValueView.{value_of};
@@ -7,8 +7,13 @@ ghost use Rattle.clos_method.specs.Keywords.{method_allows, method_names};
 ghost use Rattle.clos_method.specs.System.{system_number};
 ghost use Rattle.clos_method.specs.declared.system.SystemFunction.TheVariants.{SharedInitialize};
 ghost use Rattle.clos_machine.specs.clos_world.Dispatch.{ordered};
+ghost use Rattle.clos_machine.specs.clos_world.Keys.{key_of};
+ghost use Rattle.clos_machine.specs.clos_world.Uses.{AtMostOneMore, uses_of};
 ghost use Rattle.clos_machine.specs.clos_world.World.{seen};
-ghost use Rattle.clos_machine.specs.clos_meaning.Initialization.{methods_reached};
+ghost use Rattle.clos_machine.specs.clos_meaning.Initialization.{methods_reached, reaching};
+ghost use Rattle.clos_machine.specs.clos_meaning.Outcome.{used};
+ghost use Rattle.clos_machine.specs.clos_meaning.Uses.{after_notes, most, with_note};
+ghost use Rattle.clos_machine.specs.Uses.{MadeSome};
 
 use clos_machine::{EffectiveMethod, Values, World};
 use clos_method::{Method, SystemFunction, any_allows, any_names};
@@ -57,6 +62,7 @@ impl Reached {
 
 /// Those that the initargs of a call of this function with these arguments reach, and of shared-initialize with these names of
 /// slots.
+#[tactic(auto, using(clos_machine::proofs::Uses::none_made, crate::proofs::Reaching::second_refused))]
 pub fn methods_reached(
     alloc: Global,
     world: &mut World,
@@ -67,6 +73,8 @@ pub fn methods_reached(
 ) -> Result<Reached, AllocError>
     ensures reached { IfOk result (λ r. r ≡ methods_reached (seen world.old) function (map value_of arguments.now) id.0 (value_of names)) }
     ensures same { seen world.new ≡ seen world.old }
+    ensures uses { OnOk result (uses_of world.new ≡ after_notes (reaching (seen world.old) function (map value_of arguments.now) id.0 (value_of names)) (uses_of world.old)) }
+    ensures refused { OnErr result (MadeSome (reaching (seen world.old) function (map value_of arguments.now) id.0 (value_of names)) (uses_of world.old) (uses_of world.new)) }
 {
     let Ok(own) = world.effective_method(alloc, function.id(), arguments) else {
         drop(names);
@@ -88,6 +96,8 @@ fn shared_methods(
 ) -> Result<Rc<EffectiveMethod>, AllocError>
     ensures methods { IfOk result (λ r. r.value.methods ≡ ordered (seen world.old) (system_number SharedInitialize) (instance id.0 ∷ value_of names ∷ [])) }
     ensures same { seen world.new ≡ seen world.old }
+    ensures uses { OnOk result (uses_of world.new ≡ with_note (used (key_of (seen world.old) (system_number SharedInitialize) (instance id.0 ∷ value_of names ∷ []))) (uses_of world.old)) }
+    ensures refused { OnErr result (AtMostOneMore most (uses_of world.old) (uses_of world.new)) }
 {
     let mut arguments = Values::new(alloc);
     let Ok(()) = arguments.push(Value::Instance(id)) else {

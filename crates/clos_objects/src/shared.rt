@@ -2,7 +2,9 @@
 ghost use Rattle.std.specs.Prelude.{◌≡◌, ◌∷◌, IfOk, map, option_map};
 ghost use Rattle.lisp_data.specs.Value.{instance};
 ghost use Rattle.lisp_data.specs.ValueView.{value_of};
+ghost use Rattle.clos_machine.specs.clos_world.Uses.{uses_of};
 ghost use Rattle.clos_machine.specs.clos_world.World.{seen};
+ghost use Rattle.clos_machine.specs.Uses.{LeadsBy};
 ghost use Rattle.clos_machine.specs.Machine.{Grows, Leads, value_weight, here};
 ghost use Rattle.clos_machine.specs.clos_meaning.SystemMethods.{checked_shared, class_in, shared_initialized};
 
@@ -71,6 +73,7 @@ fn shared_arguments(
 
 /// Shared-initialize is called with an instance, these names of slots and these initargs, unless one is not valid for a call of
 /// this function with these arguments; then the instance is given.
+#[tactic(auto, using(clos_machine::proofs::Uses::leads_storage))]
 pub fn check_shared(
     alloc: Global,
     machine: &mut Machine,
@@ -81,19 +84,25 @@ pub fn check_shared(
     id: InstanceId,
     initargs: &[Value],
 ) -> Result<Doing, Stop>
-    ensures leads { Leads (here machine.old (λ ev env. checked_shared ev function (map value_of arguments.now) (value_of names.now) (map value_of initargs.now) id.0)) (seen world.old) result machine.new }
+    ensures leads { LeadsBy (here machine.old (λ ev env. checked_shared ev function (map value_of arguments.now) (value_of names.now) (map value_of initargs.now) id.0)) (seen world.old) (uses_of world.old) result machine.new (uses_of world.new) }
     ensures same { seen world.new ≡ seen world.old }
     ensures small { Grows value_weight machine.old.levels result machine.new }
 {
     match class_in(world, id)? {
         None => Err(Stop::Refused(plain(alloc, ConditionKind::ProgramError))),
         Some((class, effective)) => {
-            let reached = methods_reached(alloc, world, function, arguments, id, names.copy()?)?;
+            let given = names.copy()?;
+            let Ok(reached) = methods_reached(alloc, world, function, arguments, id, given) else {
+                return Err(Stop::Storage);
+            };
             let methods = world.generics.methods();
-            match invalid_initarg(methods, &reached, effective.slots(), initargs) {
-                Some(name) => Err(refuse(alloc, world, class, name)),
-                None => initialize_shared(alloc, machine, world, id, names.copy()?, initargs),
+            if let Some(name) = invalid_initarg(methods, &reached, effective.slots(), initargs) {
+                return Err(refuse(alloc, world, class, name));
             }
+            let Ok(names) = names.copy() else {
+                return Err(Stop::Storage);
+            };
+            initialize_shared(alloc, machine, world, id, names, initargs)
         }
     }
 }

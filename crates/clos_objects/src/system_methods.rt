@@ -1,7 +1,9 @@
 //! What the system's methods do with the arguments of their calls (HyperSpec 7.1.4, 7.3, 7.7).
 ghost use Rattle.std.specs.Prelude.{◌≡◌, ◌≤◌, ◌∷◌, [], IfOk, MatchOption, map};
 ghost use Rattle.lisp_data.specs.ValueView.{value_of};
+ghost use Rattle.clos_machine.specs.clos_world.Uses.{uses_of};
 ghost use Rattle.clos_machine.specs.clos_world.World.{seen};
+ghost use Rattle.clos_machine.specs.Uses.{LeadsBy, TurnsBy};
 ghost use Rattle.clos_machine.specs.Machine.{Grows, Leads, Shrinks, Turns, initargs_in, names_in, built_in_growth, perform_weight, value_weight, here};
 ghost use Rattle.clos_machine.specs.clos_meaning.Slots.{instance_in};
 ghost use Rattle.clos_machine.specs.clos_meaning.SystemMethods.{initialize, reinitialize, reinitialize_instance, slot_condition, slots_filled, system_method_run, told};
@@ -37,7 +39,7 @@ pub fn run_system_method(
     arguments: &Arguments,
     steps: &mut u64,
 ) -> Result<Doing, Stop>
-    ensures turns { Turns (here machine.old (λ ev env. system_method_run ev function arguments.now)) (seen world.old) steps.old result machine.new (seen world.new) steps.new }
+    ensures turns { TurnsBy (here machine.old (λ ev env. system_method_run ev function arguments.now)) (seen world.old) steps.old (uses_of world.old) result machine.new (seen world.new) steps.new (uses_of world.new) }
     ensures small { Shrinks perform_weight steps.old steps.new machine.old.levels result machine.new }
     ensures fewer { steps.new ≤ steps.old }
 {
@@ -52,7 +54,7 @@ pub fn run_system_method(
 }
 
 /// The same with arguments that begin with this one.
-#[tactic(auto, using(clos_machine::proofs::Runs::turns_of_leads, clos_machine::proofs::Turns::shrinks_by, clos_machine::proofs::Turns::stopped_through))]
+#[tactic(auto, using(clos_machine::proofs::Uses::turns_none, clos_machine::proofs::Uses::turns_none_of, clos_machine::proofs::Uses::turns_by, clos_machine::proofs::Runs::turns_of_leads, clos_machine::proofs::Turns::shrinks_by, clos_machine::proofs::Turns::stopped_through))]
 fn run_with(
     alloc: Global,
     machine: &mut Machine,
@@ -64,7 +66,7 @@ fn run_with(
     steps: &mut u64,
 ) -> Result<Doing, Stop>
     requires { arguments.now ≡ value_of first.now ∷ map value_of rest.now }
-    ensures turns { Turns (here machine.old (λ ev env. system_method_run ev function arguments.now)) (seen world.old) steps.old result machine.new (seen world.new) steps.new }
+    ensures turns { TurnsBy (here machine.old (λ ev env. system_method_run ev function arguments.now)) (seen world.old) steps.old (uses_of world.old) result machine.new (seen world.new) steps.new (uses_of world.new) }
     ensures small { Shrinks perform_weight steps.old steps.new machine.old.levels result machine.new }
     ensures fewer { steps.new ≤ steps.old }
 {
@@ -126,7 +128,7 @@ fn reinitialize(
     initargs: &[Value],
     steps: &mut u64,
 ) -> Result<Doing, Stop>
-    ensures turns { Turns (here machine.old (λ ev env. reinitialize ev (map value_of initargs.now) (instance_in (value_of object.now)))) (seen world.old) steps.old result machine.new (seen world.new) steps.new }
+    ensures turns { TurnsBy (here machine.old (λ ev env. reinitialize ev (map value_of initargs.now) (instance_in (value_of object.now)))) (seen world.old) steps.old (uses_of world.old) result machine.new (seen world.new) steps.new (uses_of world.new) }
     ensures small { Shrinks perform_weight steps.old steps.new machine.old.levels result machine.new }
     ensures fewer { steps.new ≤ steps.old }
 {
@@ -137,6 +139,7 @@ fn reinitialize(
 }
 
 /// An instance is initialized again, and updated before where it is stale.
+#[tactic(auto, using(clos_machine::proofs::Uses::turns_storage))]
 fn update_and_reinitialize(
     alloc: Global,
     machine: &mut Machine,
@@ -145,7 +148,7 @@ fn update_and_reinitialize(
     initargs: &[Value],
     steps: &mut u64,
 ) -> Result<Doing, Stop>
-    ensures turns { Turns (here machine.old (λ ev env. updated ev id.0 (reinitialize_instance ev (map value_of initargs.now) id.0))) (seen world.old) steps.old result machine.new (seen world.new) steps.new }
+    ensures turns { TurnsBy (here machine.old (λ ev env. updated ev id.0 (reinitialize_instance ev (map value_of initargs.now) id.0))) (seen world.old) steps.old (uses_of world.old) result machine.new (seen world.new) steps.new (uses_of world.new) }
     ensures small { Shrinks perform_weight steps.old steps.new machine.old.levels result machine.new }
     ensures fewer { steps.new ≤ steps.old }
 {
@@ -168,7 +171,7 @@ pub fn reinitialize_instance(
     id: InstanceId,
     initargs: &[Value],
 ) -> Result<Doing, Stop>
-    ensures leads { Leads (here machine.old (λ ev env. reinitialize_instance ev (map value_of initargs.now) id.0)) (seen world.old) result machine.new }
+    ensures leads { LeadsBy (here machine.old (λ ev env. reinitialize_instance ev (map value_of initargs.now) id.0)) (seen world.old) (uses_of world.old) result machine.new (uses_of world.new) }
     ensures same { seen world.new ≡ seen world.old }
     ensures small { Grows value_weight machine.old.levels result machine.new }
 {
@@ -200,6 +203,7 @@ fn initialize_slots(
     ensures turns { Turns (here machine.old (λ ev env. system_method_run ev SharedInitialize arguments.now)) (seen world.old) steps.old result machine.new (seen world.new) steps.new }
     ensures small { Shrinks perform_weight steps.old steps.new machine.old.levels result machine.new }
     ensures fewer { steps.new ≤ steps.old }
+    ensures kept { uses_of world.new ≡ uses_of world.old }
 {
     match split(rest) {
         None => Err(Stop::Refused(plain(alloc, ConditionKind::ProgramError))),
@@ -232,6 +236,7 @@ fn update_and_fill(
     ensures turns { Turns (here machine.old (λ ev env. updated ev id.0 (slots_filled ev id.0 (names_in arguments.now) (initargs_in arguments.now)))) (seen world.old) steps.old result machine.new (seen world.new) steps.new }
     ensures small { Shrinks perform_weight steps.old steps.new machine.old.levels result machine.new }
     ensures fewer { steps.new ≤ steps.old }
+    ensures kept { uses_of world.new ≡ uses_of world.old }
 {
     match due(world, id)? {
         None => fill_instance(alloc, machine, world, id, arguments),

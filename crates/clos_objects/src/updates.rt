@@ -2,8 +2,10 @@
 ghost use Rattle.std.specs.Prelude.{◌≡◌, ◌∷◌, not, IfOk, map, option_map};
 ghost use Rattle.std.specs.List.{filter};
 ghost use Rattle.lisp_data.specs.ValueView.{value_of};
+ghost use Rattle.clos_machine.specs.clos_world.Uses.{uses_of};
 ghost use Rattle.clos_machine.specs.clos_world.World.{seen};
-ghost use Rattle.clos_machine.specs.Machine.{Grows, Leads, value_weight, here};
+ghost use Rattle.clos_machine.specs.Uses.{LeadsBy};
+ghost use Rattle.clos_machine.specs.Machine.{Grows, value_weight, here};
 ghost use Rattle.clos_machine.specs.clos_meaning.SystemMethods.{different_from, different_with, new_slots, system_method_run};
 ghost use Rattle.clos_machine.specs.clos_meaning.Slots.{has_slot, instance_in};
 ghost use Rattle.clos_machine.specs.clos_meaning.Updating.{names_listed};
@@ -49,7 +51,7 @@ pub fn update_redefined(
     arguments: &Arguments,
 ) -> Result<Doing, Stop>
     requires { arguments.now ≡ value_of object.now ∷ map value_of rest.now }
-    ensures leads { Leads (here machine.old (λ ev env. system_method_run ev UpdateInstanceForRedefinedClass arguments.now)) (seen world.old) result machine.new }
+    ensures leads { LeadsBy (here machine.old (λ ev env. system_method_run ev UpdateInstanceForRedefinedClass arguments.now)) (seen world.old) (uses_of world.old) result machine.new (uses_of world.new) }
     ensures same { seen world.new ≡ seen world.old }
     ensures small { Grows value_weight machine.old.levels result machine.new }
 {
@@ -76,7 +78,7 @@ pub fn update_different(
     arguments: &Arguments,
 ) -> Result<Doing, Stop>
     requires { arguments.now ≡ value_of previous.now ∷ map value_of rest.now }
-    ensures leads { Leads (here machine.old (λ ev env. system_method_run ev UpdateInstanceForDifferentClass arguments.now)) (seen world.old) result machine.new }
+    ensures leads { LeadsBy (here machine.old (λ ev env. system_method_run ev UpdateInstanceForDifferentClass arguments.now)) (seen world.old) (uses_of world.old) result machine.new (uses_of world.new) }
     ensures same { seen world.new ≡ seen world.old }
     ensures small { Grows value_weight machine.old.levels result machine.new }
 {
@@ -102,7 +104,7 @@ fn update_from(
     current: &Value,
     initargs: &[Value],
 ) -> Result<Doing, Stop>
-    ensures leads { Leads (here machine.old (λ ev env. different_from ev (map value_of arguments.now) (map value_of initargs.now) copy.0 (instance_in (value_of current.now)))) (seen world.old) result machine.new }
+    ensures leads { LeadsBy (here machine.old (λ ev env. different_from ev (map value_of arguments.now) (map value_of initargs.now) copy.0 (instance_in (value_of current.now)))) (seen world.old) (uses_of world.old) result machine.new (uses_of world.new) }
     ensures same { seen world.new ≡ seen world.old }
     ensures small { Grows value_weight machine.old.levels result machine.new }
 {
@@ -113,6 +115,7 @@ fn update_from(
 }
 
 /// The same with this instance.
+#[tactic(auto, using(clos_machine::proofs::Uses::leads_storage))]
 fn update_to(
     alloc: Global,
     machine: &mut Machine,
@@ -122,7 +125,7 @@ fn update_to(
     id: InstanceId,
     initargs: &[Value],
 ) -> Result<Doing, Stop>
-    ensures leads { Leads (here machine.old (λ ev env w. different_with ev (map value_of arguments.now) (map value_of initargs.now) id.0 (names_listed (new_slots w copy.0 id.0)) w)) (seen world.old) result machine.new }
+    ensures leads { LeadsBy (here machine.old (λ ev env w. different_with ev (map value_of arguments.now) (map value_of initargs.now) id.0 (names_listed (new_slots w copy.0 id.0)) w)) (seen world.old) (uses_of world.old) result machine.new (uses_of world.new) }
     ensures same { seen world.new ≡ seen world.old }
     ensures small { Grows value_weight machine.old.levels result machine.new }
 {

@@ -7,6 +7,7 @@ ghost use Rattle.lisp_prims.specs.Primitive.{truth};
 ghost use Rattle.clos_forms.specs.Quotation.{name_value};
 ghost use Rattle.clos_machine.specs.clos_world.clos_store.Store.{slot_found};
 ghost use Rattle.clos_machine.specs.clos_world.Values.{only_value};
+ghost use Rattle.clos_machine.specs.clos_world.Uses.{uses_of};
 ghost use Rattle.clos_machine.specs.clos_world.World.{class_of_instance, seen};
 ghost use Rattle.clos_machine.specs.clos_meaning.Accessors.{read_by, written_by};
 ghost use Rattle.clos_machine.specs.Machine.{Grows, Leads, Shrinks, Turns, act_weight, inside, slot_visited, value_weight, here};
@@ -121,6 +122,7 @@ pub fn call_reader(
     ensures turns { Turns (here machine.old (λ ev env. read_by ev env slot (map value_of values.now))) (seen world.old) steps.old result machine.new (seen world.new) steps.new }
     ensures small { Shrinks act_weight steps.old steps.new machine.old.levels result machine.new }
     ensures fewer { steps.new ≤ steps.old }
+    ensures kept { uses_of world.new ≡ uses_of world.old }
 {
     match only(values) {
         None => Err(Stop::Refused(plain(alloc, ConditionKind::ProgramError))),
@@ -143,6 +145,7 @@ pub fn call_writer(
     ensures turns { Turns (here machine.old (λ ev env. written_by ev env slot (map value_of values.now))) (seen world.old) steps.old result machine.new (seen world.new) steps.new }
     ensures small { Shrinks act_weight steps.old steps.new machine.old.levels result machine.new }
     ensures fewer { steps.new ≤ steps.old }
+    ensures kept { uses_of world.new ≡ uses_of world.old }
 {
     match two(values) {
         None => Err(Stop::Refused(plain(alloc, ConditionKind::ProgramError))),
@@ -170,6 +173,7 @@ pub fn call_slot_function(
     ensures turns { Turns (here machine.old (λ ev env. slot_called ev env function values.now)) (seen world.old) steps.old result machine.new (seen world.new) steps.new }
     ensures small { Shrinks act_weight steps.old steps.new machine.old.levels result machine.new }
     ensures fewer { steps.new ≤ steps.old }
+    ensures kept { uses_of world.new ≡ uses_of world.old }
 {
     match two(values.as_slice()) {
         None => Err(Stop::Refused(plain(alloc, ConditionKind::ProgramError))),
@@ -192,6 +196,7 @@ fn answer(
     ensures turns { Turns (here machine.old (λ ev env. slot_asked ev env function id.0 name)) (seen world.old) steps.old result machine.new (seen world.new) steps.new }
     ensures small { Shrinks act_weight steps.old steps.new machine.old.levels result machine.new }
     ensures fewer { steps.new ≤ steps.old }
+    ensures kept { uses_of world.new ≡ uses_of world.old }
 {
     match function {
         SlotFunction::SlotValue => visit(alloc, machine, world, id, SlotVisit::Read(name), steps),
@@ -216,6 +221,7 @@ fn visit(
     ensures turns { Turns (here machine.old (λ ev env. updated ev id.0 (slot_visited ev env id.0 visit))) (seen world.old) steps.old result machine.new (seen world.new) steps.new }
     ensures small { Shrinks act_weight steps.old steps.new machine.old.levels result machine.new }
     ensures fewer { steps.new ≤ steps.old }
+    ensures kept { uses_of world.new ≡ uses_of world.old }
 {
     let Ok(due) = due(world, id) else {
         drop(visit);
@@ -250,6 +256,7 @@ pub fn visit_slot(
     ensures turns { Turns (here machine.old (λ ev env. slot_visited ev env id.0 visit)) (seen world.old) steps.old result machine.new (seen world.new) steps.new }
     ensures small { Shrinks act_weight steps.old steps.new machine.old.levels result machine.new }
     ensures fewer { steps.new ≤ steps.old }
+    ensures kept { uses_of world.new ≡ uses_of world.old }
 {
     match visit {
         SlotVisit::Read(name) => read(alloc, machine, world, id, &name),
@@ -345,6 +352,7 @@ fn change(
     ensures turns { Turns (here machine.old (λ ev env w. slot_changed ev env id.0 name (option_map value_of value) (value_of given) (slot_found w.store id.0 name) w)) (seen world.old) steps.old result machine.new (seen world.new) steps.new }
     ensures small { Grows value_weight machine.old.levels result machine.new }
     ensures fewer { steps.new ≤ steps.old }
+    ensures kept { uses_of world.new ≡ uses_of world.old }
 {
     if world.store().slot(id, &name).is_none() {
         return change_missing(alloc, machine, world, id, &name, value, given);
@@ -417,6 +425,7 @@ pub fn set_slot_value(
     ensures turns { Turns (here machine.old (λ ev env. slot_set ev env values.now)) (seen world.old) steps.old result machine.new (seen world.new) steps.new }
     ensures small { Shrinks act_weight steps.old steps.new machine.old.levels result machine.new }
     ensures fewer { steps.new ≤ steps.old }
+    ensures kept { uses_of world.new ≡ uses_of world.old }
 {
     match three(values.as_slice()) {
         None => Err(Stop::Refused(plain(alloc, ConditionKind::ProgramError))),

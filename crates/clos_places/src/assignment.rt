@@ -6,6 +6,7 @@ ghost use Rattle.lisp_prims.specs.Primitive.{answer};
 ghost use Rattle.clos_forms.specs.Form.{operator_in, parts_in, cons, nil};
 ghost use Rattle.clos_forms.specs.OperatorView.{operator_of, place_of};
 ghost use Rattle.clos_machine.specs.clos_world.Values.{only_value};
+ghost use Rattle.clos_machine.specs.clos_world.Uses.{uses_of};
 ghost use Rattle.clos_machine.specs.clos_world.World.{State, seen};
 ghost use Rattle.clos_machine.specs.clos_meaning.Assignment.{stored, stored_globally, stored_only, made_of, changed, changed_only};
 ghost use Rattle.clos_machine.specs.clos_meaning.Fault.{answered};
@@ -421,6 +422,7 @@ fn store(
     ensures turns { Turns (inside machine.old (stored name.now (value_of value))) (seen world.old) steps.old result machine.new (seen world.new) steps.new }
     ensures small { Grows value_weight machine.old.levels result machine.new }
     ensures fewer { steps.new ≤ steps.old }
+    ensures kept { uses_of world.new ≡ uses_of world.old }
 {
     let given = value.copy()?;
     match machine.locals.set(name, value) {
@@ -443,6 +445,7 @@ fn store_globally(
     ensures turns { Turns (inside machine.now (stored_globally name.now (value_of value))) (seen world.old) steps.old result machine.now (seen world.new) steps.new }
     ensures small { Grows value_weight machine.now.levels result machine.now }
     ensures fewer { steps.new ≤ steps.old }
+    ensures kept { uses_of world.new ≡ uses_of world.old }
 {
     let _ = machine;
     if !world.globals.has(name) {
@@ -472,6 +475,7 @@ pub fn store_only(
     ensures turns { Turns (inside machine.old (stored_only name.now (only_value values.now))) (seen world.old) steps.old result machine.new (seen world.new) steps.new }
     ensures small { Grows value_weight machine.old.levels result machine.new }
     ensures fewer { steps.new ≤ steps.old }
+    ensures kept { uses_of world.new ≡ uses_of world.old }
 {
     match values.only() {
         None => Err(Stop::Refused(plain(alloc, ConditionKind::ProgramError))),
@@ -492,6 +496,7 @@ pub fn change_only(
     ensures turns { Turns (inside machine.old (changed_only primitive name.now (only_value values.now))) (seen world.old) steps.old result machine.new (seen world.new) steps.new }
     ensures small { Grows value_weight machine.old.levels result machine.new }
     ensures fewer { steps.new ≤ steps.old }
+    ensures kept { uses_of world.new ≡ uses_of world.old }
 {
     match values.only() {
         None => Err(Stop::Refused(plain(alloc, ConditionKind::ProgramError))),
@@ -511,6 +516,7 @@ fn change_by_value(
     ensures turns { Turns (inside machine.old (changed primitive name.now (value_of amount.now))) (seen world.old) steps.old result machine.new (seen world.new) steps.new }
     ensures small { Grows value_weight machine.old.levels result machine.new }
     ensures fewer { steps.new ≤ steps.old }
+    ensures kept { uses_of world.new ≡ uses_of world.old }
 {
     match new_value_of(alloc, machine, world, primitive, name, amount) {
         Ok(value) => store(alloc, machine, world, name, value, steps),

@@ -3,6 +3,7 @@
 ghost use Rattle.std.specs.Prelude.{◌≡◌, ◌∷◌, ◌+◌, ◌≤◌, IfOk};
 ghost use Rattle.lisp_data.specs.ValueView.{value_of};
 ghost use Rattle.clos_machine.specs.clos_world.Values.{last_first};
+ghost use Rattle.clos_machine.specs.clos_world.Uses.{uses_of};
 ghost use Rattle.clos_machine.specs.clos_world.World.{seen};
 ghost use Rattle.clos_machine.specs.clos_meaning.Functions.{place_set};
 ghost use Rattle.clos_machine.specs.Machine.{access_of, act_weight, action_weight, changed_weight, Grows, Turns, value_weight, here, Does};
@@ -105,6 +106,7 @@ pub fn set_name(
     ensures turns { Turns (here machine.old (λ ev env w. name_set ev env name.now (place_denoted w name.now) values w)) (seen world.old) steps.old result machine.new (seen world.new) steps.new }
     ensures small { Grows act_weight machine.old.levels result machine.new }
     ensures fewer { steps.new ≤ steps.old }
+    ensures kept { uses_of world.new ≡ uses_of world.old }
 {
     match place_denoted(alloc, machine, name)? {
         None => store_only(alloc, machine, world, name, &values, steps),
@@ -129,6 +131,7 @@ pub fn change_name(
     ensures turns { Turns (here machine.old (λ ev env w. name_changed ev env primitive name.now (place_denoted w name.now) values w)) (seen world.old) steps.old result machine.new (seen world.new) steps.new }
     ensures small { Grows (action_weight (ChangePlace primitive SlotValue)) machine.old.levels result machine.new }
     ensures fewer { steps.new ≤ steps.old }
+    ensures kept { uses_of world.new ≡ uses_of world.old }
 {
     match place_denoted(alloc, machine, name)? {
         None => change_only(alloc, machine, world, primitive, name, &values, steps),

@@ -22,13 +22,14 @@ use Rattle.clos_definition_forms.specs.clos_world.World.{State}
 use Rattle.clos_definition_forms.specs.clos_world.declared.condition.Condition.{Condition}
 use Rattle.clos_definition_forms.specs.clos_world.declared.condition.ConditionKind.TheVariants.{TableLimit}
 use Rattle.clos_definition_forms.specs.clos_world.declared.functions.Function.{Function}
-use Rattle.clos_definition_forms.specs.clos_definition.Class.{cells_needed, class_number, class_refusal, initforms, with_defined_class}
-use Rattle.clos_definition_forms.specs.clos_definition.Generic.{eql_forms, generic_refusal, with_defined_generic}
-use Rattle.clos_definition_forms.specs.clos_definition.Method.{eql_form, method_refusal, with_defined_method}
-use Rattle.clos_definition_forms.specs.clos_definition.Removal.{removable, with_removed}
+use Rattle.clos_definition_forms.specs.clos_definition.Class.{cells_needed, class_concerned, class_number, class_refusal, initforms, with_defined_class}
+use Rattle.clos_definition_forms.specs.clos_definition.Generic.{eql_forms, generic_concerned, generic_refusal, with_defined_generic}
+use Rattle.clos_definition_forms.specs.clos_definition.Method.{eql_form, method_concerned, method_refusal, with_defined_method}
+use Rattle.clos_definition_forms.specs.clos_definition.Removal.{concerned_by_removal, removable, with_removed}
 use Rattle.clos_definition_forms.specs.clos_machine.clos_meaning.Host.{Host, answered_by, may_answer}
 use Rattle.clos_definition_forms.specs.clos_machine.clos_meaning.Meaning.{evaluation}
-use Rattle.clos_definition_forms.specs.clos_machine.clos_meaning.Outcome.{Asked, End, Given, Looked, Noted, Out, Gave, Signalled, Stopped, Run, then_do, step_then, stopped}
+use Rattle.clos_definition_forms.specs.clos_machine.clos_meaning.Outcome.{Asked, End, Given, Looked, Noted, Out, Gave, Signalled, Stopped, Run, changed, then_do, step_then, stopped}
+use Rattle.clos_definition_forms.specs.clos_world.clos_cache.Cache as of_calls
 use Rattle.clos_definition_forms.proofs.clos_machine.clos_meaning.Kept.{same, same_then, SameAfter, evaluation_kept}
 use Rattle.clos_definition_forms.specs.Definition.{class_made, define_class, define_generic, define_method, generic_made, method_made, remove_method, removed_if, takes_effect, unless, value_at, values_removed}
 use Rattle.clos_definition_forms.specs.lisp_prims.Primitive.{truth}
@@ -107,30 +108,30 @@ forms_refuse (f ∷ fs) vs go w k g =
 
 -- ---- the definition forms
 
-effect_refuses : (o : Option Condition) (v : Val) (u w : State) (k : ℕ) → Refuses w (unless o (takes_effect v u) w k)
-effect_refuses o v u w k = unless_refuses o (takes_effect v u) w k (step_refuses (λ x j. Gave v u j) w k (λ j. tt))
+effect_refuses : (o : Option Condition) (cs : List of_calls.Change) (v : Val) (u w : State) (k : ℕ) → Refuses w (unless o (takes_effect cs v u) w k)
+effect_refuses o cs v u w k = unless_refuses o (takes_effect cs v u) w k (step_refuses (λ x j. Noted (changed x cs) (Gave v u j)) w k (λ j. tt))
 
 method_refuses : (name : FunctionName) (m : MethodDefinition) (w : State) (k : ℕ) → Refuses w (define_method name m w k)
 method_refuses name m w k =
     unless_refuses (method_refusal name m None w) (forms_evaluated (map eql_form m.specializers) [] (method_made name m)) w k
     (forms_refuse (map eql_form m.specializers) [] (method_made name m) w k
-    (λ vs u j. effect_refuses (method_refusal name m (Some vs) u) (method (length u.generics.methods)) (with_defined_method name m vs u) u j))
+    (λ vs u j. effect_refuses (method_refusal name m (Some vs) u) (method_concerned name m vs u) (method (length u.generics.methods)) (with_defined_method name m vs u) u j))
 
 generic_refuses : (d : GenericDefinition) (w : State) (k : ℕ) → Refuses w (define_generic d w k)
 generic_refuses d w k =
     unless_refuses (generic_refusal d None w) (forms_evaluated (eql_forms d.methods) [] (generic_made d)) w k
     (forms_refuse (eql_forms d.methods) [] (generic_made d) w k
-    (λ vs u j. effect_refuses (generic_refusal d (Some vs) u) (generic (number u.generics d.name)) (with_defined_generic d vs u) u j))
+    (λ vs u j. effect_refuses (generic_refusal d (Some vs) u) (generic_concerned d vs u) (generic (number u.generics d.name)) (with_defined_generic d vs u) u j))
 
 class_refuses : (d : ClassDefinition) (w : State) (k : ℕ) → Refuses w (define_class d w k)
 class_refuses d w k =
     unless_refuses (class_refusal d (length (cells_needed d w)) w) (forms_evaluated (initforms (cells_needed d w)) [] (class_made d)) w k
     (forms_refuse (initforms (cells_needed d w)) [] (class_made d) w k
-    (λ vs u j. effect_refuses (class_refusal d (length vs) u) (class (class_number d u)) (with_defined_class d vs u) u j))
+    (λ vs u j. effect_refuses (class_refusal d (length vs) u) (class_concerned d vs u) (class (class_number d u)) (with_defined_class d vs u) u j))
 
 removed_refuses : (v : Val) (r : Result (ℕ × ℕ) Condition) (w : State) (k : ℕ) → Refuses w (removed_if v r w k)
 removed_refuses v (Err c) w k = same w
-removed_refuses v (Ok p) w k = step_refuses (λ x j. Gave v (with_removed p.0 p.1 w) j) w k (λ j. tt)
+removed_refuses v (Ok p) w k = step_refuses (λ x j. Noted (changed x (concerned_by_removal p.0 p.1 w.generics)) (Gave v (with_removed p.0 p.1 w) j)) w k (λ j. tt)
 
 removal_refuses : (f m : Form) (w : State) (k : ℕ) → Refuses w (remove_method f m w k)
 removal_refuses f m w k =

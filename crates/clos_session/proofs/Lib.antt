@@ -2,3 +2,4 @@ pub mod StepQuiet
 pub mod Asking
 pub mod Definitions
 pub mod Hearing
+pub mod Keeping

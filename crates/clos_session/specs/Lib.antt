@@ -1,5 +1,6 @@
 pub mod Step
 pub mod Session
+pub mod Uses
 pub mod Definitions
 pub mod Notices
 pub use Rattle.clos_definition_forms.specs.clos_machine as clos_machine

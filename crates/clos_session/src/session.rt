@@ -10,6 +10,11 @@ ghost use Rattle.clos_definition_forms.specs.clos_watch.Handed.{place_of};
 ghost use Rattle.clos_definition_forms.specs.Hearing.{Heard};
 ghost use Rattle.clos_session.specs.Definitions.{DefinesNothing};
 ghost use Rattle.clos_session.specs.Session.{answers_of, built_of, state_of, Replies};
+ghost use Rattle.clos_session.specs.Uses.{IsEvaluated, Keeps, session_uses};
+ghost use Rattle.clos_definition_forms.specs.clos_machine.Uses.{KeepsBy};
+ghost use Rattle.clos_definition_forms.specs.clos_world.Uses.{uses_of};
+ghost use Rattle.clos_forms.specs.Form.{Form};
+ghost use Rattle.clos_top.specs.declared.top.Top.TheVariants.{Expr};
 
 use clos_definition_forms::{
     Change, ConditionKind, Dependents, Limits, Natives, Notice, Stop, Values, World,
@@ -139,6 +144,8 @@ impl<N: Natives, D: Dependents> Session<N, D> {
     pub fn perform(&mut self, datum: &Datum, steps: &mut u64) -> Result<Value, Stop>
         ensures answers { AnswersWith (N.host self.old.natives) (step (datum_of datum.now)) (state_of self.old) steps.old
             (answers_of self.old) result (state_of self.new) steps.new (answers_of self.new) }
+        ensures uses { IsEvaluated (datum_of datum.now) → KeepsBy (N.host self.old.natives) (step (datum_of datum.now)) (state_of self.old)
+            steps.old (answers_of self.old) (session_uses self.old) result steps.new (answers_of self.new) (session_uses self.new) }
         ensures heard { Heard (D.told self.old.dependents) (state_of self.old) (D.told self.new.dependents) (state_of self.new) }
         ensures kept { (N.host self.new.natives ≡ N.host self.old.natives) × (D.names self.new.dependents ≡ D.names self.old.dependents) }
     {
@@ -153,10 +160,14 @@ impl<N: Natives, D: Dependents> Session<N, D> {
         )
     }
 
-    /// Performs a top-level form (HyperSpec 3.1.2.1), and answers as its rules have it. A refused form defines nothing.
+    /// Performs a top-level form (HyperSpec 3.1.2.1), and answers as its rules have it. A refused form defines nothing. A form
+    /// that is evaluated works an effective method out where a use finds none that is kept, and keeps it.
     pub fn submit(&mut self, datum: &Datum) -> Reply
         ensures reply { Replies (N.host self.old.natives) (step (datum_of datum.now)) (state_of self.old).limits.steps (state_of self.old)
             (answers_of self.old) result (state_of self.new) (answers_of self.new) }
+        ensures uses { IsEvaluated (datum_of datum.now) → Keeps (N.host self.old.natives) (step (datum_of datum.now))
+            (state_of self.old).limits.steps (state_of self.old) (answers_of self.old) (session_uses self.old) result (answers_of self.new)
+            (session_uses self.new) }
         ensures heard { Heard (D.told self.old.dependents) (state_of self.old) (D.told self.new.dependents) (state_of self.new) }
         ensures kept { (N.host self.new.natives ≡ N.host self.old.natives) × (D.names self.new.dependents ≡ D.names self.old.dependents) }
         ensures refused { DefinesNothing result (state_of self.old) (state_of self.new) }
@@ -171,6 +182,9 @@ impl<N: Natives, D: Dependents> Session<N, D> {
     pub fn submit_within(&mut self, datum: &Datum, steps: u64) -> Reply
         ensures reply { Replies (N.host self.old.natives) (step (datum_of datum.now)) (min steps (state_of self.old).limits.steps)
             (state_of self.old) (answers_of self.old) result (state_of self.new) (answers_of self.new) }
+        ensures uses { IsEvaluated (datum_of datum.now) → Keeps (N.host self.old.natives) (step (datum_of datum.now))
+            (min steps (state_of self.old).limits.steps) (state_of self.old) (answers_of self.old) (session_uses self.old) result
+            (answers_of self.new) (session_uses self.new) }
         ensures heard { Heard (D.told self.old.dependents) (state_of self.old) (D.told self.new.dependents) (state_of self.new) }
         ensures kept { (N.host self.new.natives ≡ N.host self.old.natives) × (D.names self.new.dependents ≡ D.names self.old.dependents) }
         ensures refused { DefinesNothing result (state_of self.old) (state_of self.new) }
@@ -203,6 +217,8 @@ fn perform<N: Natives, D: Dependents>(
 ) -> Result<Value, Stop>
     ensures answers { AnswersBy (N.host natives.now) (step (datum_of datum.now)) world.old steps.old answers.old result world.new steps.new
         answers.new }
+    ensures uses { IsEvaluated (datum_of datum.now) → KeepsBy (N.host natives.now) (step (datum_of datum.now)) (seen world.old) steps.old
+        answers.old.items (uses_of world.old) result steps.new answers.new.items (uses_of world.new) }
     ensures heard { Heard (D.told dependents.old) (seen world.old) (D.told dependents.new) (seen world.new) }
     ensures names { D.names dependents.new ≡ D.names dependents.old }
 {
@@ -225,6 +241,8 @@ fn perform_top<N: Natives, D: Dependents>(
     steps: &mut u64,
 ) -> Result<Value, Stop>
     ensures answers { AnswersBy (N.host natives.now) (checked (Some top)) world.old steps.old answers.old result world.new steps.new answers.new }
+    ensures uses { (f : Form) → top ≡ Expr f → KeepsBy (N.host natives.now) (checked (Some top)) (seen world.old) steps.old
+        answers.old.items (uses_of world.old) result steps.new answers.new.items (uses_of world.new) }
     ensures heard { Heard (D.told dependents.old) (seen world.old) (D.told dependents.new) (seen world.new) }
     ensures names { D.names dependents.new ≡ D.names dependents.old }
 {

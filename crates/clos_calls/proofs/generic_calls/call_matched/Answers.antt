@@ -1,6 +1,5 @@
 use Rattle.std.proofs.Common.{ap, map, sym, ◌∙◌}
 use Rattle.lisp_data.specs.ValueView.{value_of}
-use Rattle.clos_comb.specs.Effective as comb
 use Rattle.clos_comb.specs.OutcomeView.{combined_of}
 use Rattle.clos_machine.specs.clos_world.World.{seen}
 use Rattle.clos_machine.specs.clos_meaning.GenericCalls.{after_positional, keywords_fit}

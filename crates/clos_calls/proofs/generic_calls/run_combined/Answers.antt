@@ -1,12 +1,8 @@
 use Rattle.std.proofs.Common.{ap, refl, sym, ◌∙◌, [], ◌∷◌, Some, None}
 use Rattle.lisp_data.specs.Value.{method}
-use Rattle.clos_comb.specs.OutcomeView.{combined_of}
 use Rattle.clos_comb.specs.declared.outcome.Outcome.TheVariants as outcome
 use Rattle.clos_machine.specs.clos_world.World.{seen}
-use Rattle.clos_machine.specs.clos_meaning.Bodies.{scoped}
 use Rattle.clos_machine.specs.clos_meaning.Contexts.{in_call}
-use Rattle.clos_machine.specs.clos_meaning.GenericCalls.{combined_run}
-use Rattle.clos_machine.specs.Machine.{at}
 use Rattle.clos_machine.specs.clos_meaning.Meaning.{meaning}
 use Rattle.clos_machine.specs.clos_world.declared.condition.ConditionKind.TheVariants.{AmbiguousMethods, BadExpansion, ExpansionLimit, InvalidMethod, RequiredGroupEmpty}
 use Rattle.clos_machine.specs.clos_world.declared.condition.Stop.TheVariants.{Refused}

@@ -3,7 +3,7 @@ use Rattle.std.proofs.lemmas.Result.{err_from_is_err_and}
 use Rattle.clos_world.specs.World.{seen}
 use Rattle.clos_definition.specs.Class.{class_refusal}
 use Rattle.clos_definition.specs.Refusal.{StopsFor}
-use Rattle.clos_definition.proofs.Classes.{effect_made, none_stops, others_stop, reserve_stops}
+use Rattle.clos_definition.proofs.Classes.{concerned_made, effect_made, none_stops, others_stop, reserve_stops}
 use Rattle.clos_definition.proofs.class.prepare_class.Goals as goal
 
 pub returns-in_err-effect-clause-allows : goal.returns-in_err-effect-clause-allows
@@ -29,6 +29,11 @@ returns-clause-allows c =
 pub returns-clause-effect : goal.returns-clause-effect
 returns-clause-effect c =
     effect_made c.args.definition.now (seen c.args.world.now) (seen c.reserve_class.new.world) c.in_ok-effect.effect c.in_ok-class.ensures.same c.in_ok-effect.ensures.changes
+    c.in_ok-effect.ensures.methods
+
+pub returns-clause-concerned : goal.returns-clause-concerned
+returns-clause-concerned c =
+    concerned_made c.args.definition.now (seen c.args.world.now) (seen c.reserve_class.new.world) c.in_ok-effect.effect c.in_ok-class.ensures.same c.in_ok-effect.ensures.changes
     c.in_ok-effect.ensures.methods
 
 pub returns-in_err-reserve_effect-clause-same : goal.returns-in_err-reserve_effect-clause-same

@@ -1,8 +1,8 @@
 use Rattle.std.proofs.Common.{List, Option, refl, ◌∙◌, subst}
 use Rattle.lisp_data.specs.Value.{Val}
-use Rattle.clos_machine.specs.Machine.{Answers}
 use Rattle.clos_machine.specs.clos_world.World.{seen}
-use Rattle.clos_definition_forms.specs.Definition.{generic_made}
+use Rattle.clos_definition.specs.Generic.{generic_concerned}
+use Rattle.clos_definition_forms.specs.Definition.{AnswersNoting, generic_made}
 use Rattle.clos_definition_forms.proofs.Defining.{generic_forms_go_on}
 use Rattle.clos_definition_forms.proofs.Hearing.{heard_with_values, unheard, unheard_before}
 use Rattle.clos_definition_forms.proofs.definition.define_checked_generic.Goals as goal
@@ -15,7 +15,7 @@ returns-in-Ok-evaluate_forms-clause-answers g c =
     c.args.steps.now
     c.args.answers.now.items evaluated.answers.items c.deref.result.now evaluated.steps c.in-Ok-evaluate_forms.values.items
     c.make_generic.result (seen made.world) made.steps (c.deref.ensures.value ∙ c.in-Ok.ensures) c.in-Ok-evaluate_forms.ensures.values
-    (subst (λ (l : List (Option Val)). Answers (generic_made c.args.definition l) (seen evaluated.world) evaluated.steps
+    (subst (λ (l : List (Option Val)). AnswersNoting (generic_concerned c.args.definition l (seen evaluated.world)) (generic_made c.args.definition l) (seen evaluated.world) evaluated.steps
     c.make_generic.result (seen made.world) made.steps)
     c.deref-in-Ok-evaluate_forms.ensures.value c.make_generic.ensures.answers)
 

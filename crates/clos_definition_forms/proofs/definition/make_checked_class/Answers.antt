@@ -16,7 +16,7 @@ returns-in-Ok-clause-answers g c =
     let m : c.len.result ≡ length c.args.values.items = omega arith in
     class_is_made c.args.definition.now (seen c.args.world.now) (seen c.prepare_class.new.world) c.args.steps.now c.args.values.items c.in-Ok.accessors
     c.len.result c.in-Ok.class.0 c.make_prepared_class.new.steps (seen c.make_prepared_class.new.world) c.make_prepared_class.result
-    c.in-Ok.ensures.same m c.in-Ok.ensures.allows c.in-Ok.ensures.effect c.in-Ok.ensures.class c.make_prepared_class.ensures.answers
+    c.in-Ok.ensures.same m c.in-Ok.ensures.allows c.in-Ok.ensures.effect c.in-Ok.ensures.concerned c.in-Ok.ensures.class c.make_prepared_class.ensures.answers
 
 pub returns-in-Ok-clause-heard : goal.returns-in-Ok-clause-heard
 returns-in-Ok-clause-heard g c =

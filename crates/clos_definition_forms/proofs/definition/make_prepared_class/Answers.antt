@@ -3,7 +3,7 @@ use Rattle.clos_watch.specs.Watching.{times_told}
 use Rattle.clos_machine.specs.clos_world.World.{State, seen}
 use Rattle.lisp_data.specs.Value.{class}
 use Rattle.lisp_data.specs.declared.value.Value.TheVariants.{Class}
-use Rattle.clos_definition.specs.Class.{class_notices, class_refusal, noting, with_class}
+use Rattle.clos_definition.specs.Class.{class_concerned_by, class_notices, class_refusal, noting, with_class}
 use Rattle.clos_definition.specs.Effect.{of_changes, possible_notices, with_effect}
 use Rattle.clos_definition.proofs.Notices.{more_fit}
 use Rattle.clos_definition.proofs.clos_world.Heard.{notices_kept}
@@ -28,7 +28,7 @@ pub returns-in_default-prepare_to_tell-clause-answers : goal.returns-in_default-
 returns-in_default-prepare_to_tell-clause-answers g c =
     let w = seen c.args.world.now in
     let d = c.args.definition.now in
-    effect_not_made (class c.args.id.0) (with_class d c.args.values.items (with_effect c.args.accessors (noting (class_notices d w) w))) w
+    effect_not_made (class_concerned_by d c.args.values.items c.args.accessors w) (class c.args.id.0) (with_class d c.args.values.items (with_effect c.args.accessors (noting (class_notices d w) w))) w
     (seen c.prepare_to_tell.new.world) c.args.steps.now c.prepare_to_tell.ensures.seen
 
 pub make_class-requires-clause-allowed : goal.make_class-requires-clause-allowed
@@ -39,7 +39,7 @@ pub returns-in_default-make_class-clause-answers : goal.returns-in_default-make_
 returns-in_default-make_class-clause-answers g c =
     let w = seen c.args.world.now in
     let d = c.args.definition.now in
-    effect_not_made (class c.args.id.0) (with_class d c.args.values.items (with_effect c.args.accessors (noting (class_notices d w) w))) w
+    effect_not_made (class_concerned_by d c.args.values.items c.args.accessors w) (class c.args.id.0) (with_class d c.args.values.items (with_effect c.args.accessors (noting (class_notices d w) w))) w
     (seen c.make_class.new.world) c.args.steps.now (c.in_default-make_class.ensures.err ∙ c.prepare_to_tell.ensures.seen)
 
 pub returns-in_default-make_class-clause-heard : goal.returns-in_default-make_class-clause-heard
@@ -98,7 +98,7 @@ returns-clause-answers g c =
     let w = seen c.args.world.now in
     let d = c.args.definition.now in
     let steps : c.args.steps.now ≡ suc (c.args.steps.now - 1) = omega arith in
-    effect_is_made (Class c.args.id) (with_class d c.args.values.items (with_effect c.args.accessors (noting (class_notices d w) w))) w
+    effect_is_made (class_concerned_by d c.args.values.items c.args.accessors w) (Class c.args.id) (with_class d c.args.values.items (with_effect c.args.accessors (noting (class_notices d w) w))) w
     (seen c.make_class.new.world) c.args.steps.now (c.args.steps.now - 1) steps
     (c.in-Ok-make_class.ensures.ok
     ∙ ap (λ (x : State). with_class d c.args.values.items (with_effect c.args.accessors (noting (class_notices d x) x))) c.prepare_to_tell.ensures.seen)

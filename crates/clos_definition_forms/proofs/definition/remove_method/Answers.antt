@@ -1,8 +1,8 @@
 use Rattle.std.proofs.Common.{List, Option, refl, ◌∙◌, subst}
 use Rattle.lisp_data.specs.Value.{Val}
 use Rattle.clos_machine.specs.clos_world.World.{seen}
-use Rattle.clos_machine.specs.Machine.{Answers}
-use Rattle.clos_definition_forms.specs.Definition.{values_removed}
+use Rattle.clos_definition_forms.specs.Definition.{values_concerned, values_removed}
+use Rattle.clos_definition_forms.proofs.Evaluated.{AnswersAt, noting_at}
 use Rattle.clos_definition_forms.proofs.Defining.{two_go_on, two_not_begun, two_stop}
 use Rattle.clos_definition_forms.proofs.Hearing.{heard_with_values, unheard, unheard_before}
 use Rattle.clos_definition_forms.proofs.Quiet.{values_removed_quiet}
@@ -41,8 +41,10 @@ returns-clause-answers g c =
     c.args.steps.now c.args.answers.now.items evaluated.answers.items
     c.deref.result.now evaluated.steps c.in-Ok-evaluate_forms.values.items c.remove_evaluated.result (seen removed.world) removed.steps
     (c.deref.ensures.value ∙ c.in-Ok.ensures) c.in-Ok-evaluate_forms.ensures.values
-    (subst (λ (l : List (Option Val)). Answers (values_removed l) (seen evaluated.world) evaluated.steps c.remove_evaluated.result
-    (seen removed.world) removed.steps) c.deref-in-Ok-evaluate_forms.ensures.value c.remove_evaluated.ensures.answers)
+    (subst (λ (l : List (Option Val)). AnswersAt host (values_removed l) (seen evaluated.world) evaluated.steps c.remove_evaluated.result
+    (seen removed.world) removed.steps) c.deref-in-Ok-evaluate_forms.ensures.value
+    (noting_at host (values_concerned c.deref-in-Ok-evaluate_forms.result.now (seen evaluated.world)) (values_removed c.deref-in-Ok-evaluate_forms.result.now)
+    (seen evaluated.world) evaluated.steps c.remove_evaluated.result (seen removed.world) removed.steps c.remove_evaluated.ensures.answers))
 
 pub returns-clause-heard : goal.returns-clause-heard
 returns-clause-heard g c =

@@ -1,11 +1,9 @@
-use Rattle.std.proofs.Common.{true}
-use Rattle.lisp_prims.specs.Primitive.{truth}
 use Rattle.clos_machine.specs.clos_world.World.{seen}
 use Rattle.clos_definition_forms.specs.Dependents.{with_change}
-use Rattle.clos_definition_forms.proofs.Defining.{effect_not_made}
+use Rattle.clos_definition_forms.proofs.Watched.{change_not_made}
 use Rattle.clos_definition_forms.proofs.dependents.change_at.Goals as goal
 
 pub returns-in_default : goal.returns-in_default
 returns-in_default c =
-    effect_not_made (truth true) (with_change c.args.change c.args.metaobject c.args.place (seen c.args.world.now)) (seen c.args.world.now)
+    change_not_made (with_change c.args.change c.args.metaobject c.args.place (seen c.args.world.now)) (seen c.args.world.now)
     (seen c.change_watchers.new.world) c.args.steps.now c.in_default.ensures.err

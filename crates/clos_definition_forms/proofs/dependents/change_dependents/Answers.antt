@@ -3,6 +3,7 @@ use Rattle.lisp_data.specs.Value.{Val}
 use Rattle.clos_machine.specs.clos_world.World.{seen}
 use Rattle.clos_machine.specs.Machine.{Answers}
 use Rattle.clos_definition_forms.specs.Dependents.{values_watched}
+use Rattle.clos_definition_forms.proofs.Evaluated.{answers_at}
 use Rattle.clos_definition_forms.proofs.Defining.{two_go_on, two_not_begun, two_stop}
 use Rattle.clos_definition_forms.proofs.Watched.{values_watched_quiet}
 use Rattle.clos_definition_forms.proofs.dependents.change_dependents.Goals as goal
@@ -29,5 +30,6 @@ returns g c =
     c.args.steps.now c.args.answers.now.items evaluated.answers.items
     c.deref.result.now evaluated.steps c.in-Ok-evaluate_forms.values.items c.change_evaluated.result (seen changed.world) changed.steps
     (c.deref.ensures.value ∙ c.in-Ok.ensures) c.in-Ok-evaluate_forms.ensures.values
+    (answers_at host (values_watched c.args.change c.in-Ok-evaluate_forms.values.items) (seen evaluated.world) evaluated.steps c.change_evaluated.result (seen changed.world) changed.steps
     (subst (λ (l : List (Option Val)). Answers (values_watched c.args.change l) (seen evaluated.world) evaluated.steps c.change_evaluated.result
-    (seen changed.world) changed.steps) c.deref-in-Ok-evaluate_forms.ensures.value c.change_evaluated.ensures)
+    (seen changed.world) changed.steps) c.deref-in-Ok-evaluate_forms.ensures.value c.change_evaluated.ensures))
