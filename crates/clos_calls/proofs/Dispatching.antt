@@ -17,7 +17,7 @@ use Rattle.clos_machine.specs.clos_meaning.Contexts.{in_call}
 use Rattle.clos_machine.specs.Machine.{Leads, at, inside, resume}
 use Rattle.clos_machine.specs.clos_meaning.Meaning.{closed}
 use Rattle.clos_machine.specs.clos_meaning.Outcome.{Note, Noted, used, Eval, Run, Stopped, stopped}
-use Rattle.clos_machine.specs.clos_meaning.Uses.{after_notes, noting}
+use Rattle.clos_machine.specs.clos_meaning.Uses.{after_notes, noted}
 use Rattle.clos_machine.specs.clos_world.clos_cache.Uses.{Uses}
 use Rattle.clos_machine.specs.Uses.{LeadsBy}
 use Rattle.clos_machine.specs.clos_meaning.declared.arguments.Context.{Context}
@@ -130,7 +130,7 @@ module _ (m n : Machine) (ev : Eval) (w : State) where
       -- what is done with these methods
       told : (f : Function) (ms : List ℕ) (run : Run) (t : ℕ) → Some f ≡ slice_get w.generics.functions number → ms ≡ ordered w number us
           → run (at m w) t ≡ matched_or ev us number f (stopped ProgramError []) ms (at m w) t
-          → unmatched ev g vs (at m w) t ≡ noting use_told (run (at m w) t)
+          → unmatched ev g vs (at m w) t ≡ noted use_told (run (at m w) t)
       told f ms run t e h j =
           sym (ap (Noted (used (key_of w number us))) (j ∙ ap (λ y. matched_or ev us number f (stopped ProgramError []) y (at m w) t) h)
           ∙ ap (λ k. Noted (used k) (matched_or ev us number f (stopped ProgramError []) (ordered w number us) (at m w) t)) (sym (key_bound m.locals w number us))

@@ -20,7 +20,7 @@ use Rattle.clos_machine.specs.Machine.{Leads, at, inside, resume, acted}
 use Rattle.clos_machine.specs.clos_meaning.Meaning.{closed, collect, meaning, next_method}
 use Rattle.clos_machine.specs.clos_meaning.NextMethods.{next_by, next_called, next_given, next_in, next_run, none_next}
 use Rattle.clos_machine.specs.clos_meaning.Outcome.{Note, Noted, used, Eval, Run, Stopped, stopped}
-use Rattle.clos_machine.specs.clos_meaning.Uses.{after_notes, most, noting, with_note}
+use Rattle.clos_machine.specs.clos_meaning.Uses.{after_notes, most, noted, with_note}
 use Rattle.clos_machine.specs.clos_world.Uses.{AtMostOneMore}
 use Rattle.clos_machine.specs.clos_world.clos_cache.Uses.{Uses}
 use Rattle.clos_machine.specs.Uses.{KeptAfter, LeadsBy}
@@ -54,24 +54,24 @@ module _ (ev : Eval) (env : Context) (vs : List Val) where
     use_of d b = if b then used (key_of w d.generic vs) ∷ [] else []
 
     by_count : (r : Running) (d : Dispatch) (f : Function) (b : Bool)
-        → noting (use_of d b) (decided (Some r) (if b then in_order r d else Some (record { kind = ProgramError; items = [] })) w t)
+        → noted (use_of d b) (decided (Some r) (if b then in_order r d else Some (record { kind = ProgramError; items = [] })) w t)
         ≡ (if b then Noted (used (key_of w d.generic vs)) (if same_numbers (ordered w d.generic vs) d.methods then next_run ev env r r.next vs w t else stopped NextArguments (method r.method.0 ∷ []) w t)
         else stopped ProgramError [] w t)
     by_count r d f true = ap (Noted (used (key_of w d.generic vs))) (by_order r (same_numbers (ordered w d.generic vs) d.methods))
     by_count r d f false = refl
 
     by_function : (r : Running) (d : Dispatch) (o : Option Function)
-        → noting (use_of d (takes_in o (length vs))) (decided (Some r) (if takes_in o (length vs) then in_order r d else Some (record { kind = ProgramError; items = [] })) w t)
+        → noted (use_of d (takes_in o (length vs))) (decided (Some r) (if takes_in o (length vs) then in_order r d else Some (record { kind = ProgramError; items = [] })) w t)
         ≡ next_by ev env r d o vs w t
     by_function r d None = refl
     by_function r d (Some f) = by_count r d f (takes_count f.shape (length vs))
 
-    by_call : (r : Running) (o : Option Dispatch) → noting (asked_in w o vs) (decided (Some r) (refusal_in w r o vs) w t) ≡ next_in ev env r o vs w t
+    by_call : (r : Running) (o : Option Dispatch) → noted (asked_in w o vs) (decided (Some r) (refusal_in w r o vs) w t) ≡ next_in ev env r o vs w t
     by_call r None = refl
     by_call r (Some d) = by_function r d (slice_get w.generics.functions d.generic)
 
     -- the uses of the check are noted first
-    pub given_decided : (o : Option Running) → next_given ev env o vs w t ≡ noting (asked_of w o env.call vs) (decided o (refusal_of w o env.call vs) w t)
+    pub given_decided : (o : Option Running) → next_given ev env o vs w t ≡ noted (asked_of w o env.call vs) (decided o (refusal_of w o env.call vs) w t)
     given_decided None = refl
     given_decided (Some r) = sym (by_call r env.call)
 
@@ -118,7 +118,7 @@ module _ (m n : Machine) (vs : List Val) (w : State) where
   decides r u u' l k =
       leads_noting m giving deciding asked w u u' r n
       (λ t. given_decided (meaning m.room) m.context vs (at m w) t m.context.running
-      ∙ ap (λ ns. noting ns (deciding (at m w) t)) (asked_bound m.locals w m.context.running m.context.call vs)) l k
+      ∙ ap (λ ns. noted ns (deciding (at m w) t)) (asked_bound m.locals w m.context.running m.context.call vs)) l k
 
   refused : (stop : Stop) → Refuses (refusal_of w m.context.running m.context.call vs) (Err stop) → Leads (inside m deciding) w (Err stop) n
   refused Storage h = tt

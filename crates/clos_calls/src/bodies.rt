@@ -32,7 +32,8 @@ pub fn run_body(
     lambda_list: &LambdaList,
     body: &Forms,
 ) -> Result<Doing, Stop>
-    ensures leads { Leads (here machine.old (λ ev env. body_run ev context (sources lambda_list.now context.arguments) body.now)) (seen world.now) result machine.new }
+    ensures leads { Leads (here machine.old (λ ev env. body_run ev context (sources lambda_list.now context.arguments)
+        body.now)) (seen world.now) result machine.new }
     ensures small { Grows value_weight machine.old.levels result machine.new }
 {
     if requires_only(lambda_list) {
@@ -52,7 +53,8 @@ fn run_planned(
     plan: ParameterPlan,
     body: &Forms,
 ) -> Result<Doing, Stop>
-    ensures leads { Leads (here machine.old (λ ev env. body_run ev context plan body.now)) (seen world.now) result machine.new }
+    ensures leads { Leads (here machine.old (λ ev env. body_run ev context plan body.now)) (seen world.now) result
+        machine.new }
     ensures small { Grows value_weight machine.old.levels result machine.new }
 {
     let saved = mem::replace(&mut machine.context, context);
@@ -70,7 +72,8 @@ fn bind_parameters(
     saved: Context,
     outer: Locals,
 ) -> Result<Doing, Stop>
-    ensures leads { Leads (under machine.old saved outer (parameters_run (meaning machine.old.room) machine.old.context plan body.now)) (seen world.now) result machine.new }
+    ensures leads { Leads (under machine.old saved outer (parameters_run (meaning machine.old.room) machine.old.context
+        plan body.now)) (seen world.now) result machine.new }
     ensures small { Grows value_weight machine.old.levels result machine.new }
 {
     match settle(alloc, world, &mut machine.locals, &mut plan) {
@@ -98,7 +101,8 @@ pub fn next_parameter(
     outer: Locals,
     value: Value,
 ) -> Result<Doing, Stop>
-    ensures leads { Leads (given_to machine.old (Bind name plan body.now saved outer) (value_of value)) (seen world.now) result machine.new }
+    ensures leads { Leads (given_to machine.old (Bind name plan body.now saved outer) (value_of value)) (seen world.now)
+        result machine.new }
     ensures small { Grows value_weight machine.old.levels result machine.new }
 {
     if world.globals.has(&name) {
@@ -117,7 +121,8 @@ fn run_bound(
     names: &[Name],
     body: &Forms,
 ) -> Result<Doing, Stop>
-    ensures leads { Leads (here machine.old (λ ev env. body_run ev context (required_sources names.now context.arguments) body.now)) (seen world.now) result machine.new }
+    ensures leads { Leads (here machine.old (λ ev env. body_run ev context
+        (required_sources names.now context.arguments) body.now)) (seen world.now) result machine.new }
     ensures small { Grows value_weight machine.old.levels result machine.new }
 {
     match bind(alloc, world, names, context.arguments.as_slice()) {
@@ -133,7 +138,8 @@ fn run_scoped(
     locals: Locals,
     forms: &Forms,
 ) -> Result<Doing, Stop>
-    ensures leads { Does (λ ev env. scoped (sequence ev context forms.now (list nil)) locals) machine.old result machine.new }
+    ensures leads { Does (λ ev env. scoped (sequence ev context forms.now (list nil)) locals) machine.old result
+        machine.new }
     ensures small { Grows value_weight machine.old.levels result machine.new }
 {
     match split(forms)? {
@@ -161,9 +167,10 @@ fn enter_body(
     first: Form,
     rest: Forms,
 ) -> Result<Doing, Stop>
-    ensures leads { (run : Run) (w : State)
-        → ((t : ℕ) → then_do (then_do (meaning machine.old.room context first (bound_as locals w) t) (λ v. sequence (meaning machine.old.room) context rest v)) (restoring machine.old.locals) ≡ run (at machine.old w) t)
-        → Leads (inside machine.old run) w result machine.new }
+    ensures leads { (run : Run) (w : State) → ((t : ℕ) → then_do (then_do
+        (meaning machine.old.room context first (bound_as locals w) t)
+        (λ v. sequence (meaning machine.old.room) context rest v)) (restoring machine.old.locals) ≡ run
+        (at machine.old w) t) → Leads (inside machine.old run) w result machine.new }
     ensures small { Grows value_weight machine.old.levels result machine.new }
 {
     let (saved, outer) = enter(machine, context, locals);
@@ -183,7 +190,8 @@ pub fn next_of_body(
     outer: Locals,
     value: Value,
 ) -> Result<Doing, Stop>
-    ensures leads { Leads (given_to machine.old (Body rest.now saved outer) (value_of value)) (seen world.now) result machine.new }
+    ensures leads { Leads (given_to machine.old (Body rest.now saved outer) (value_of value)) (seen world.now) result
+        machine.new }
     ensures small { Grows value_weight machine.old.levels result machine.new }
 {
     let _ = world;

@@ -55,7 +55,8 @@ pub fn compute(
     primitive: Primitive,
     values: &Values,
 ) -> Result<Doing, Stop>
-    ensures leads { Leads (inside machine.old (answered (answer primitive values.now))) (seen world.now) result machine.new }
+    ensures leads { Leads (inside machine.old (answered (answer primitive values.now))) (seen world.now) result
+        machine.new }
     ensures small { Grows value_weight machine.old.levels result machine.new }
 {
     let _ = world;
@@ -74,7 +75,9 @@ pub fn call(
     name: &Name,
     values: Values,
 ) -> Result<Doing, Stop>
-    ensures leads { LeadsBy (here machine.old (λ ev env w. called_function ev name.now values (named w.generics (Symbol name.now)) w)) (seen world.old) (uses_of world.old) result machine.new (uses_of world.new) }
+    ensures leads { LeadsBy (here machine.old (λ ev env w. called_function ev name.now values
+        (named w.generics (Symbol name.now)) w)) (seen world.old) (uses_of world.old) result machine.new
+        (uses_of world.new) }
     ensures same { seen world.new ≡ seen world.old }
     ensures small { Grows value_weight machine.old.levels result machine.new }
 {
@@ -93,7 +96,8 @@ fn call_named(
     name: &Name,
     values: Values,
 ) -> Result<Doing, Stop>
-    ensures leads { Leads (here machine.old (λ ev env w. called_defined ev values (name_value name.now) (function_in w.functions name.now) w)) (seen world.now) result machine.new }
+    ensures leads { Leads (here machine.old (λ ev env w. called_defined ev values (name_value name.now)
+        (function_in w.functions name.now) w)) (seen world.now) result machine.new }
     ensures small { Grows value_weight machine.old.levels result machine.new }
 {
     match world.functions.get(name) {
@@ -114,7 +118,8 @@ pub fn call_setter(
     name: &Name,
     mut values: Values,
 ) -> Result<Doing, Stop>
-    ensures leads { LeadsBy (here machine.old (λ ev env. called_setter ev name.now values)) (seen world.old) (uses_of world.old) result machine.new (uses_of world.new) }
+    ensures leads { LeadsBy (here machine.old (λ ev env. called_setter ev name.now values)) (seen world.old)
+        (uses_of world.old) result machine.new (uses_of world.new) }
     ensures same { seen world.new ≡ seen world.old }
     ensures small { Grows value_weight machine.old.levels result machine.new }
 {
@@ -134,7 +139,8 @@ fn call_set_function(
     name: &Name,
     values: Values,
 ) -> Result<Doing, Stop>
-    ensures leads { Leads (here machine.old (λ ev env w. called_defined ev values (setter_value name.now) (function_in w.setters name.now) w)) (seen world.now) result machine.new }
+    ensures leads { Leads (here machine.old (λ ev env w. called_defined ev values (setter_value name.now)
+        (function_in w.setters name.now) w)) (seen world.now) result machine.new }
     ensures small { Grows value_weight machine.old.levels result machine.new }
 {
     match world.setters.get(name) {
@@ -155,7 +161,8 @@ fn call_function(
     function: &Function,
     values: Values,
 ) -> Result<Doing, Stop>
-    ensures leads { Leads (here machine.old (λ ev env. applied_to ev values function.now)) (seen world.now) result machine.new }
+    ensures leads { Leads (here machine.old (λ ev env. applied_to ev values function.now)) (seen world.now) result
+        machine.new }
     ensures small { Grows value_weight machine.old.levels result machine.new }
 {
     if !fits(&function.lambda_list, values.as_slice()) {
@@ -220,7 +227,8 @@ fn no_object(
     known: bool,
     name: Value,
 ) -> Result<Doing, Stop>
-    ensures leads { Leads (inside machine.now (other_function known (value_of name))) (seen world.now) result machine.now }
+    ensures leads { Leads (inside machine.now (other_function known (value_of name))) (seen world.now) result
+        machine.now }
     ensures small { Grows value_weight machine.now.levels result machine.now }
 {
     let _ = machine;

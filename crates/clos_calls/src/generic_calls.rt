@@ -37,7 +37,9 @@ pub fn call_generic(
     id: GenericId,
     values: Values,
 ) -> Result<Doing, Stop>
-    ensures leads { LeadsBy (here machine.old (λ ev env w. called_generic ev values id.0 (slice_get w.generics.functions id.0) w)) (seen world.old) (uses_of world.old) result machine.new (uses_of world.new) }
+    ensures leads { LeadsBy (here machine.old (λ ev env w. called_generic ev values id.0
+        (slice_get w.generics.functions id.0) w)) (seen world.old) (uses_of world.old) result machine.new
+        (uses_of world.new) }
     ensures same { seen world.new ≡ seen world.old }
     ensures small { Grows call_growth machine.old.levels result machine.new }
 {
@@ -71,7 +73,8 @@ fn call_unmatched(
     id: GenericId,
     arguments: &Arguments,
 ) -> Result<Doing, Stop>
-    ensures leads { LeadsBy (here machine.old (λ ev env. unmatched ev id.0 arguments.now)) (seen world.old) (uses_of world.old) result machine.new (uses_of world.new) }
+    ensures leads { LeadsBy (here machine.old (λ ev env. unmatched ev id.0 arguments.now)) (seen world.old)
+        (uses_of world.old) result machine.new (uses_of world.new) }
     ensures same { seen world.new ≡ seen world.old }
     ensures small { Grows call_growth machine.old.levels result machine.new }
 {
@@ -98,9 +101,11 @@ fn call_matched(
     found: Rc<EffectiveMethod>,
     arguments: Arguments,
 ) -> Result<Doing, Stop>
-    requires { combined_of found.value.outcome ≡ effective world.now.combinations world.now.generics.table id.0 found.value.methods }
-    ensures leads { (f : Function) → Some f ≡ slice_get (seen world.now).generics.functions id.0
-        → Leads (here machine.old (λ ev env. matched ev arguments id.0 f found.value.methods)) (seen world.now) result machine.new }
+    requires { combined_of found.value.outcome ≡ effective world.now.combinations world.now.generics.table id.0
+        found.value.methods }
+    ensures leads { (f : Function) → Some f ≡ slice_get (seen world.now).generics.functions id.0 → Leads
+        (here machine.old (λ ev env. matched ev arguments id.0 f found.value.methods)) (seen world.now) result
+        machine.new }
     ensures small { Grows call_growth machine.old.levels result machine.new }
 {
     if !keywords_fit(world, id, found.methods.as_slice(), arguments.as_slice()) {
@@ -118,8 +123,9 @@ fn run_combined(
     found: Rc<EffectiveMethod>,
     arguments: Arguments,
 ) -> Result<Doing, Stop>
-    ensures leads { (f : Function) → Some f ≡ slice_get (seen world.now).generics.functions id.0
-        → Leads (here machine.old (λ ev env. combined_run ev (in_call (record { generic = id.0; methods = found.value.methods }) arguments) f (combined_of found.value.outcome))) (seen world.now) result machine.new }
+    ensures leads { (f : Function) → Some f ≡ slice_get (seen world.now).generics.functions id.0 → Leads
+        (here machine.old (λ ev env. combined_run ev (in_call (record { generic = id.0; methods = found.value.methods })
+        arguments) f (combined_of found.value.outcome))) (seen world.now) result machine.new }
     ensures small { Grows call_growth machine.old.levels result machine.new }
 {
     match &found.outcome {
@@ -163,7 +169,8 @@ fn refuse_function(
     kind: ConditionKind,
     group: Option<Name>,
 ) -> Stop
-    ensures { (f : Function) → Some f ≡ slice_get (seen world.now).generics.functions id.0 → TellsCondition (about_function kind f group) result }
+    ensures { (f : Function) → Some f ≡ slice_get (seen world.now).generics.functions id.0 → TellsCondition
+        (about_function kind f group) result }
 {
     match about_function(alloc, world, id, kind, group) {
         Ok(condition) => Stop::Refused(condition),
@@ -178,7 +185,8 @@ fn about_function(
     kind: ConditionKind,
     group: Option<Name>,
 ) -> Result<Condition, AllocError>
-    ensures { IfOk result (λ c. (f : Function) → Some f ≡ slice_get (seen world.now).generics.functions id.0 → c ≡ about_function kind f group) }
+    ensures { IfOk result (λ c. (f : Function) → Some f ≡ slice_get (seen world.now).generics.functions id.0 → c ≡
+        about_function kind f group) }
 {
     match world.generics.function(id) {
         None => Ok(plain(alloc, ConditionKind::ProgramError)),
@@ -200,7 +208,8 @@ pub fn invoke(
     function: SystemFunction,
     values: Values,
 ) -> Result<Doing, Stop>
-    ensures leads { LeadsBy (here machine.old (λ ev env. invoked ev function values)) (seen world.old) (uses_of world.old) result machine.new (uses_of world.new) }
+    ensures leads { LeadsBy (here machine.old (λ ev env. invoked ev function values)) (seen world.old)
+        (uses_of world.old) result machine.new (uses_of world.new) }
     ensures same { seen world.new ≡ seen world.old }
     ensures small { Grows call_growth machine.old.levels result machine.new }
 {

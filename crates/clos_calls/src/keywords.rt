@@ -14,8 +14,9 @@ use lisp_data::{GenericId, MethodId, Name, Value};
 
 /// Whether the keyword arguments of a call fit, for which these methods are applicable.
 pub fn keywords_fit(world: &World, id: GenericId, methods: &[MethodId], arguments: &[Value]) -> bool
-    ensures { (f : Function) → Some f ≡ slice_get (seen world.now).generics.functions id.0
-        → result ≡ keywords_fit (seen world.now).generics id.0 (method_numbers methods.now) (after_positional f.shape (map value_of arguments.now)) }
+    ensures { (f : Function) → Some f ≡ slice_get (seen world.now).generics.functions id.0 → result ≡ keywords_fit
+        (seen world.now).generics id.0 (method_numbers methods.now) (after_positional f.shape
+        (map value_of arguments.now)) }
 {
     if !world.generics.checks_keywords(id, methods) {
         return true;
@@ -59,7 +60,8 @@ fn keys_fit(world: &World, id: GenericId, methods: &[MethodId], arguments: &[Val
 
 /// Whether each of these names is accepted.
 fn are_accepted(world: &World, id: GenericId, methods: &[MethodId], arguments: &[Value]) -> bool
-    ensures { result ≡ are_accepted (seen world.now).generics id.0 (method_numbers methods.now) (map value_of arguments.now) }
+    ensures { result ≡ are_accepted (seen world.now).generics id.0 (method_numbers methods.now)
+        (map value_of arguments.now) }
 {
     let mut left = arguments;
     while let Some((name, rest)) = left.split_first() {
@@ -75,7 +77,8 @@ fn are_accepted(world: &World, id: GenericId, methods: &[MethodId], arguments: &
 }
 
 fn is_accepted(world: &World, id: GenericId, methods: &[MethodId], name: &Value) -> bool
-    ensures { result ≡ is_accepted (seen world.now).generics id.0 (method_numbers methods.now) (symbol_in (value_of name.now)) }
+    ensures { result ≡ is_accepted (seen world.now).generics id.0 (method_numbers methods.now)
+        (symbol_in (value_of name.now)) }
 {
     match name {
         Value::Sym(name) => world.generics.accepts(id, methods, name),

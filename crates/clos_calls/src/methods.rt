@@ -30,7 +30,8 @@ pub fn call_method(
     next: &NextMethods,
     forms: &Forms,
 ) -> Result<Doing, Stop>
-    ensures leads { Leads (here machine.old (λ ev env. method_called ev env (callable method.now) next.now forms.now)) (seen world.now) result machine.new }
+    ensures leads { Leads (here machine.old (λ ev env. method_called ev env (callable method.now) next.now forms.now))
+        (seen world.now) result machine.new }
     ensures small { Grows perform_weight machine.old.levels result machine.new }
 {
     match method {
@@ -74,7 +75,9 @@ pub fn run_method(
     next: &NextMethods,
     forms: &Forms,
 ) -> Result<Doing, Stop>
-    ensures leads { Leads (here machine.old (λ ev env. method_run ev (running id.0 next.now forms.now (with_arguments arguments env)) (slice_get (seen world.now).generics.methods id.0))) (seen world.now) result machine.new }
+    ensures leads { Leads (here machine.old (λ ev env. method_run ev (running id.0 next.now forms.now
+        (with_arguments arguments env)) (slice_get (seen world.now).generics.methods id.0))) (seen world.now) result
+        machine.new }
     ensures small { Grows perform_weight machine.old.levels result machine.new }
 {
     match world.generics.method(id) {
@@ -104,7 +107,8 @@ fn run_method_body(
     forms: &Forms,
     body: &MethodBody,
 ) -> Result<Doing, Stop>
-    ensures leads { Leads (here machine.old (λ ev env. method_body_run ev (running id.0 next.now forms.now (with_arguments arguments env)) body.now)) (seen world.now) result machine.new }
+    ensures leads { Leads (here machine.old (λ ev env. method_body_run ev
+        (running id.0 next.now forms.now (with_arguments arguments env)) body.now)) (seen world.now) result machine.new }
     ensures small { Grows perform_weight machine.old.levels result machine.new }
 {
     match body {
@@ -158,7 +162,8 @@ fn run_forms(
     lambda_list: &LambdaList,
     body: &Forms,
 ) -> Result<Doing, Stop>
-    ensures leads { Leads (here machine.old (λ ev env. forms_run ev context lambda_list.now body.now)) (seen world.now) result machine.new }
+    ensures leads { Leads (here machine.old (λ ev env. forms_run ev context lambda_list.now body.now)) (seen world.now)
+        result machine.new }
     ensures small { Grows value_weight machine.old.levels result machine.new }
 {
     if !keys_are_even(lambda_list, context.arguments.as_slice()) {

@@ -43,7 +43,8 @@ pub fn call_next_method(
     world: &World,
     forms: &Forms,
 ) -> Result<Doing, Stop>
-    ensures leads { Leads (here machine.old (λ ev env. next_method ev env forms.now)) (seen world.now) result machine.new }
+    ensures leads { Leads (here machine.old (λ ev env. next_method ev env forms.now)) (seen world.now) result
+        machine.new }
     ensures small { Grows (collect_weight CallNext) machine.old.levels result machine.new }
 {
     match forms.split_first() {
@@ -63,7 +64,8 @@ pub fn call_next_given(
     world: &mut World,
     values: Values,
 ) -> Result<Doing, Stop>
-    ensures leads { LeadsBy (here machine.old (λ ev env. next_given ev env env.running values)) (seen world.old) (uses_of world.old) result machine.new (uses_of world.new) }
+    ensures leads { LeadsBy (here machine.old (λ ev env. next_given ev env env.running values)) (seen world.old)
+        (uses_of world.old) result machine.new (uses_of world.new) }
     ensures same { seen world.new ≡ seen world.old }
     ensures small { Grows perform_weight machine.old.levels result machine.new }
 {
@@ -80,9 +82,11 @@ pub fn call_next_given(
 
 /// Whether the next method may be called with these arguments.
 fn permit(alloc: Global, machine: &Machine, world: &mut World, values: &[Value]) -> Result<(), Stop>
-    ensures refuses { Refuses (refusal_of (seen world.old) machine.now.context.running machine.now.context.call (map value_of values.now)) result }
+    ensures refuses { Refuses (refusal_of (seen world.old) machine.now.context.running machine.now.context.call
+        (map value_of values.now)) result }
     ensures same { seen world.new ≡ seen world.old }
-    ensures kept { KeptAfter (asked_of (seen world.old) machine.now.context.running machine.now.context.call (map value_of values.now)) result (uses_of world.old) (uses_of world.new) }
+    ensures kept { KeptAfter (asked_of (seen world.old) machine.now.context.running machine.now.context.call
+        (map value_of values.now)) result (uses_of world.old) (uses_of world.new) }
 {
     match &machine.context.running {
         None => Err(Stop::Refused(plain(alloc, ConditionKind::ProgramError))),
@@ -104,7 +108,8 @@ fn permit_in(
 ) -> Result<(), Stop>
     ensures refuses { Refuses (refusal_for (seen world.old) id.0 call.now (map value_of values.now)) result }
     ensures same { seen world.new ≡ seen world.old }
-    ensures kept { KeptAfter (asked_for (seen world.old) call.now (map value_of values.now)) result (uses_of world.old) (uses_of world.new) }
+    ensures kept { KeptAfter (asked_for (seen world.old) call.now (map value_of values.now)) result (uses_of world.old)
+        (uses_of world.new) }
 {
     if !takes(world, call.generic(), values.len()) {
         return Err(Stop::Refused(plain(alloc, ConditionKind::ProgramError)));
@@ -149,7 +154,8 @@ fn run_next(
     world: &World,
     arguments: Arguments,
 ) -> Result<Doing, Stop>
-    ensures leads { Leads (here machine.old (λ ev env. next_called ev env env.running arguments)) (seen world.now) result machine.new }
+    ensures leads { Leads (here machine.old (λ ev env. next_called ev env env.running arguments)) (seen world.now)
+        result machine.new }
     ensures small { Grows perform_weight machine.old.levels result machine.new }
 {
     let Some(running) = &machine.context.running else {
@@ -178,7 +184,8 @@ fn run_made_with(
     arguments: Arguments,
     forms: &Forms,
 ) -> Result<Doing, Stop>
-    ensures leads { Leads (here machine.old (λ ev env. made_run ev (with_arguments arguments env) forms.now)) (seen world.now) result machine.new }
+    ensures leads { Leads (here machine.old (λ ev env. made_run ev (with_arguments arguments env) forms.now))
+        (seen world.now) result machine.new }
     ensures small { Grows call_growth machine.old.levels result machine.new }
 {
     let _ = world;
@@ -200,7 +207,8 @@ fn call_none(
     id: MethodId,
     arguments: &Arguments,
 ) -> Result<Doing, Stop>
-    ensures leads { Leads (here machine.now (λ ev env. none_next ev env.call id.0 arguments.now)) (seen world.now) result machine.now }
+    ensures leads { Leads (here machine.now (λ ev env. none_next ev env.call id.0 arguments.now)) (seen world.now)
+        result machine.now }
     ensures small { Grows perform_weight machine.now.levels result machine.now }
 {
     let _ = world;

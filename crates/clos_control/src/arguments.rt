@@ -20,7 +20,8 @@ fn value_at_once<'a>(
     world: &'a World,
     operator: &'a Operator,
 ) -> Option<&'a Value>
-    ensures { option_map (λ v. value_of v.now) result ≡ at_once (at machine.now (seen world.now)) (operator_of operator.now) }
+    ensures { option_map (λ v. value_of v.now) result ≡ at_once (at machine.now (seen world.now))
+        (operator_of operator.now) }
 {
     match operator {
         Operator::Constant(value) => Some(value),
@@ -38,7 +39,8 @@ fn take_values<'a>(
     values: &mut Values,
     steps: &mut u64,
 ) -> Result<&'a Forms, AllocError>
-    ensures { IfOk result (λ rest. Took machine.now.room machine.now.context (at machine.now (seen world.now)) forms.now values.old steps.old rest.now values.new steps.new) }
+    ensures { IfOk result (λ rest. Took machine.now.room machine.now.context (at machine.now (seen world.now)) forms.now
+        values.old steps.old rest.now values.new steps.new) }
 {
     let mut rest = forms;
     if machine.room == 0 {
@@ -65,7 +67,8 @@ fn begin_next(
     forms: &Forms,
     values: Values,
 ) -> Result<Doing, Stop>
-    ensures leads { Does (λ ev env. collect ev env forms.now values (acted ev env action)) machine.old result machine.new }
+    ensures leads { Does (λ ev env. collect ev env forms.now values (acted ev env action)) machine.old result
+        machine.new }
     ensures small { Grows (action_weight action) machine.old.levels result machine.new }
 {
     let Ok(next) = split(forms) else {
@@ -89,7 +92,8 @@ pub fn collect_values(
     mut values: Values,
     steps: &mut u64,
 ) -> Result<Doing, Stop>
-    ensures turns { Turns (here machine.old (λ ev env. collect ev env forms.now values (acted ev env action))) (seen world.now) steps.old result machine.new (seen world.now) steps.new }
+    ensures turns { Turns (here machine.old (λ ev env. collect ev env forms.now values (acted ev env action)))
+        (seen world.now) steps.old result machine.new (seen world.now) steps.new }
     ensures small { Grows (action_weight action) machine.old.levels result machine.new }
     ensures fewer { steps.new ≤ steps.old }
 {
@@ -112,7 +116,8 @@ pub fn next_value(
     mut values: Values,
     value: Value,
 ) -> Result<Doing, Stop>
-    ensures leads { Does (λ ev env. collect ev env rest (values ++ value_of value ∷ []) (acted ev env action)) machine.now result machine.now }
+    ensures leads { Does (λ ev env. collect ev env rest (values ++ value_of value ∷ []) (acted ev env action))
+        machine.now result machine.now }
     ensures small { Grows (collect_weight action) machine.now.levels result machine.now }
 {
     let _ = machine;

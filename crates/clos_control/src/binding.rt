@@ -58,9 +58,9 @@ pub fn start_let_in_order(
     bindings: &Bindings,
     forms: &Forms,
 ) -> Result<Doing, Stop>
-    ensures leads { (run : Run)
-        → ((t : ℕ) → in_order (meaning machine.old.room) machine.old.context (length machine.old.locals) bindings.now forms.now (at machine.old (seen world.now)) t ≡ run (at machine.old (seen world.now)) t)
-        → Leads (inside machine.old run) (seen world.now) result machine.new }
+    ensures leads { (run : Run) → ((t : ℕ) → in_order (meaning machine.old.room) machine.old.context
+        (length machine.old.locals) bindings.now forms.now (at machine.old (seen world.now)) t ≡ run
+        (at machine.old (seen world.now)) t) → Leads (inside machine.old run) (seen world.now) result machine.new }
     ensures small { Grows value_weight machine.old.levels result machine.new }
 {
     let plan = Plan::new(alloc, bindings.as_slice())?;
@@ -77,9 +77,9 @@ fn bind_in_order(
     mut plan: Plan,
     forms: &Forms,
 ) -> Result<Doing, Stop>
-    ensures leads { (run : Run)
-        → ((t : ℕ) → in_order (meaning machine.old.room) machine.old.context outer plan forms.now (at machine.old (seen world.now)) t ≡ run (at machine.old (seen world.now)) t)
-        → Leads (inside machine.old run) (seen world.now) result machine.new }
+    ensures leads { (run : Run) → ((t : ℕ) → in_order (meaning machine.old.room) machine.old.context outer plan
+        forms.now (at machine.old (seen world.now)) t ≡ run (at machine.old (seen world.now)) t) → Leads
+        (inside machine.old run) (seen world.now) result machine.new }
     ensures small { Grows value_weight machine.old.levels result machine.new }
 {
     match bind_unset(alloc, world, &mut machine.locals, &mut plan) {
@@ -98,7 +98,8 @@ fn bind_next(
     plan: Plan,
     forms: &Forms,
 ) -> Result<Doing, Stop>
-    ensures leads { Does (λ ev env. in_order ev env outer (with_next next plan) forms.now) machine.old result machine.new }
+    ensures leads { Does (λ ev env. in_order ev env outer (with_next next plan) forms.now) machine.old result
+        machine.new }
     ensures small { Grows value_weight machine.old.levels result machine.new }
 {
     match next {
@@ -125,9 +126,10 @@ pub fn next_variable(
     forms: &Forms,
     value: Value,
 ) -> Result<Doing, Stop>
-    ensures leads { (run : Run)
-        → ((t : ℕ) → binding name (value_of value) (in_order (meaning machine.old.room) machine.old.context outer plan forms.now) (at machine.old (seen world.now)) t ≡ run (at machine.old (seen world.now)) t)
-        → Leads (inside machine.old run) (seen world.now) result machine.new }
+    ensures leads { (run : Run) → ((t : ℕ) → binding name (value_of value)
+        (in_order (meaning machine.old.room) machine.old.context outer plan forms.now) (at machine.old (seen world.now))
+        t ≡ run (at machine.old (seen world.now)) t) → Leads (inside machine.old run) (seen world.now) result
+        machine.new }
     ensures small { Grows value_weight machine.old.levels result machine.new }
 {
     if world.globals.has(&name) {
@@ -147,9 +149,9 @@ fn bind_one(
     forms: &Forms,
     value: Value,
 ) -> Result<Doing, Stop>
-    ensures leads { (run : Run)
-        → ((t : ℕ) → in_order (meaning machine.old.room) machine.old.context outer plan forms.now (bound_as ((name, held (value_of value)) ∷ machine.old.locals) (seen world.now)) t ≡ run (at machine.old (seen world.now)) t)
-        → Leads (inside machine.old run) (seen world.now) result machine.new }
+    ensures leads { (run : Run) → ((t : ℕ) → in_order (meaning machine.old.room) machine.old.context outer plan
+        forms.now (bound_as ((name, held (value_of value)) ∷ machine.old.locals) (seen world.now)) t ≡ run
+        (at machine.old (seen world.now)) t) → Leads (inside machine.old run) (seen world.now) result machine.new }
     ensures small { Grows value_weight machine.old.levels result machine.new }
 {
     machine.locals.push(name, value)?;
@@ -164,9 +166,9 @@ pub fn start_let(
     bindings: &Bindings,
     forms: &Forms,
 ) -> Result<Doing, Stop>
-    ensures leads { (run : Run)
-        → ((t : ℕ) → aside (meaning machine.old.room) machine.old.context (length machine.old.locals) bindings.now forms.now [] (at machine.old (seen world.now)) t ≡ run (at machine.old (seen world.now)) t)
-        → Leads (inside machine.old run) (seen world.now) result machine.new }
+    ensures leads { (run : Run) → ((t : ℕ) → aside (meaning machine.old.room) machine.old.context
+        (length machine.old.locals) bindings.now forms.now [] (at machine.old (seen world.now)) t ≡ run
+        (at machine.old (seen world.now)) t) → Leads (inside machine.old run) (seen world.now) result machine.new }
     ensures small { Grows value_weight machine.old.levels result machine.new }
 {
     let plan = Plan::new(alloc, bindings.as_slice())?;
@@ -185,9 +187,9 @@ fn set_aside(
     mut plan: Plan,
     forms: &Forms,
 ) -> Result<Doing, Stop>
-    ensures leads { (run : Run)
-        → ((t : ℕ) → aside (meaning machine.old.room) machine.old.context outer plan forms.now locals (at machine.old (seen world.now)) t ≡ run (at machine.old (seen world.now)) t)
-        → Leads (inside machine.old run) (seen world.now) result machine.new }
+    ensures leads { (run : Run) → ((t : ℕ) → aside (meaning machine.old.room) machine.old.context outer plan forms.now
+        locals (at machine.old (seen world.now)) t ≡ run (at machine.old (seen world.now)) t) → Leads
+        (inside machine.old run) (seen world.now) result machine.new }
     ensures small { Grows value_weight machine.old.levels result machine.new }
 {
     let next = put_unset_aside(&mut locals, &mut plan)?;
@@ -206,9 +208,9 @@ fn aside_next(
     plan: Plan,
     forms: &Forms,
 ) -> Result<Doing, Stop>
-    ensures leads { (run : Run)
-        → ((t : ℕ) → aside (meaning machine.old.room) machine.old.context outer (with_next next plan) forms.now locals (at machine.old (seen world.now)) t ≡ run (at machine.old (seen world.now)) t)
-        → Leads (inside machine.old run) (seen world.now) result machine.new }
+    ensures leads { (run : Run) → ((t : ℕ) → aside (meaning machine.old.room) machine.old.context outer
+        (with_next next plan) forms.now locals (at machine.old (seen world.now)) t ≡ run
+        (at machine.old (seen world.now)) t) → Leads (inside machine.old run) (seen world.now) result machine.new }
     ensures small { Grows value_weight machine.old.levels result machine.new }
 {
     match next {
@@ -233,9 +235,9 @@ fn bind_together(
     locals: Locals,
     forms: &Forms,
 ) -> Result<Doing, Stop>
-    ensures leads { (run : Run)
-        → ((t : ℕ) → together (meaning machine.old.room) machine.old.context outer locals forms.now (at machine.old (seen world.now)) t ≡ run (at machine.old (seen world.now)) t)
-        → Leads (inside machine.old run) (seen world.now) result machine.new }
+    ensures leads { (run : Run) → ((t : ℕ) → together (meaning machine.old.room) machine.old.context outer locals
+        forms.now (at machine.old (seen world.now)) t ≡ run (at machine.old (seen world.now)) t) → Leads
+        (inside machine.old run) (seen world.now) result machine.new }
     ensures small { Grows value_weight machine.old.levels result machine.new }
 {
     if locals.any_global(world) {
@@ -251,9 +253,9 @@ pub fn run_beside(
     locals: Locals,
     forms: &Forms,
 ) -> Result<Doing, Stop>
-    ensures leads { (run : Run) (w : State)
-        → ((t : ℕ) → within (meaning machine.old.room) machine.old.context outer forms.now (list nil) (bound_as (locals ++ machine.old.locals) w) t ≡ run (at machine.old w) t)
-        → Leads (inside machine.old run) w result machine.new }
+    ensures leads { (run : Run) (w : State) → ((t : ℕ) → within (meaning machine.old.room) machine.old.context outer
+        forms.now (list nil) (bound_as (locals ++ machine.old.locals) w) t ≡ run (at machine.old w) t) → Leads
+        (inside machine.old run) w result machine.new }
     ensures small { Grows value_weight machine.old.levels result machine.new }
 {
     machine.locals.append(locals)?;
@@ -272,9 +274,9 @@ pub fn next_aside(
     forms: &Forms,
     value: Value,
 ) -> Result<Doing, Stop>
-    ensures leads { (run : Run)
-        → ((t : ℕ) → aside (meaning machine.old.room) machine.old.context outer plan forms.now ((name, held (value_of value)) ∷ locals) (at machine.old (seen world.now)) t ≡ run (at machine.old (seen world.now)) t)
-        → Leads (inside machine.old run) (seen world.now) result machine.new }
+    ensures leads { (run : Run) → ((t : ℕ) → aside (meaning machine.old.room) machine.old.context outer plan forms.now
+        ((name, held (value_of value)) ∷ locals) (at machine.old (seen world.now)) t ≡ run
+        (at machine.old (seen world.now)) t) → Leads (inside machine.old run) (seen world.now) result machine.new }
     ensures small { Grows value_weight machine.old.levels result machine.new }
 {
     locals.push(name, value)?;
@@ -290,7 +292,8 @@ pub fn start_loop(
     has_result: bool,
     forms: &Forms,
 ) -> Result<Doing, Stop>
-    ensures leads { Does (λ ev env. dotimes ev env (length machine.old.locals) name.now has_result forms.now) machine.old result machine.new }
+    ensures leads { Does (λ ev env. dotimes ev env (length machine.old.locals) name.now has_result forms.now)
+        machine.old result machine.new }
     ensures small { Grows value_weight machine.old.levels result machine.new }
 {
     match split(forms)? {
@@ -316,9 +319,9 @@ pub fn repeat(
     repetition: Repetition,
     value: Value,
 ) -> Result<Doing, Stop>
-    ensures leads { (run : Run)
-        → ((t : ℕ) → repeated (meaning machine.old.room) machine.old.context (loop_of repetition) (value_of value) (at machine.old (seen world.now)) t ≡ run (at machine.old (seen world.now)) t)
-        → Leads (inside machine.old run) (seen world.now) result machine.new }
+    ensures leads { (run : Run) → ((t : ℕ) → repeated (meaning machine.old.room) machine.old.context
+        (loop_of repetition) (value_of value) (at machine.old (seen world.now)) t ≡ run
+        (at machine.old (seen world.now)) t) → Leads (inside machine.old run) (seen world.now) result machine.new }
     ensures small { Grows turn_weight machine.old.levels result machine.new }
 {
     match &value {
@@ -338,7 +341,10 @@ fn set_count(
     repetition: &Repetition,
     counter: &Counter,
 ) -> Result<(), AllocError>
-    ensures { OnOk result (machine.new ≡ record machine.old { locals = with_count (loop_of repetition.now) (pos counter.now.1) machine.old.locals }) }
+    ensures { OnOk result (machine.new ≡ record machine.old {
+      locals = with_count (loop_of repetition.now)
+          (pos counter.now.1) machine.old.locals;
+    }) }
 {
     machine.locals.leave(repetition.outer);
     machine
@@ -369,7 +375,8 @@ pub fn continue_turn(
     forms: &Forms,
     value: Value,
 ) -> Result<Doing, Stop>
-    ensures leads { Does (λ ev env u k. then_do (sequence ev env forms.now (value_of value) u k) (λ v. turns ev env (loop_of repetition) counter.0 counter.1)) machine.old result machine.new }
+    ensures leads { Does (λ ev env u k. then_do (sequence ev env forms.now (value_of value) u k)
+        (λ v. turns ev env (loop_of repetition) counter.0 counter.1)) machine.old result machine.new }
     ensures small { Grows turn_weight machine.old.levels result machine.new }
 {
     match split(forms)? {
@@ -383,7 +390,8 @@ pub fn continue_turn(
 
 /// The body of a loop, and then the next turn.
 fn run_turn(machine: &mut Machine, repetition: Repetition, counter: Counter) -> Result<Doing, Stop>
-    ensures leads { Does (λ ev env u k. then_do (sequence ev env (body_of repetition.has_result repetition.forms) (list nil) u k) (λ v. turns ev env (loop_of repetition) counter.0 counter.1)) machine.old result machine.new }
+    ensures leads { Does (λ ev env u k. then_do (sequence ev env (body_of repetition.has_result repetition.forms)
+        (list nil) u k) (λ v. turns ev env (loop_of repetition) counter.0 counter.1)) machine.old result machine.new }
     ensures small { Grows turn_weight machine.old.levels result machine.new }
 {
     let body = body_of(&repetition).copy()?;
@@ -397,9 +405,11 @@ fn begin_turn(
     counter: &Counter,
     next: Counter,
 ) -> Result<Doing, Stop>
-    ensures leads { (run : Run) (w : State)
-        → ((t : ℕ) → then_do (sequence (meaning machine.old.room) machine.old.context (body_of repetition.has_result repetition.forms) (list nil) (counted (loop_of repetition) (pos counter.now.1) (at machine.old w)) t) (λ v. turns (meaning machine.old.room) machine.old.context (loop_of repetition) next.0 next.1) ≡ run (at machine.old w) t)
-        → Leads (inside machine.old run) w result machine.new }
+    ensures leads { (run : Run) (w : State) → ((t : ℕ) → then_do (sequence (meaning machine.old.room)
+        machine.old.context (body_of repetition.has_result repetition.forms) (list nil)
+        (counted (loop_of repetition) (pos counter.now.1) (at machine.old w)) t)
+        (λ v. turns (meaning machine.old.room) machine.old.context (loop_of repetition) next.0 next.1) ≡ run
+        (at machine.old w) t) → Leads (inside machine.old run) w result machine.new }
     ensures small { Grows turn_weight machine.old.levels result machine.new }
 {
     set_count(machine, &repetition, counter)?;
@@ -408,7 +418,8 @@ fn begin_turn(
 
 /// The result form of a loop gives its value.
 fn run_result(machine: &mut Machine, repetition: &Repetition) -> Result<Doing, Stop>
-    ensures leads { Does (λ ev env u k. then_do (result_value ev env repetition.now.has_result repetition.now.forms u k) (leaving repetition.now.outer)) machine.old result machine.new }
+    ensures leads { Does (λ ev env u k. then_do (result_value ev env repetition.now.has_result repetition.now.forms u k)
+        (leaving repetition.now.outer)) machine.old result machine.new }
     ensures small { Grows value_weight machine.old.levels result machine.new }
 {
     if !repetition.has_result {
@@ -433,9 +444,10 @@ fn end_loop(
     repetition: &Repetition,
     counter: &Counter,
 ) -> Result<Doing, Stop>
-    ensures leads { (run : Run) (w : State)
-        → ((t : ℕ) → then_do (result_value (meaning machine.old.room) machine.old.context repetition.now.has_result repetition.now.forms (counted (loop_of repetition.now) (pos counter.now.1) (at machine.old w)) t) (leaving repetition.now.outer) ≡ run (at machine.old w) t)
-        → Leads (inside machine.old run) w result machine.new }
+    ensures leads { (run : Run) (w : State) → ((t : ℕ) → then_do (result_value (meaning machine.old.room)
+        machine.old.context repetition.now.has_result repetition.now.forms
+        (counted (loop_of repetition.now) (pos counter.now.1) (at machine.old w)) t) (leaving repetition.now.outer) ≡
+        run (at machine.old w) t) → Leads (inside machine.old run) w result machine.new }
     ensures small { Grows value_weight machine.old.levels result machine.new }
 {
     set_count(machine, repetition, counter)?;
@@ -451,7 +463,8 @@ pub fn turn(
     counter: Counter,
     steps: &mut u64,
 ) -> Result<Doing, Stop>
-    ensures turns { Turns (here machine.old (λ ev env. turns ev env (loop_of repetition) counter.0 counter.1)) (seen world.now) steps.old result machine.new (seen world.now) steps.new }
+    ensures turns { Turns (here machine.old (λ ev env. turns ev env (loop_of repetition) counter.0 counter.1))
+        (seen world.now) steps.old result machine.new (seen world.now) steps.new }
     ensures small { Shrinks turn_weight steps.old steps.new machine.old.levels result machine.new }
     ensures fewer { steps.new ≤ steps.old }
 {

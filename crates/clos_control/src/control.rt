@@ -132,7 +132,8 @@ pub fn clause_tested(
     others: &Forms,
     value: Value,
 ) -> Result<Doing, Stop>
-    ensures leads { Does (λ ev env. tested ev env forms.now (clauses ev env others.now) (value_of value)) machine.old result machine.new }
+    ensures leads { Does (λ ev env. tested ev env forms.now (clauses ev env others.now) (value_of value)) machine.old
+        result machine.new }
     ensures small { Grows value_weight machine.old.levels result machine.new }
 {
     if is_true(&value) {

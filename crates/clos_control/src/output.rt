@@ -39,7 +39,8 @@ fn line_of(alloc: Global, text: &[u8]) -> Result<Vec<u8>, AllocError>
 
 /// Writes bytes, which takes a step.
 fn write(alloc: Global, world: &mut World, bytes: &[u8], steps: &mut u64) -> Result<(), Stop>
-    ensures changes { (v : Val) (l : List Local) → Changes (written bytes.now v) v (bound_as l (seen world.old)) steps.old result (bound_as l (seen world.new)) steps.new }
+    ensures changes { (v : Val) (l : List Local) → Changes (written bytes.now v) v (bound_as l (seen world.old))
+        steps.old result (bound_as l (seen world.new)) steps.new }
     ensures fewer { steps.new ≤ steps.old }
     ensures kept { uses_of world.new ≡ uses_of world.old }
 {
@@ -60,7 +61,8 @@ fn write_giving(
     value: Value,
     steps: &mut u64,
 ) -> Result<Doing, Stop>
-    ensures turns { Turns (inside machine.now (step_then (written bytes.now (value_of value)))) (seen world.old) steps.old result machine.now (seen world.new) steps.new }
+    ensures turns { Turns (inside machine.now (step_then (written bytes.now (value_of value)))) (seen world.old)
+        steps.old result machine.now (seen world.new) steps.new }
     ensures small { Grows value_weight machine.now.levels result machine.now }
     ensures fewer { steps.new ≤ steps.old }
     ensures kept { uses_of world.new ≡ uses_of world.old }
@@ -81,7 +83,8 @@ pub fn print(
     values: &Values,
     steps: &mut u64,
 ) -> Result<Doing, Stop>
-    ensures turns { Turns (inside machine.old (output_of output (only_value values.now))) (seen world.old) steps.old result machine.new (seen world.new) steps.new }
+    ensures turns { Turns (inside machine.old (output_of output (only_value values.now))) (seen world.old) steps.old
+        result machine.new (seen world.new) steps.new }
     ensures small { Grows value_weight machine.old.levels result machine.new }
     ensures fewer { steps.new ≤ steps.old }
     ensures kept { uses_of world.new ≡ uses_of world.old }
@@ -102,7 +105,8 @@ pub fn end_line(
     values: &Values,
     steps: &mut u64,
 ) -> Result<Doing, Stop>
-    ensures turns { Turns (inside machine.old (line_ended values.now)) (seen world.old) steps.old result machine.new (seen world.new) steps.new }
+    ensures turns { Turns (inside machine.old (line_ended values.now)) (seen world.old) steps.old result machine.new
+        (seen world.new) steps.new }
     ensures small { Grows value_weight machine.old.levels result machine.new }
     ensures fewer { steps.new ≤ steps.old }
     ensures kept { uses_of world.new ≡ uses_of world.old }

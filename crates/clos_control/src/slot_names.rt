@@ -25,7 +25,8 @@ pub fn read_name(
     world: &World,
     name: &Name,
 ) -> Result<Doing, Stop>
-    ensures leads { Leads (here machine.old (λ ev env w. name_read ev env name.now (place_denoted w name.now) w)) (seen world.now) result machine.new }
+    ensures leads { Leads (here machine.old (λ ev env w. name_read ev env name.now (place_denoted w name.now) w))
+        (seen world.now) result machine.new }
     ensures small { Grows act_weight machine.old.levels result machine.new }
 {
     match value_of_variable(machine, world, name) {
@@ -37,8 +38,8 @@ pub fn read_name(
 /// A name that is no variable with a value is read.
 #[tactic(auto, using(clos_machine::proofs::Turns::stopped_through))]
 fn read_place(alloc: Global, machine: &mut Machine, name: &Name) -> Result<Doing, Stop>
-    ensures leads { (w : State) → None ≡ found_value (at machine.old w) name.now
-        → Leads (here machine.old (λ ev env w. name_read ev env name.now (place_denoted w name.now) w)) w result machine.new }
+    ensures leads { (w : State) → None ≡ found_value (at machine.old w) name.now → Leads
+        (here machine.old (λ ev env w. name_read ev env name.now (place_denoted w name.now) w)) w result machine.new }
     ensures small { Grows act_weight machine.old.levels result machine.new }
 {
     match place_denoted(alloc, machine, name)? {
@@ -58,7 +59,8 @@ pub fn start_slots(
     form: &Form,
     parts: &Forms,
 ) -> Result<Doing, Stop>
-    ensures leads { Does (λ ev env. with_slots ev env (slot_names (operator_in form.now)) parts.now) machine.old result machine.new }
+    ensures leads { Does (λ ev env. with_slots ev env (slot_names (operator_in form.now)) parts.now) machine.old result
+        machine.new }
     ensures small { Grows value_weight machine.old.levels result machine.new }
 {
     match split(parts)? {
@@ -88,7 +90,8 @@ pub fn bind_slots(
     body: &Forms,
     object: &Value,
 ) -> Result<Doing, Stop>
-    ensures leads { Does (λ ev env. within_slots ev env (slot_names (operator_in form.now)) body.now (value_of object.now)) machine.old result machine.new }
+    ensures leads { Does (λ ev env. within_slots ev env (slot_names (operator_in form.now)) body.now
+        (value_of object.now)) machine.old result machine.new }
     ensures small { Grows value_weight machine.old.levels result machine.new }
 {
     let outer = machine.locals.len();

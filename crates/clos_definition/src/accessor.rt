@@ -143,7 +143,12 @@ pub fn changes_for(
     class: ClassId,
     accessors: &[SlotAccessor],
 ) -> Result<Changes, AllocError>
-    ensures { IfOk result (λ r. r ≡ record { removals = earlier_accessors class.0 generics.now.table; definitions = functions_for generics.now.table accessors.now; additions = [] }) }
+    ensures { IfOk result (λ r. r ≡ record {
+      removals = earlier_accessors class.0 generics.now.table;
+      definitions =
+          functions_for generics.now.table accessors.now;
+      additions = [];
+    }) }
 {
     let mut changes = Changes::new(alloc);
     remove_earlier(alloc, generics, &mut changes, class)?;
@@ -170,7 +175,8 @@ fn remove_methods(
     changes: &mut Changes,
     methods: &[MethodId],
 ) -> Result<(), AllocError>
-    ensures { OnOk result (changes.new ≡ removing changes.old (removals_of generics.now.table.methods (method_numbers methods.now))) }
+    ensures { OnOk result (changes.new ≡ removing changes.old (removals_of generics.now.table.methods
+        (method_numbers methods.now))) }
 {
     let mut left = methods;
     while let Some((method, others)) = left.split_first() {
@@ -182,7 +188,8 @@ fn remove_methods(
 
 /// Removes a method from its function.
 fn remove_method(generics: &Generics, changes: &mut Changes, id: MethodId) -> Result<(), AllocError>
-    ensures { OnOk result (changes.new ≡ removing changes.old (removal_in id.0 (slice_get generics.now.table.methods id.0))) }
+    ensures { OnOk result (changes.new ≡ removing changes.old (removal_in id.0
+        (slice_get generics.now.table.methods id.0))) }
 {
     match generics.method(id) {
         None => Ok(()),
@@ -203,7 +210,10 @@ fn add_functions(
     changes: &mut Changes,
     accessors: &[SlotAccessor],
 ) -> Result<(), AllocError>
-    ensures { OnOk result (changes.new ≡ record changes.old { definitions = with_functions generics.now.table changes.old.definitions accessors.now }) }
+    ensures { OnOk result (changes.new ≡ record changes.old {
+      definitions = with_functions generics.now.table
+          changes.old.definitions accessors.now;
+    }) }
 {
     let mut left = accessors;
     while let Some((accessor, others)) = left.split_first() {
@@ -220,7 +230,10 @@ fn add_function(
     changes: &mut Changes,
     accessor: &SlotAccessor,
 ) -> Result<(), AllocError>
-    ensures { OnOk result (changes.new ≡ record changes.old { definitions = with_functions generics.now.table changes.old.definitions (accessor.now ∷ []) }) }
+    ensures { OnOk result (changes.new ≡ record changes.old {
+      definitions = with_functions generics.now.table
+          changes.old.definitions (accessor.now ∷ []);
+    }) }
 {
     let name = function_of(accessor)?;
     if generics.named(&name).is_some() || place_of(changes.definitions(), &name).is_some() {
@@ -312,7 +325,8 @@ fn method_for(
     definitions: &[Definition],
     accessor: &SlotAccessor,
 ) -> Result<Method, AllocError>
-    ensures { IfOk result (λ r. r ≡ accessor_method class.0 (number_after generics.now.table definitions.now (function_of accessor.now)) accessor.now) }
+    ensures { IfOk result (λ r. r ≡ accessor_method class.0 (number_after generics.now.table definitions.now
+        (function_of accessor.now)) accessor.now) }
 {
     let name = function_of(accessor)?;
     let id = number_after(generics, definitions, &name)?;
@@ -342,8 +356,10 @@ pub fn with_accessors(
     changes: Changes,
     accessors: &[SlotAccessor],
 ) -> Result<Effect, AllocError>
-    ensures changes { IfOk result (λ e. e.changes ≡ adding changes (map addition_of (accessor_methods class.0 generics.now.table changes.definitions accessors.now))) }
-    ensures methods { IfOk result (λ e. e.methods.items ≡ accessor_methods class.0 generics.now.table changes.definitions accessors.now) }
+    ensures changes { IfOk result (λ e. e.changes ≡ adding changes (map addition_of
+        (accessor_methods class.0 generics.now.table changes.definitions accessors.now))) }
+    ensures methods { IfOk result (λ e. e.methods.items ≡ accessor_methods class.0 generics.now.table
+        changes.definitions accessors.now) }
 {
     let mut effect = Effect::new(alloc, changes);
     let mut left = accessors;

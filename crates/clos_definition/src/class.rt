@@ -9,6 +9,7 @@ ghost use Rattle.clos_store.specs.Store.{has_room_for};
 ghost use Rattle.clos_watch.specs.declared.notice.Notice.{Notice};
 ghost use Rattle.clos_cache.specs.Cache.{Drops, DropsAll, of_classes};
 ghost use Rattle.clos_world.specs.Kept.{ClassesKeep};
+ghost use Rattle.clos_world.specs.Uses.{uses_of};
 ghost use Rattle.clos_world.specs.World.{seen};
 ghost use Rattle.clos_world.specs.declared.condition.Stop.TheVariants.{Storage};
 ghost use Rattle.clos_definition.specs.Accessor.{accessors_of, accessors_refusal};
@@ -37,10 +38,12 @@ pub fn check_class(
     world: &mut World,
     definition: &ClassDefinition,
 ) -> Result<ReservedClass, Stop>
-    ensures allows { Allows (class_refusal definition.now (length (cells_needed definition.now (seen world.old))) (seen world.old)) result }
+    ensures allows { Allows (class_refusal definition.now (length (cells_needed definition.now (seen world.old)))
+        (seen world.old)) result }
     ensures class { IfOk result (λ r. r.class.0 ≡ class_number definition.now (seen world.old)) }
     ensures cells { IfOk result (λ r. r.cells ≡ cells_needed definition.now (seen world.old)) }
     ensures same { seen world.new ≡ seen world.old }
+    ensures kept { uses_of world.new ≡ uses_of world.old }
 {
     let reserved = reserve_class(alloc, world, definition)?;
     accessors_for(
@@ -65,9 +68,12 @@ pub fn prepare_class(
     ensures allows { Allows (class_refusal definition.now cells (seen world.old)) result }
     ensures class { IfOk result (λ p. p.0.0 ≡ class_number definition.now (seen world.old)) }
     ensures reserved { IfOk result (λ p. IsReserved p.1 world.new.generics) }
-    ensures effect { IfOk result (λ p. (told : List Notice) → with_effect p.1 (noting told (seen world.old)) ≡ with_accessors definition.now (noting told (seen world.old))) }
-    ensures concerned { IfOk result (λ p. concerned_by p.1 (seen world.old).generics ≡ accessors_concerned definition.now (seen world.old)) }
+    ensures effect { IfOk result (λ p. (told : List Notice) → with_effect p.1 (noting told (seen world.old)) ≡
+        with_accessors definition.now (noting told (seen world.old))) }
+    ensures concerned { IfOk result (λ p. concerned_by p.1 (seen world.old).generics ≡ accessors_concerned
+        definition.now (seen world.old)) }
     ensures same { seen world.new ≡ seen world.old }
+    ensures kept { uses_of world.new ≡ uses_of world.old }
 {
     let class = reserve_class(alloc, world, definition)?.class;
     let effect = accessors_for(alloc, world, class, definition, cells)?;
@@ -86,9 +92,13 @@ pub fn make_class(
 ) -> Result<(), AllocError>
     requires allowed { class_refusal definition.now (length values.items) (seen world.old) ≡ None }
     requires reserved { IsReserved effect world.old.generics }
-    requires room { length (class_notices definition.now (seen world.old) ++ possible_notices effect (seen world.old).generics) ≤ world.old.hearing.notices.room }
-    ensures ok { OnOk result (seen world.new ≡ with_class definition.now values.items (with_effect effect (noting (class_notices definition.now (seen world.old)) (seen world.old)))) }
-    ensures left { OnOk result (DropsAll (of_classes (changed (seen world.old).classes.table.classes (seen world.new).classes.table.classes) ∷ concerned_by effect (seen world.old).generics) world.old.cache world.new.cache) }
+    requires room { length (class_notices definition.now (seen world.old) ++ possible_notices effect
+        (seen world.old).generics) ≤ world.old.hearing.notices.room }
+    ensures ok { OnOk result (seen world.new ≡ with_class definition.now values.items
+        (with_effect effect (noting (class_notices definition.now (seen world.old)) (seen world.old)))) }
+    ensures left { OnOk result (DropsAll (of_classes (changed (seen world.old).classes.table.classes
+        (seen world.new).classes.table.classes) ∷ concerned_by effect (seen world.old).generics) world.old.cache
+        world.new.cache) }
     ensures err { OnErr result (seen world.new ≡ seen world.old) }
     ensures same { OnErr result (world.new.cache ≡ world.old.cache) }
     ensures meter { world.new.meter ≡ world.old.meter }
@@ -121,7 +131,8 @@ fn define(
     requires cells { has_room_for (length values.items) objects.old.contents ≡ true }
     ensures ok { OnOk result (objects.new ≡ with_objects_of definition.now values.items objects.old) }
     ensures kept { OnOk result (ClassesKeep objects.old.classes cache.old objects.new.classes cache.new) }
-    ensures left { OnOk result (Drops (of_classes (changed objects.old.classes.table.classes objects.new.classes.table.classes)) cache.old cache.new) }
+    ensures left { OnOk result (Drops (of_classes (changed objects.old.classes.table.classes
+        objects.new.classes.table.classes)) cache.old cache.new) }
     ensures err { OnErr result (objects.new ≡ objects.old) }
     ensures same { OnErr result (cache.new ≡ cache.old) }
 {
@@ -137,7 +148,8 @@ pub fn class_notices(
     definition: &ClassDefinition,
     effect: &Effect,
 ) -> Result<Reserved<Notice>, AllocError>
-    ensures { IfOk result (λ r. r.items ≡ class_notices definition.now (seen world.now) ++ possible_notices effect.now (seen world.now).generics) }
+    ensures { IfOk result (λ r. r.items ≡ class_notices definition.now (seen world.now) ++ possible_notices effect.now
+        (seen world.now).generics) }
 {
     let mut notices = Reserved::new(alloc);
     if let Some(class) = world.classes().hierarchy().named(&definition.name) {
@@ -154,10 +166,12 @@ fn reserve_class(
     world: &mut World,
     definition: &ClassDefinition,
 ) -> Result<ReservedClass, Stop>
-    ensures allows { Allows (option_map (condition_for definition.now.name) (refusal (seen world.old).classes.table definition.now)) result }
+    ensures allows { Allows (option_map (condition_for definition.now.name)
+        (refusal (seen world.old).classes.table definition.now)) result }
     ensures class { IfOk result (λ r. r.class.0 ≡ class_number definition.now (seen world.old)) }
     ensures cells { IfOk result (λ r. r.cells ≡ cells_needed definition.now (seen world.old)) }
     ensures same { seen world.new ≡ seen world.old }
+    ensures kept { uses_of world.new ≡ uses_of world.old }
 {
     match world.objects.reserve_class(alloc, definition) {
         Ok(reserved) => Ok(reserved),
@@ -193,7 +207,8 @@ fn effect_for(
     definition: &ClassDefinition,
 ) -> Result<Effect, Stop>
     requires { class.0 ≡ class_number definition.now (seen world.now) }
-    ensures allows { Allows (accessors_refusal class.0 (class_functions definition.now (seen world.now)) (accessors_of definition.now.slots) (seen world.now)) result }
+    ensures allows { Allows (accessors_refusal class.0 (class_functions definition.now (seen world.now))
+        (accessors_of definition.now.slots) (seen world.now)) result }
     ensures changes { IfOk result (λ e. e.changes ≡ class_changes definition.now (seen world.now)) }
     ensures methods { IfOk result (λ e. e.methods.items ≡ class_methods definition.now (seen world.now)) }
 {
@@ -218,10 +233,12 @@ fn reserve_effect(
     name: &Name,
     effect: &Effect,
 ) -> Result<(), Stop>
-    requires { effect.now.changes ≡ changes_of effect.now.changes.removals effect.now.changes.definitions effect.now.methods.items }
+    requires { effect.now.changes ≡ changes_of effect.now.changes.removals effect.now.changes.definitions
+        effect.now.methods.items }
     ensures allows { Allows (table_refusal (Symbol name.now) effect.now.changes (seen world.old)) result }
     ensures reserved { OnOk result (IsReserved effect.now world.new.generics) }
     ensures same { seen world.new ≡ seen world.old }
+    ensures kept { uses_of world.new ≡ uses_of world.old }
 {
     let name = FunctionName::Symbol(name.copy()?);
     reserve(alloc, world, &name, effect)
@@ -248,7 +265,8 @@ fn stop_for(alloc: Global, name: &Name, fault: ClassFault) -> Stop
 }
 
 fn condition_for(alloc: Global, name: &Name, fault: ClassFault) -> Result<Condition, Stop>
-    ensures found { IfOk result (λ c. (o : Option Refusal) → Refuses fault o → option_map (condition_for name.now) o ≡ Some c) }
+    ensures found { IfOk result (λ c. (o : Option Refusal) → Refuses fault o → option_map (condition_for name.now) o ≡
+        Some c) }
     ensures memory { IfErr result (λ e. e ≡ Storage) }
 {
     match fault {

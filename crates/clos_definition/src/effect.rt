@@ -1,6 +1,7 @@
 //! What a definition form does to the table of generic functions.
 ghost use Rattle.std.specs.Prelude.{◌≡◌, ◌≤◌, ◌+◌, ◌==◌, ◌++◌, ◌∷◌, [], IfOk, OnOk, length, map, true};
 ghost use Rattle.clos_world.specs.Kept.{FunctionsKeep};
+ghost use Rattle.clos_world.specs.Uses.{uses_of};
 ghost use Rattle.clos_world.specs.World.{seen};
 ghost use Rattle.clos_definition.specs.Effect.{IsReserved, adding, addition_of, changed, changes_of, concerned_by, of_added, of_addition, of_additions, of_changes, of_defined, of_definitions, of_removal, of_removed, possible, possible_notices, with_definitions, with_effect, with_methods, without_all};
 ghost use Rattle.clos_cache.specs.Cache.{Drops, DropsAll, of_generic};
@@ -87,10 +88,12 @@ pub fn reserve(
     name: &FunctionName,
     effect: &Effect,
 ) -> Result<(), Stop>
-    requires { effect.now.changes ≡ changes_of effect.now.changes.removals effect.now.changes.definitions effect.now.methods.items }
+    requires { effect.now.changes ≡ changes_of effect.now.changes.removals effect.now.changes.definitions
+        effect.now.methods.items }
     ensures allows { Allows (table_refusal name.now effect.now.changes (seen world.old)) result }
     ensures reserved { OnOk result (IsReserved effect.now world.new.generics) }
     ensures same { seen world.new ≡ seen world.old }
+    ensures kept { uses_of world.new ≡ uses_of world.old }
 {
     match world.generics.reserve(alloc, &effect.changes) {
         Ok(()) => Ok(()),
@@ -160,8 +163,10 @@ fn make_in(
 )
     requires reserved { IsReserved effect generics.old }
     requires room { length (possible_notices effect generics.old.table) ≤ notices.old.room }
-    ensures table { generics.new.table ≡ changed effect.changes.removals effect.changes.definitions effect.methods.items generics.old.table }
-    ensures told { notices.new.items ≡ notices.old.items ++ of_changes effect.changes.removals effect.changes.definitions effect.methods.items generics.old.table }
+    ensures table { generics.new.table ≡ changed effect.changes.removals effect.changes.definitions effect.methods.items
+        generics.old.table }
+    ensures told { notices.new.items ≡ notices.old.items ++ of_changes effect.changes.removals
+        effect.changes.definitions effect.methods.items generics.old.table }
     ensures kept { FunctionsKeep generics.old.table cache.old generics.new.table cache.new }
     ensures left { DropsAll (concerned_by effect generics.old.table) cache.old cache.new }
 {
@@ -246,7 +251,8 @@ fn define_all(generics: &mut Generics, cache: &mut Cache<EffectiveMethod>, mut c
 /// Defines a function, for which memory is reserved, and drops what is kept of its calls.
 fn define(generics: &mut Generics, cache: &mut Cache<EffectiveMethod>, definition: Definition)
     requires { is_first (λ n. same_function n definition.name) generics.old.definitions ≡ true }
-    ensures defined { generics.new ≡ by_definition definition.name (with_definition definition.name definition.options) generics.old }
+    ensures defined { generics.new ≡ by_definition definition.name (with_definition definition.name definition.options)
+        generics.old }
     ensures kept { FunctionsKeep generics.old.table cache.old generics.new.table cache.new }
     ensures left { Drops (of_generic (number generics.old.table definition.name)) cache.old cache.new }
 {

@@ -4,6 +4,7 @@ ghost use Rattle.lisp_data.specs.Name.{same_name};
 ghost use Rattle.clos_generic.specs.Initial.{standard};
 ghost use Rattle.clos_generic.specs.Table.{named};
 ghost use Rattle.clos_method.specs.MethodIds.{method_numbers};
+ghost use Rattle.clos_world.specs.Uses.{uses_of};
 ghost use Rattle.clos_world.specs.World.{seen};
 ghost use Rattle.clos_definition.specs.Effect.{IsReserved, adding, addition_of, concerned_by, removing, with_effect};
 ghost use Rattle.clos_definition.specs.Generic.{combination_refusal, definition_of, earlier_methods, eql_forms, generic_concerned, generic_refusal, initial_among, is_initial, methods_refusal, methods_with, names_refusal, options_of, place_in, precedence_of, with_defined_generic};
@@ -69,9 +70,12 @@ pub fn prepare_generic(
 ) -> Result<Effect, Stop>
     ensures allows { Allows (generic_refusal definition (Some values.now) (seen world.old)) result }
     ensures reserved { IfOk result (λ e. IsReserved e world.new.generics) }
-    ensures effect { IfOk result (λ e. with_effect e (seen world.old) ≡ with_defined_generic definition values.now (seen world.old)) }
-    ensures concerned { IfOk result (λ e. concerned_by e (seen world.old).generics ≡ generic_concerned definition values.now (seen world.old)) }
+    ensures effect { IfOk result (λ e. with_effect e (seen world.old) ≡ with_defined_generic definition values.now
+        (seen world.old)) }
+    ensures concerned { IfOk result (λ e. concerned_by e (seen world.old).generics ≡ generic_concerned definition
+        values.now (seen world.old)) }
     ensures same { seen world.new ≡ seen world.old }
+    ensures kept { uses_of world.new ≡ uses_of world.old }
 {
     refuse_generic(alloc, world, &definition)?;
     let changes = changes_for(alloc, &world.generics, &definition)?;
@@ -138,7 +142,12 @@ fn changes_for(
     generics: &Generics,
     definition: &GenericDefinition,
 ) -> Result<Changes, AllocError>
-    ensures { IfOk result (λ r. r ≡ record { removals = earlier_methods generics.now.table (named generics.now.table definition.now.name); definitions = definition_of definition.now ∷ []; additions = [] }) }
+    ensures { IfOk result (λ r. r ≡ record {
+      removals = earlier_methods generics.now.table
+          (named generics.now.table definition.now.name);
+      definitions = definition_of definition.now ∷ [];
+      additions = [];
+    }) }
 {
     let mut changes = Changes::new(alloc);
     if let Some(id) = generics.named(&definition.name) {
@@ -171,7 +180,8 @@ fn remove_initial(
     id: GenericId,
     methods: &[MethodId],
 ) -> Result<(), AllocError>
-    ensures { OnOk result (changes.new ≡ removing changes.old (initial_among id.0 generics.now.table.methods (method_numbers methods.now))) }
+    ensures { OnOk result (changes.new ≡ removing changes.old (initial_among id.0 generics.now.table.methods
+        (method_numbers methods.now))) }
 {
     let mut left = methods;
     while let Some((method, others)) = left.split_first() {
@@ -291,7 +301,8 @@ fn with_methods(
     methods: Sequence<MethodDefinition>,
     values: &[Slot],
 ) -> Result<Effect, AllocError>
-    ensures changes { IfOk result (λ e. e.changes ≡ adding changes (map addition_of (methods_with classes.now id.0 methods values.now))) }
+    ensures changes { IfOk result (λ e. e.changes ≡ adding changes (map addition_of
+        (methods_with classes.now id.0 methods values.now))) }
     ensures methods { IfOk result (λ e. e.methods.items ≡ methods_with classes.now id.0 methods values.now) }
 {
     let mut effect = Effect::new(alloc, changes);

@@ -6,6 +6,7 @@ ghost use Rattle.lisp_data.specs.ValueView.{value_of};
 ghost use Rattle.clos_forms.specs.Quotation.{quotation};
 ghost use Rattle.clos_generic.specs.Table.{number};
 ghost use Rattle.clos_method.specs.Specializer.{specializer_of};
+ghost use Rattle.clos_world.specs.Uses.{uses_of};
 ghost use Rattle.clos_world.specs.World.{seen};
 ghost use Rattle.clos_definition.specs.Effect.{IsReserved, concerned_by, with_effect};
 ghost use Rattle.clos_definition.specs.Method.{defined_method, eql_form, first_value, function_for, method_changes, method_concerned, method_refusal, method_with, qualifiers_of, specializer_refusal, specializer_with, specializers_refusal, specializers_with, with_defined_method};
@@ -69,9 +70,12 @@ pub fn prepare_method(
 ) -> Result<Effect, Stop>
     ensures allows { Allows (method_refusal name.now definition (Some values.now) (seen world.old)) result }
     ensures reserved { IfOk result (λ e. IsReserved e world.new.generics) }
-    ensures effect { IfOk result (λ e. with_effect e (seen world.old) ≡ with_defined_method name.now definition values.now (seen world.old)) }
-    ensures concerned { IfOk result (λ e. concerned_by e (seen world.old).generics ≡ method_concerned name.now definition values.now (seen world.old)) }
+    ensures effect { IfOk result (λ e. with_effect e (seen world.old) ≡ with_defined_method name.now definition
+        values.now (seen world.old)) }
+    ensures concerned { IfOk result (λ e. concerned_by e (seen world.old).generics ≡ method_concerned name.now
+        definition values.now (seen world.old)) }
     ensures same { seen world.new ≡ seen world.old }
+    ensures kept { uses_of world.new ≡ uses_of world.old }
 {
     refuse_taken(alloc, world, name)?;
     refuse_specializers(alloc, world, definition.specializers.as_slice())?;
@@ -88,8 +92,10 @@ fn effect_for(
     definition: MethodDefinition,
     values: &[Slot],
 ) -> Result<Effect, AllocError>
-    ensures changes { IfOk result (λ e. e.changes ≡ method_changes name.now definition (Some values.now) (seen world.now)) }
-    ensures methods { IfOk result (λ e. e.methods.items ≡ defined_method name.now definition values.now (seen world.now) ∷ []) }
+    ensures changes { IfOk result (λ e. e.changes ≡ method_changes name.now definition (Some values.now)
+        (seen world.now)) }
+    ensures methods { IfOk result (λ e. e.methods.items ≡ defined_method name.now definition values.now (seen world.now)
+        ∷ []) }
 {
     let id = number_of(&world.generics, name);
     let method = method_with(
@@ -123,7 +129,12 @@ fn changes_for(
     name: &FunctionName,
     shape: &Shape,
 ) -> Result<Changes, AllocError>
-    ensures { IfOk result (λ r. r ≡ record { removals = []; definitions = function_for generics.now.table name.now shape.now; additions = [] }) }
+    ensures { IfOk result (λ r. r ≡ record {
+      removals = [];
+      definitions = function_for generics.now.table name.now
+          shape.now;
+      additions = [];
+    }) }
 {
     let mut changes = Changes::new(alloc);
     if generics.named(name).is_none() {
@@ -281,7 +292,8 @@ fn specializer_with(
     specializer: &ParameterSpecializer,
     value: Option<&Value>,
 ) -> Result<Specializer, AllocError>
-    ensures { IfOk result (λ r. specializer_of r ≡ specializer_with classes.now specializer.now (option_map (λ v. value_of v.now) value.entry)) }
+    ensures { IfOk result (λ r. specializer_of r ≡ specializer_with classes.now specializer.now
+        (option_map (λ v. value_of v.now) value.entry)) }
 {
     match specializer {
         ParameterSpecializer::Class(name) => match classes.hierarchy().named(name) {

@@ -65,7 +65,8 @@ fn method_in(value: &Value) -> Option<MethodId>
 pub fn remove(world: &mut World, function: GenericId, method: MethodId)
     requires { 0 < world.old.hearing.notices.room }
     ensures seen { seen world.new ≡ with_removed function.0 method.0 (seen world.old) }
-    ensures left { DropsAll (concerned_by_removal function.0 method.0 (seen world.old).generics) world.old.cache world.new.cache }
+    ensures left { DropsAll (concerned_by_removal function.0 method.0 (seen world.old).generics) world.old.cache
+        world.new.cache }
     ensures meter { world.new.meter ≡ world.old.meter }
 {
     remove_in(

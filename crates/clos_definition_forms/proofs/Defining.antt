@@ -12,10 +12,12 @@ use Rattle.clos_syntax.specs.declared.class.ClassDefinition.{ClassDefinition}
 use Rattle.clos_syntax.specs.declared.generic.GenericDefinition.{GenericDefinition}
 use Rattle.clos_syntax.specs.declared.method.MethodDefinition.{MethodDefinition}
 use Rattle.clos_watch.specs.declared.notice.Notice.{Notice}
-use Rattle.clos_machine.specs.clos_world.World.{State}
+use Rattle.clos_machine.specs.clos_world.Uses.{uses_of}
+use Rattle.clos_machine.specs.clos_world.World.{State, seen}
 use Rattle.clos_machine.specs.clos_world.declared.condition.Condition.{Condition}
 use Rattle.clos_machine.specs.clos_world.declared.condition.Stop.{Stop}
 use Rattle.clos_machine.specs.clos_world.declared.condition.Stop.TheVariants.{Refused, Storage}
+use Rattle.clos_machine.specs.clos_world.declared.tables.World.{World}
 use Rattle.clos_definition.specs.Class.{accessors_concerned, cells_needed, class_concerned, class_concerned_by, class_notices, class_number, class_refusal, initforms, lists_concerned, noting, with_accessors, with_class, with_defined_class}
 use Rattle.clos_definition.specs.Effect.{concerned_by, with_effect}
 use Rattle.clos_definition.specs.Generic.{eql_forms, generic_concerned, generic_refusal, with_defined_generic}
@@ -23,15 +25,15 @@ use Rattle.clos_definition.specs.Method.{eql_form, method_concerned, method_refu
 use Rattle.clos_definition.specs.Refusal.{StopsFor}
 use Rattle.clos_definition.specs.Removal.{Finds, concerned_by_removal, removable, with_removed}
 use Rattle.clos_definition.specs.declared.effect.Effect.{Effect}
-use Rattle.clos_machine.specs.Machine.{Answers, AnswersWith}
+use Rattle.clos_eval.specs.Evaluation.{Performs}
+use Rattle.clos_machine.specs.Machine.{Answers}
 use Rattle.clos_machine.specs.clos_meaning.Host.{Host}
-use Rattle.clos_machine.specs.clos_meaning.Outcome.{Gave, Noted, Run, Stopped, changed, leaves}
+use Rattle.clos_machine.specs.clos_meaning.Outcome.{Gave, Noted, Run, Stopped, leaves, took_effect}
 use Rattle.clos_machine.specs.clos_world.clos_cache.Cache.{Change}
 use Rattle.clos_definition_forms.specs.Definition.{AnswersNoting, class_made, concerned_if, define_class, define_generic, define_method, generic_made, method_made, removed_if, takes_effect, unless, value_at, values_concerned, values_removed}
-use Rattle.clos_definition_forms.specs.Forms.{EndsBefore, GoesOn, forms_evaluated}
-use Rattle.clos_machine.proofs.Answering.{answers_as, answers_with}
-use Rattle.clos_definition_forms.proofs.Quiet.{class_forms_quiet, class_made_quiet, define_generic_quiet, define_method_quiet, generic_forms_quiet, generic_made_quiet, method_forms_quiet, method_made_quiet, define_class_quiet, values_removed_quiet}
-use Rattle.clos_definition_forms.proofs.Evaluated.{AnswersAt, forms_go_on, forms_quiet, forms_stop, noting_at}
+use Rattle.clos_definition_forms.specs.Forms.{forms_evaluated}
+use Rattle.clos_definition_forms.proofs.Quiet.{class_made_quiet, define_class_quiet, define_generic_quiet, define_method_quiet, generic_made_quiet, method_made_quiet, values_removed_quiet}
+use Rattle.clos_definition_forms.proofs.Evaluated.{performs_alone, performs_as, performs_from}
 
 -- a run that does the same from there
 pub answers_same : (run run' : Run) (w : State) (s : ℕ) (r : Result Value Stop) (x : State) (j : ℕ) → ((i : ℕ) → run w i ≡ run' w i)
@@ -48,21 +50,9 @@ module _ (o : Option Condition) (go : Run) (w u : State) where
   stops_at s (Refused c) e l h = ap (λ x. unless x go w s) h ∙ ap (λ v. Stopped c v s) (sym e)
   stops_at s Storage e l h = (0, omega arith, subst (λ v. leaves (unless o go w 0) v 0) (sym e) l)
 
-  -- It goes on, in a state that is the same, where functions of the host's may have answered.
-  passes_with : (host : Host) (s j : ℕ) (past past' : List ℤ) (x : State) (r : Result Value Stop) → u ≡ w → o ≡ None
-      → AnswersWith host go u s past r x j past' → AnswersWith host (unless o go) w s past r x j past'
-  passes_with host s j past past' x r e h a =
-      answers_as host go (unless o go) w s past r x j past' (λ i. sym (ap (λ p. unless p go w i) h))
-      (subst (λ v. AnswersWith host go v s past r x j past') e a)
-
 -- no memory for the first step
 pub storage_at : (run : Run) (w : State) (s : ℕ) → leaves (run w 0) w 0 → Answers run w s (Err Storage) w s
 storage_at run w s l = (0, omega arith, l)
-
--- the same, where functions of the host's may have answered before
-storage_with : (host : Host) (run : Run) (w : State) (s : ℕ) (past : List ℤ) → leaves (run w 0) w 0 → AnswersWith host run w s past
-    (Err Storage) w s past
-storage_with host run w s past l = answers_with host run w s past (Err Storage) w s (storage_at run w s l)
 
 -- ---- effects, whose concerns are noted
 
@@ -92,7 +82,7 @@ effect_not_made cs v t w u s e =
 -- an effect that is made, in one step
 pub effect_is_made : (cs : List Change) (v : Value) (t w u : State) (s k : ℕ) → s ≡ suc k → u ≡ t → AnswersNoting cs (takes_effect cs (value_of v) t) w s (Ok v) u k
 effect_is_made cs v t w u s k e h =
-    ap (λ n. takes_effect cs (value_of v) t w n) e ∙ ap (λ x. Noted (changed w cs) (Gave (value_of v) x k)) (sym h)
+    ap (λ n. takes_effect cs (value_of v) t w n) e ∙ ap (λ x. Noted (took_effect w cs) (Gave (value_of v) x k)) (sym h)
 
 -- with an effect that is the same
 takes_same : (cs cs' : List Change) (v v' : Val) (x x' w u y : State) (s j : ℕ) (r : Result Value Stop) → u ≡ w → cs ≡ cs' → v ≡ v' → x ≡ x'
@@ -104,40 +94,19 @@ takes_same cs cs' v v' x x' w u y s j r e q h g a =
 
 -- ---- defmethod
 
-module _ (host : Host) (name : FunctionName) (m : MethodDefinition) (w u : State) (s : ℕ) (past past' : List ℤ) where
-  pub method_refused : (stop : Stop) → w.locals ≡ [] → StopsFor (method_refusal name m None w) stop
-      → AnswersWith host (define_method name m) w s past (Err stop) w s past
-  method_refused stop l h =
-      answers_with host (define_method name m) w s past (Err stop) w s
-      (stops_at (method_refusal name m None w) (forms_evaluated (map eql_form m.specializers) [] (method_made name m)) w w s stop refl
-      (define_method_quiet name m w l) h)
+module _ (host : Host) (name : FunctionName) (m : MethodDefinition) (w : World) (s : ℕ) (past : List ℤ) where
+  pub method_refused : (stop : Stop) → StopsFor (method_refusal name m None (seen w)) stop → Performs host (define_method name m) w s past (Err stop) w s past
+  method_refused stop h =
+      performs_alone host (define_method name m) w w s s past (Err stop)
+      (stops_at (method_refusal name m None (seen w)) (forms_evaluated (map eql_form m.specializers) [] (method_made name m)) (seen w) (seen w) s stop refl
+      (define_method_quiet name m (seen w) refl) h) refl
 
-  pub method_evaluated : (j : ℕ) (r : Result Value Stop) → method_refusal name m None w ≡ None
-      → AnswersWith host (forms_evaluated (map eql_form m.specializers) [] (method_made name m)) w s past r u j past'
-      → AnswersWith host (define_method name m) w s past r u j past'
-  method_evaluated j r h a =
-      passes_with (method_refusal name m None w) (forms_evaluated (map eql_form m.specializers) [] (method_made name m)) w w host s j past
-      past' u r refl h a
-
-  pub method_not_begun : w.locals ≡ [] → AnswersWith host (forms_evaluated (map eql_form m.specializers) [] (method_made name m)) w s past
-      (Err Storage) w s past
-  method_not_begun l = storage_with host (forms_evaluated (map eql_form m.specializers) [] (method_made name m)) w s past
-      (method_forms_quiet name m w l)
-
-  pub method_forms_stop : (fs : List (Option Form)) (k : ℕ) (stop : Stop) → fs ≡ map eql_form m.specializers
-      → EndsBefore host (forms_evaluated fs []) w s past stop u k past'
-      → AnswersWith host (forms_evaluated (map eql_form m.specializers) [] (method_made name m)) w s past (Err stop) u k past'
-  method_forms_stop fs k stop e h =
-      forms_stop host (map eql_form m.specializers) (method_made name m) w u s k past past' stop (λ vs. method_made_quiet name m vs u)
-      (subst (λ l. EndsBefore host (forms_evaluated l []) w s past stop u k past') e h)
-
-  pub method_forms_go_on : (fs : List (Option Form)) (k : ℕ) (vs : List (Option Val)) (r : Result Value Stop) (x : State) (j : ℕ) → fs ≡ map eql_form m.specializers
-      → GoesOn host (forms_evaluated fs []) w s past vs u k past' → AnswersNoting (method_concerned name m vs u) (method_made name m vs) u k r x j
-      → AnswersWith host (forms_evaluated (map eql_form m.specializers) [] (method_made name m)) w s past r x j past'
-  method_forms_go_on fs k vs r x j e h a =
-      forms_go_on host (map eql_form m.specializers) (method_made name m) w u s k past past' vs r x j
-      (subst (λ l. GoesOn host (forms_evaluated l []) w s past vs u k past') e h)
-      (noting_at host (method_concerned name m vs u) (method_made name m vs) u k r x j a)
+  pub method_evaluated : (past' : List ℤ) (u : World) (k : ℕ) (r : Result Value Stop) → method_refusal name m None (seen w) ≡ None
+      → Performs host (forms_evaluated (map eql_form m.specializers) [] (method_made name m)) w s past r u k past'
+      → Performs host (define_method name m) w s past r u k past'
+  method_evaluated past' u k r h a =
+      let forms = forms_evaluated (map eql_form m.specializers) [] (method_made name m) in
+      performs_as host forms (define_method name m) w u s k past past' r (λ i. sym (ap (λ p. unless p forms (seen w) i) h)) a
 
 module _ (name : FunctionName) (m : MethodDefinition) (w u : State) (s : ℕ) where
   abbrev method_effect : List (Option Val) → Run
@@ -160,38 +129,19 @@ module _ (name : FunctionName) (m : MethodDefinition) (w u : State) (s : ℕ) wh
 
 -- ---- defgeneric
 
-module _ (host : Host) (d : GenericDefinition) (w u : State) (s : ℕ) (past past' : List ℤ) where
-  pub generic_refused : (stop : Stop) → w.locals ≡ [] → StopsFor (generic_refusal d None w) stop → AnswersWith host (define_generic d) w s
-      past (Err stop) w s past
-  generic_refused stop l h =
-      answers_with host (define_generic d) w s past (Err stop) w s
-      (stops_at (generic_refusal d None w) (forms_evaluated (eql_forms d.methods) [] (generic_made d)) w w s stop refl
-      (define_generic_quiet d w l) h)
+module _ (host : Host) (d : GenericDefinition) (w : World) (s : ℕ) (past : List ℤ) where
+  pub generic_refused : (stop : Stop) → StopsFor (generic_refusal d None (seen w)) stop → Performs host (define_generic d) w s past (Err stop) w s past
+  generic_refused stop h =
+      performs_alone host (define_generic d) w w s s past (Err stop)
+      (stops_at (generic_refusal d None (seen w)) (forms_evaluated (eql_forms d.methods) [] (generic_made d)) (seen w) (seen w) s stop refl
+      (define_generic_quiet d (seen w) refl) h) refl
 
-  pub generic_evaluated : (j : ℕ) (r : Result Value Stop) → generic_refusal d None w ≡ None
-      → AnswersWith host (forms_evaluated (eql_forms d.methods) [] (generic_made d)) w s past r u j past'
-      → AnswersWith host (define_generic d) w s past r u j past'
-  generic_evaluated j r h a = passes_with (generic_refusal d None w) (forms_evaluated (eql_forms d.methods) [] (generic_made d)) w w host s
-      j past past' u r refl h a
-
-  pub generic_not_begun : w.locals ≡ [] → AnswersWith host (forms_evaluated (eql_forms d.methods) [] (generic_made d)) w s past
-      (Err Storage) w s past
-  generic_not_begun l = storage_with host (forms_evaluated (eql_forms d.methods) [] (generic_made d)) w s past (generic_forms_quiet d w l)
-
-  pub generic_forms_stop : (fs : List (Option Form)) (k : ℕ) (stop : Stop) → fs ≡ eql_forms d.methods
-      → EndsBefore host (forms_evaluated fs []) w s past stop u k past'
-      → AnswersWith host (forms_evaluated (eql_forms d.methods) [] (generic_made d)) w s past (Err stop) u k past'
-  generic_forms_stop fs k stop e h =
-      forms_stop host (eql_forms d.methods) (generic_made d) w u s k past past' stop (λ vs. generic_made_quiet d vs u)
-      (subst (λ l. EndsBefore host (forms_evaluated l []) w s past stop u k past') e h)
-
-  pub generic_forms_go_on : (fs : List (Option Form)) (k : ℕ) (vs : List (Option Val)) (r : Result Value Stop) (x : State) (j : ℕ) → fs ≡ eql_forms d.methods
-      → GoesOn host (forms_evaluated fs []) w s past vs u k past' → AnswersNoting (generic_concerned d vs u) (generic_made d vs) u k r x j
-      → AnswersWith host (forms_evaluated (eql_forms d.methods) [] (generic_made d)) w s past r x j past'
-  generic_forms_go_on fs k vs r x j e h a =
-      forms_go_on host (eql_forms d.methods) (generic_made d) w u s k past past' vs r x j
-      (subst (λ l. GoesOn host (forms_evaluated l []) w s past vs u k past') e h)
-      (noting_at host (generic_concerned d vs u) (generic_made d vs) u k r x j a)
+  pub generic_evaluated : (past' : List ℤ) (u : World) (k : ℕ) (r : Result Value Stop) → generic_refusal d None (seen w) ≡ None
+      → Performs host (forms_evaluated (eql_forms d.methods) [] (generic_made d)) w s past r u k past'
+      → Performs host (define_generic d) w s past r u k past'
+  generic_evaluated past' u k r h a =
+      let forms = forms_evaluated (eql_forms d.methods) [] (generic_made d) in
+      performs_as host forms (define_generic d) w u s k past past' r (λ i. sym (ap (λ p. unless p forms (seen w) i) h)) a
 
 module _ (d : GenericDefinition) (w u : State) (s : ℕ) where
   abbrev generic_effect : List (Option Val) → Run
@@ -216,40 +166,22 @@ module _ (d : GenericDefinition) (w u : State) (s : ℕ) where
 
 -- A class that is not defined is a new one.
 
-module _ (host : Host) (d : ClassDefinition) (w u : State) (s : ℕ) (past past' : List ℤ) where
-  pub class_refused : (stop : Stop) → w.locals ≡ [] → u ≡ w → StopsFor (class_refusal d (length (cells_needed d w)) w) stop
-      → AnswersWith host (define_class d) w s past (Err stop) u s past
-  class_refused stop l e h =
-      answers_with host (define_class d) w s past (Err stop) u s
-      (stops_at (class_refusal d (length (cells_needed d w)) w) (forms_evaluated (initforms (cells_needed d w)) [] (class_made d)) w u s
-      stop e (define_class_quiet d w l) h)
+module _ (host : Host) (d : ClassDefinition) (w v : World) (s : ℕ) (past : List ℤ) where
+  pub class_refused : (stop : Stop) → seen v ≡ seen w → uses_of v ≡ uses_of w → StopsFor (class_refusal d (length (cells_needed d (seen w))) (seen w)) stop
+      → Performs host (define_class d) w s past (Err stop) v s past
+  class_refused stop e q h =
+      performs_alone host (define_class d) w v s s past (Err stop)
+      (stops_at (class_refusal d (length (cells_needed d (seen w))) (seen w)) (forms_evaluated (initforms (cells_needed d (seen w))) [] (class_made d)) (seen w)
+      (seen v) s stop e (define_class_quiet d (seen w) refl) h) q
 
-  pub class_evaluated : (cs : List NewCell) (j : ℕ) (x : State) (r : Result Value Stop) → u ≡ w → cs ≡ cells_needed d w → class_refusal d (length (cells_needed d w)) w ≡ None
-      → AnswersWith host (forms_evaluated (initforms cs) [] (class_made d)) u s past r x j past' → AnswersWith host (define_class d) w s
-      past r x j past'
-  class_evaluated cs j x r e q h a =
-      passes_with (class_refusal d (length (cells_needed d w)) w) (forms_evaluated (initforms (cells_needed d w)) [] (class_made d)) w u
-      host s j past past' x r e h
-      (subst (λ l. AnswersWith host (forms_evaluated (initforms l) [] (class_made d)) u s past r x j past') q a)
-
-  pub class_not_begun : (fs : List (Option Form)) → w.locals ≡ [] → AnswersWith host (forms_evaluated fs [] (class_made d)) w s past
-      (Err Storage) w s past
-  class_not_begun fs l = storage_with host (forms_evaluated fs [] (class_made d)) w s past (class_forms_quiet d fs w l)
-
-  pub class_forms_stop : (fs gs : List (Option Form)) (k : ℕ) (stop : Stop) → fs ≡ gs → EndsBefore host (forms_evaluated fs []) w s past
-      stop u k past'
-      → AnswersWith host (forms_evaluated gs [] (class_made d)) w s past (Err stop) u k past'
-  class_forms_stop fs gs k stop e h =
-      forms_stop host gs (class_made d) w u s k past past' stop (λ vs. class_made_quiet d vs u)
-      (subst (λ l. EndsBefore host (forms_evaluated l []) w s past stop u k past') e h)
-
-  pub class_forms_go_on : (fs gs : List (Option Form)) (k : ℕ) (vs : List (Option Val)) (r : Result Value Stop) (x : State) (j : ℕ) → fs ≡ gs
-      → GoesOn host (forms_evaluated fs []) w s past vs u k past' → AnswersNoting (class_concerned d vs u) (class_made d vs) u k r x j
-      → AnswersWith host (forms_evaluated gs [] (class_made d)) w s past r x j past'
-  class_forms_go_on fs gs k vs r x j e h a =
-      forms_go_on host gs (class_made d) w u s k past past' vs r x j
-      (subst (λ l. GoesOn host (forms_evaluated l []) w s past vs u k past') e h)
-      (noting_at host (class_concerned d vs u) (class_made d vs) u k r x j a)
+  pub class_evaluated : (cs : List NewCell) (past' : List ℤ) (u : World) (k : ℕ) (r : Result Value Stop) → seen v ≡ seen w → uses_of v ≡ uses_of w
+      → cs ≡ cells_needed d (seen w) → class_refusal d (length (cells_needed d (seen w))) (seen w) ≡ None
+      → Performs host (forms_evaluated (initforms cs) [] (class_made d)) v s past r u k past' → Performs host (define_class d) w s past r u k past'
+  class_evaluated cs past' u k r e q n h a =
+      let forms = forms_evaluated (initforms (cells_needed d (seen w))) [] (class_made d) in
+      performs_as host forms (define_class d) w u s k past past' r (λ i. sym (ap (λ p. unless p forms (seen w) i) h))
+      (performs_from host forms w v u s k past past' r e q
+      (subst (λ l. Performs host (forms_evaluated (initforms l) [] (class_made d)) v s past r u k past') n a))
 
 module _ (d : ClassDefinition) (w u : State) (s : ℕ) where
   abbrev class_effect : List (Option Val) → Run
@@ -275,27 +207,6 @@ module _ (d : ClassDefinition) (w u : State) (s : ℕ) where
       (ap (with_class d vs) (ap (λ v. with_effect f (noting (class_notices d v) v)) e ∙ g (class_notices d w))) a)
 
 -- ---- remove-method
-
--- two forms are evaluated first, and what follows changes nothing with no step left
-module _ (host : Host) (f m : Form) (go : List (Option Val) → Run) (quiet : (vs : List (Option Val)) (v : State) → leaves (go vs v 0) v 0)
-    (w u : State) (s : ℕ) (past past' : List ℤ) where
-  pub two_not_begun : w.locals ≡ [] → AnswersWith host (forms_evaluated (Some f ∷ Some m ∷ []) [] go) w s past (Err Storage) w s past
-  two_not_begun l =
-      storage_with host (forms_evaluated (Some f ∷ Some m ∷ []) [] go) w s past (forms_quiet (Some f ∷ Some m ∷ []) [] go w l (λ vs. quiet vs w))
-
-  pub two_stop : (fs : List (Option Form)) (k : ℕ) (stop : Stop) → fs ≡ Some f ∷ Some m ∷ []
-      → EndsBefore host (forms_evaluated fs []) w s past stop u k past'
-      → AnswersWith host (forms_evaluated (Some f ∷ Some m ∷ []) [] go) w s past (Err stop) u k past'
-  two_stop fs k stop e h =
-      forms_stop host (Some f ∷ Some m ∷ []) go w u s k past past' stop (λ vs. quiet vs u)
-      (subst (λ l. EndsBefore host (forms_evaluated l []) w s past stop u k past') e h)
-
-  pub two_go_on : (fs : List (Option Form)) (k : ℕ) (vs : List (Option Val)) (r : Result Value Stop) (x : State) (j : ℕ) → fs ≡ Some f ∷ Some m ∷ []
-      → GoesOn host (forms_evaluated fs []) w s past vs u k past' → AnswersAt host (go vs) u k r x j
-      → AnswersWith host (forms_evaluated (Some f ∷ Some m ∷ []) [] go) w s past r x j past'
-  two_go_on fs k vs r x j e h a =
-      forms_go_on host (Some f ∷ Some m ∷ []) go w u s k past past' vs r x j
-      (subst (λ l. GoesOn host (forms_evaluated l []) w s past vs u k past') e h) a
 
 module _ (vs : List (Option Val)) (w : State) (s : ℕ) where
   pub removal_not_begun_yet : AnswersNoting (values_concerned vs w) (values_removed vs) w s (Err Storage) w s

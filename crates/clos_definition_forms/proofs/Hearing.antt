@@ -4,12 +4,14 @@ use Rattle.std.specs.Prelude.{ℤ, Option}
 use Rattle.lisp_data.specs.Value.{Val}
 use Rattle.clos_forms.specs.Form.{Form}
 use Rattle.clos_machine.specs.clos_world.Definitions.{Same}
-use Rattle.clos_machine.specs.clos_world.World.{State}
+use Rattle.clos_machine.specs.clos_world.World.{State, seen}
 use Rattle.clos_machine.specs.clos_world.declared.condition.Stop.{Stop}
+use Rattle.clos_machine.specs.clos_world.declared.tables.World.{World}
 use Rattle.clos_machine.specs.clos_meaning.Host.{Host}
 use Rattle.clos_watch.specs.Watching.{Watching, heard_after, heard_from, times_told}
 use Rattle.clos_watch.specs.declared.notice.Notice.{Notice}
-use Rattle.clos_definition_forms.specs.Forms.{EndsBefore, GoesOn, forms_evaluated}
+use Rattle.clos_eval.specs.Evaluation.{GoesOn}
+use Rattle.clos_definition_forms.specs.Forms.{EndsBefore, forms_evaluated}
 use Rattle.clos_definition_forms.specs.Hearing.{Heard}
 use Rattle.clos_definition_forms.proofs.Kept.{evaluated_same, stopped_same}
 
@@ -45,15 +47,15 @@ module _ (told told' : List (List Notice)) where
   heard_at w v u e h = subst (λ x. Heard told x told' u) e h
 
   -- forms that were evaluated before it
-  pub heard_with_values : (host : Host) (fs : List (Option Form)) (w v u : State) (s k : ℕ) (past past' : List ℤ) (vs : List (Option Val))
-      → GoesOn host (forms_evaluated fs []) w s past vs v k past' → Heard told v told' u → Heard told w told' u
-  heard_with_values host fs w v u s k past past' vs g h = heard_later w v u (evaluated_same host fs w v s k past past' vs g) h
+  pub heard_with_values : (host : Host) (fs : List (Option Form)) (w v u : World) (s k : ℕ) (past past' : List ℤ) (vs : List (Option Val))
+      → GoesOn host (forms_evaluated fs []) w s past vs v k past' → Heard told (seen v) told' (seen u) → Heard told (seen w) told' (seen u)
+  heard_with_values host fs w v u s k past past' vs g h = heard_later (seen w) (seen v) (seen u) (evaluated_same host fs w v s k past past' vs g).0 h
 
   -- .. of which one stopped
-  pub unheard_before : (host : Host) (fs : List (Option Form)) (w u : State) (s k : ℕ) (past past' : List ℤ) (stop : Stop)
-      → told' ≡ told → EndsBefore host (forms_evaluated fs []) w s past stop u k past' → Heard told w told' u
+  pub unheard_before : (host : Host) (fs : List (Option Form)) (w u : World) (s k : ℕ) (past past' : List ℤ) (stop : Stop)
+      → told' ≡ told → EndsBefore host (forms_evaluated fs []) w s past stop u k past' → Heard told (seen w) told' (seen u)
   unheard_before host fs w u s k past past' stop same g =
-      let e : Same w u = stopped_same host fs w u s k past past' stop g in unheard w u same (ap (λ x. x.notices) e.5)
+      let e : Same (seen w) (seen u) = (stopped_same host fs w u s k past past' stop g).0 in unheard (seen w) (seen u) same (ap (λ x. x.notices) e.5)
 
 -- ---- of a change, for which there was room, those are told that hear of it
 

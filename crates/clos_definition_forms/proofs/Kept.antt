@@ -3,15 +3,16 @@ use Rattle.std.proofs.Common.{ℕ, ◌+◌, ◌++◌, List, [], ◌∷◌, Optio
 use Rattle.std.specs.Prelude.{⊤, ℤ, option_map, if◌then◌else◌}
 use Rattle.lisp_data.specs.Value.{Val, list, nil}
 use Rattle.clos_forms.specs.Form.{Form}
-use Rattle.clos_machine.specs.clos_world.Definitions.{Same}
-use Rattle.clos_machine.specs.clos_world.World.{State}
+use Rattle.clos_machine.specs.clos_world.World.{State, seen}
 use Rattle.clos_machine.specs.clos_world.declared.condition.Stop.{Stop}
 use Rattle.clos_machine.specs.clos_world.declared.condition.Stop.TheVariants.{Refused, Storage}
+use Rattle.clos_machine.specs.clos_world.declared.tables.World.{World}
 use Rattle.clos_machine.specs.clos_meaning.Host.{Host, answered_by, may_answer}
 use Rattle.clos_machine.specs.clos_meaning.Meaning.{evaluation}
 use Rattle.clos_machine.specs.clos_meaning.Outcome.{Asked, End, Given, Looked, Noted, Out, Gave, Signalled, Stopped, Run, ends_in, then_do}
-use Rattle.clos_machine.proofs.clos_meaning.Kept.{SameAfter, evaluation_kept, same, shifted}
-use Rattle.clos_definition_forms.specs.Forms.{EndsBefore, GoesOn, form_evaluated, forms_evaluated}
+use Rattle.clos_machine.proofs.clos_meaning.Kept.{Follows, SameAfter, evaluation_kept, shifted, stays}
+use Rattle.clos_eval.specs.Evaluation.{GoesOn}
+use Rattle.clos_definition_forms.specs.Forms.{EndsBefore, form_evaluated, forms_evaluated}
 use Rattle.clos_definition_forms.specs.Variable.{room_below}
 
 -- ---- forms, and then what defines nothing
@@ -40,8 +41,8 @@ forms_same (f ∷ fs) vs go w k g =
 
 abbrev ends_same : State → Option End → Type 0
 ends_same w None = ⊤
-ends_same w (Some (Given v u k)) = Same w u
-ends_same w (Some (Signalled c u k)) = Same w u
+ends_same w (Some (Given v u k)) = Follows w u
+ends_same w (Some (Signalled c u k)) = Follows w u
 
 if_permitted : (w : State) (b : Bool) (o : Option End) → ends_same w o → ends_same w (if b then o else None)
 if_permitted w true o h = h
@@ -59,9 +60,9 @@ answered_same host w (Asked name ys more) [] h = tt
 answered_same host w (Asked name ys more) (x ∷ xs) h =
     if_permitted w (may_answer (host name) ys x) (answered_by host (more x) xs) (answered_same host w (more x) xs (h x))
 
-left_same : (w u : State) (e : End) → ends_same w (Some e) → ends_in e u 0 → Same w u
-left_same w u (Given v x j) h g = subst (Same w) g.0 h
-left_same w u (Signalled c x j) h g = subst (Same w) g.0 h
+left_same : (w u : State) (e : End) → ends_same w (Some e) → ends_in e u 0 → Follows w u
+left_same w u (Given v x j) h g = subst (Follows w) g.0 h
+left_same w u (Signalled c x j) h g = subst (Follows w) g.0 h
 
 -- ---- the forms by themselves
 
@@ -69,16 +70,17 @@ left_same w u (Signalled c x j) h g = subst (Same w) g.0 h
 abbrev nothing_more : List (Option Val) → Run
 nothing_more vs w k = Gave (list nil) w k
 
-module _ (host : Host) (fs : List (Option Form)) (w u : State) (s k : ℕ) (past past' : List ℤ) where
-  by_themselves : (j : ℕ) (xs : List ℤ) → ends_same w (answered_by host (forms_evaluated fs [] nothing_more w j) xs)
+module _ (host : Host) (fs : List (Option Form)) (w u : World) (s k : ℕ) (past past' : List ℤ) where
+  by_themselves : (j : ℕ) (xs : List ℤ) → ends_same (seen w) (answered_by host (forms_evaluated fs [] nothing_more (seen w) j) xs)
   by_themselves j xs =
-      answered_same host w (forms_evaluated fs [] nothing_more w j) xs (forms_same fs [] nothing_more w j (λ vs v i. same v))
+      answered_same host (seen w) (forms_evaluated fs [] nothing_more (seen w) j) xs (forms_same fs [] nothing_more (seen w) j (λ vs v i. stays v))
 
-  pub evaluated_same : (vs : List (Option Val)) → GoesOn host (forms_evaluated fs []) w s past vs u k past' → Same w u
-  evaluated_same vs h = subst (ends_same w) (h.4 nothing_more 0 []) (by_themselves (h.0 + 0) (h.1 ++ []))
+  pub evaluated_same : (vs : List (Option Val)) → GoesOn host (forms_evaluated fs []) w s past vs u k past' → Follows (seen w) (seen u)
+  evaluated_same vs h = subst (ends_same (seen w)) (h.same nothing_more 0 []) (by_themselves (h.taken + 0) (h.answers ++ []))
 
-  pub stopped_same : (stop : Stop) → EndsBefore host (forms_evaluated fs []) w s past stop u k past' → Same w u
-  stopped_same (Refused c) h = subst (ends_same w) (h.2 nothing_more) (by_themselves s h.0)
+  pub stopped_same : (stop : Stop) → EndsBefore host (forms_evaluated fs []) w s past stop u k past' → Follows (seen w) (seen u)
+  stopped_same (Refused c) h =
+      let y = (h.ends nothing_more (λ vs. (refl, refl))).answer in subst (ends_same (seen w)) y.2 (by_themselves s y.0)
   stopped_same Storage h =
-      let y = h.4 nothing_more (λ vs. (refl, refl)) in
-      left_same w u y.0 (subst (ends_same w) y.1 (by_themselves h.0 h.1)) y.2
+      let y = (h.ends nothing_more (λ vs. (refl, refl))).answer in
+      left_same (seen w) (seen u) y.4.0 (subst (ends_same (seen w)) y.4.1 (by_themselves y.2 y.0)) y.4.2

@@ -1,5 +1,5 @@
-pub mod Evaluations
 pub mod Evaluated
+pub mod Concerned
 pub mod Quiet
 pub mod Variables
 pub mod Defining

@@ -5,12 +5,12 @@ use Rattle.clos_machine.specs.clos_world.clos_cache.Cache.{of_combination}
 use Rattle.clos_machine.specs.clos_world.clos_comb.Table.{has_room, is_predefined, name_of, with_combination}
 use Rattle.clos_machine.specs.clos_world.clos_comb.clos_combination.declared.combination.CombinationDefinition.{CombinationDefinition}
 use Rattle.clos_machine.specs.clos_world.declared.condition.ConditionKind.TheVariants.{ProgramError, TableLimit}
-use Rattle.clos_machine.specs.clos_meaning.Outcome.{Gave, Noted, Run, changed, stopped, step_then}
+use Rattle.clos_machine.specs.clos_meaning.Outcome.{Gave, Noted, Run, stopped, step_then, took_effect}
 
 -- the symbol names this combination from now on, and is given; the calls of functions that use it are concerned
 abbrev pub combination_defined : CombinationDefinition → Run
 combination_defined d w k =
-    Noted (changed w (of_combination (name_of d) ∷ [])) (Gave (name_value (name_of d)) (record w { combinations = with_combination d w.combinations }) k)
+    Noted (took_effect w (of_combination (name_of d) ∷ [])) (Gave (name_value (name_of d)) (record w { combinations = with_combination d w.combinations }) k)
 
 -- a combination, in place of an older one of its name; the system's are not defined again
 abbrev pub define_combination : CombinationDefinition → Run

@@ -2,9 +2,10 @@
 ghost use Rattle.std.specs.Prelude.{◌≡◌, ◌∷◌, [], OnErr, OnOk};
 ghost use Rattle.clos_machine.specs.clos_world.clos_cache.Cache.{Drops, of_combination};
 ghost use Rattle.clos_machine.specs.clos_world.clos_comb.Table.{name_of};
+ghost use Rattle.clos_machine.specs.clos_world.Uses.{uses_of};
 ghost use Rattle.clos_machine.specs.clos_world.World.{seen};
 ghost use Rattle.clos_definition_forms.specs.Combination.{define_combination};
-ghost use Rattle.clos_definition_forms.specs.Definition.{AnswersNoting};
+ghost use Rattle.clos_definition_forms.specs.Definition.{AnswersNoting, UsesAfter};
 
 use clos_forms::value_named;
 use clos_machine::{CombinationDefinition, ConditionKind, Stop, World, name_of, plain};
@@ -18,7 +19,10 @@ pub fn define_combination(
     definition: CombinationDefinition,
     steps: &mut u64,
 ) -> Result<Value, Stop>
-    ensures answers { AnswersNoting (of_combination (name_of definition) ∷ []) (define_combination definition) (seen world.old) steps.old result (seen world.new) steps.new }
+    ensures answers { AnswersNoting (of_combination (name_of definition) ∷ []) (define_combination definition)
+        (seen world.old) steps.old result (seen world.new) steps.new }
+    ensures uses { UsesAfter (of_combination (name_of definition) ∷ []) (seen world.old) (uses_of world.old) result
+        (uses_of world.new) }
     ensures left { OnOk result (Drops (of_combination (name_of definition)) world.old.cache world.new.cache) }
     ensures same { OnErr result (world.new.cache ≡ world.old.cache) }
     ensures meter { world.new.meter ≡ world.old.meter }

@@ -2,6 +2,7 @@
 //! is refused takes none.
 ghost use Rattle.std.specs.Prelude.{◌≡◌, [], ◌∷◌, None, Some, IfOk, length, map};
 ghost use Rattle.lisp_data.specs.ValueView.{value_of};
+ghost use Rattle.clos_machine.specs.clos_world.Uses.{uses_of};
 ghost use Rattle.clos_machine.specs.clos_world.World.{seen};
 ghost use Rattle.lisp_data.specs.Value.{class};
 ghost use Rattle.clos_definition.specs.Class.{class_concerned, class_concerned_by, class_notices, class_refusal, initforms, noting, with_class};
@@ -9,8 +10,8 @@ ghost use Rattle.clos_definition.specs.Effect.{IsReserved, concerned_by, with_ef
 ghost use Rattle.clos_definition.specs.Generic.{eql_forms, generic_concerned};
 ghost use Rattle.clos_definition.specs.Method.{eql_form, method_concerned};
 ghost use Rattle.clos_definition.specs.Removal.{concerned_by_removal, with_removed};
-ghost use Rattle.clos_eval.specs.Host.{AnswersBy};
-ghost use Rattle.clos_definition_forms.specs.Definition.{AnswersNoting, class_made, define_class, define_generic, define_method, generic_made, method_made, remove_method, takes_effect, value_at, values_concerned, values_removed};
+ghost use Rattle.clos_eval.specs.Evaluation.{Performs};
+ghost use Rattle.clos_definition_forms.specs.Definition.{AnswersNoting, UsesAfter, class_made, define_class, define_generic, define_method, generic_made, method_made, remove_method, takes_effect, value_at, values_concerned, values_removed};
 ghost use Rattle.clos_definition_forms.specs.Forms.{forms_evaluated};
 ghost use Rattle.clos_definition_forms.specs.Hearing.{Heard};
 
@@ -32,7 +33,6 @@ use lisp_data::{ClassId, GenericId, Items, MethodId, Value};
 use std::alloc::{AllocError, Global};
 
 /// Defines a method, which takes the place of one with the same qualifiers and specializers.
-#[tactic(auto, using(crate::proofs::Defining::method_refused, crate::proofs::Defining::method_evaluated))]
 pub fn defmethod<N: Natives, D: Dependents>(
     alloc: Global,
     world: &mut World,
@@ -43,8 +43,8 @@ pub fn defmethod<N: Natives, D: Dependents>(
     definition: MethodDefinition,
     steps: &mut u64,
 ) -> Result<Value, Stop>
-    ensures answers { AnswersBy (N.host natives.now) (define_method name definition) world.old steps.old answers.old result world.new steps.new
-        answers.new }
+    ensures performs { Performs (N.host natives.now) (define_method name definition) world.old steps.old
+        answers.old.items result world.new steps.new answers.new.items }
     ensures heard { Heard (D.told dependents.old) (seen world.old) (D.told dependents.new) (seen world.new) }
     ensures names { D.names dependents.new ≡ D.names dependents.old }
 {
@@ -59,7 +59,6 @@ pub fn defmethod<N: Natives, D: Dependents>(
 }
 
 /// Evaluates the forms of the specializers of a method, and then makes it.
-#[tactic(auto, using(crate::proofs::Defining::method_not_begun, crate::proofs::Defining::method_forms_stop, crate::proofs::Defining::method_forms_go_on))]
 fn define_checked_method<N: Natives, D: Dependents>(
     alloc: Global,
     world: &mut World,
@@ -70,8 +69,9 @@ fn define_checked_method<N: Natives, D: Dependents>(
     definition: MethodDefinition,
     steps: &mut u64,
 ) -> Result<Value, Stop>
-    ensures answers { AnswersBy (N.host natives.now) (forms_evaluated (map eql_form definition.specializers) [] (method_made name definition))
-        world.old steps.old answers.old result world.new steps.new answers.new }
+    ensures performs { Performs (N.host natives.now) (forms_evaluated (map eql_form definition.specializers) []
+        (method_made name definition)) world.old steps.old answers.old.items result world.new steps.new
+        answers.new.items }
     ensures heard { Heard (D.told dependents.old) (seen world.old) (D.told dependents.new) (seen world.new) }
     ensures names { D.names dependents.new ≡ D.names dependents.old }
 {
@@ -85,7 +85,7 @@ fn define_checked_method<N: Natives, D: Dependents>(
 }
 
 /// Makes a method, where the forms of its specializers gave these values.
-#[tactic(auto, using(crate::proofs::Defining::method_not_made, crate::proofs::Defining::method_is_made))]
+#[tactic(auto, using(crate::proofs::Defining::method_not_made, crate::proofs::Defining::method_is_made, crate::proofs::Concerned::effect_uses))]
 fn make_method<D: Dependents>(
     alloc: Global,
     world: &mut World,
@@ -95,7 +95,10 @@ fn make_method<D: Dependents>(
     values: &[Slot],
     steps: &mut u64,
 ) -> Result<Value, Stop>
-    ensures answers { AnswersNoting (method_concerned name definition values.now (seen world.old)) (method_made name definition values.now) (seen world.old) steps.old result (seen world.new) steps.new }
+    ensures answers { AnswersNoting (method_concerned name definition values.now (seen world.old))
+        (method_made name definition values.now) (seen world.old) steps.old result (seen world.new) steps.new }
+    ensures uses { UsesAfter (method_concerned name definition values.now (seen world.old)) (seen world.old)
+        (uses_of world.old) result (uses_of world.new) }
     ensures heard { Heard (D.told dependents.old) (seen world.old) (D.told dependents.new) (seen world.new) }
     ensures names { D.names dependents.new ≡ D.names dependents.old }
 {
@@ -107,7 +110,6 @@ fn make_method<D: Dependents>(
 }
 
 /// Defines a generic function, or defines it again.
-#[tactic(auto, using(crate::proofs::Defining::generic_refused, crate::proofs::Defining::generic_evaluated))]
 pub fn defgeneric<N: Natives, D: Dependents>(
     alloc: Global,
     world: &mut World,
@@ -117,8 +119,8 @@ pub fn defgeneric<N: Natives, D: Dependents>(
     definition: GenericDefinition,
     steps: &mut u64,
 ) -> Result<Value, Stop>
-    ensures answers { AnswersBy (N.host natives.now) (define_generic definition) world.old steps.old answers.old result world.new steps.new
-        answers.new }
+    ensures performs { Performs (N.host natives.now) (define_generic definition) world.old steps.old answers.old.items
+        result world.new steps.new answers.new.items }
     ensures heard { Heard (D.told dependents.old) (seen world.old) (D.told dependents.new) (seen world.new) }
     ensures names { D.names dependents.new ≡ D.names dependents.old }
 {
@@ -131,7 +133,6 @@ pub fn defgeneric<N: Natives, D: Dependents>(
 }
 
 /// Evaluates the forms of the specializers of its methods, and then makes it.
-#[tactic(auto, using(crate::proofs::Defining::generic_not_begun, crate::proofs::Defining::generic_forms_stop, crate::proofs::Defining::generic_forms_go_on))]
 fn define_checked_generic<N: Natives, D: Dependents>(
     alloc: Global,
     world: &mut World,
@@ -141,8 +142,8 @@ fn define_checked_generic<N: Natives, D: Dependents>(
     definition: GenericDefinition,
     steps: &mut u64,
 ) -> Result<Value, Stop>
-    ensures answers { AnswersBy (N.host natives.now) (forms_evaluated (eql_forms definition.methods) [] (generic_made definition))
-        world.old steps.old answers.old result world.new steps.new answers.new }
+    ensures performs { Performs (N.host natives.now) (forms_evaluated (eql_forms definition.methods) []
+        (generic_made definition)) world.old steps.old answers.old.items result world.new steps.new answers.new.items }
     ensures heard { Heard (D.told dependents.old) (seen world.old) (D.told dependents.new) (seen world.new) }
     ensures names { D.names dependents.new ≡ D.names dependents.old }
 {
@@ -156,7 +157,7 @@ fn define_checked_generic<N: Natives, D: Dependents>(
 }
 
 /// Makes a generic function, where the forms of the specializers of its methods gave these values.
-#[tactic(auto, using(crate::proofs::Defining::generic_not_made, crate::proofs::Defining::generic_is_made))]
+#[tactic(auto, using(crate::proofs::Defining::generic_not_made, crate::proofs::Defining::generic_is_made, crate::proofs::Concerned::effect_uses))]
 fn make_generic<D: Dependents>(
     alloc: Global,
     world: &mut World,
@@ -165,7 +166,10 @@ fn make_generic<D: Dependents>(
     values: &[Slot],
     steps: &mut u64,
 ) -> Result<Value, Stop>
-    ensures answers { AnswersNoting (generic_concerned definition values.now (seen world.old)) (generic_made definition values.now) (seen world.old) steps.old result (seen world.new) steps.new }
+    ensures answers { AnswersNoting (generic_concerned definition values.now (seen world.old))
+        (generic_made definition values.now) (seen world.old) steps.old result (seen world.new) steps.new }
+    ensures uses { UsesAfter (generic_concerned definition values.now (seen world.old)) (seen world.old)
+        (uses_of world.old) result (uses_of world.new) }
     ensures heard { Heard (D.told dependents.old) (seen world.old) (D.told dependents.new) (seen world.new) }
     ensures names { D.names dependents.new ≡ D.names dependents.old }
 {
@@ -186,7 +190,11 @@ fn take_effect<D: Dependents>(
     steps: &mut u64,
 ) -> Result<Value, Stop>
     requires { IsReserved effect world.old.generics }
-    ensures answers { AnswersNoting (concerned_by effect (seen world.old).generics) (takes_effect (concerned_by effect (seen world.old).generics) (value_of value) (with_effect effect (seen world.old))) (seen world.old) steps.old result (seen world.new) steps.new }
+    ensures answers { AnswersNoting (concerned_by effect (seen world.old).generics)
+        (takes_effect (concerned_by effect (seen world.old).generics) (value_of value)
+        (with_effect effect (seen world.old))) (seen world.old) steps.old result (seen world.new) steps.new }
+    ensures uses { UsesAfter (concerned_by effect (seen world.old).generics) (seen world.old) (uses_of world.old) result
+        (uses_of world.new) }
     ensures heard { Heard (D.told dependents.old) (seen world.old) (D.told dependents.new) (seen world.new) }
     ensures names { D.names dependents.new ≡ D.names dependents.old }
 {
@@ -208,7 +216,6 @@ fn take_effect<D: Dependents>(
 
 /// Defines a class, or defines it again, with the methods of its accessors. Some of its direct superclasses may not be defined
 /// yet.
-#[tactic(auto, using(crate::proofs::Defining::class_refused, crate::proofs::Defining::class_evaluated))]
 pub fn defclass<N: Natives, D: Dependents>(
     alloc: Global,
     world: &mut World,
@@ -218,8 +225,8 @@ pub fn defclass<N: Natives, D: Dependents>(
     definition: &ClassDefinition,
     steps: &mut u64,
 ) -> Result<Value, Stop>
-    ensures answers { AnswersBy (N.host natives.now) (define_class definition.now) world.old steps.old answers.old result world.new steps.new
-        answers.new }
+    ensures performs { Performs (N.host natives.now) (define_class definition.now) world.old steps.old answers.old.items
+        result world.new steps.new answers.new.items }
     ensures heard { Heard (D.told dependents.old) (seen world.old) (D.told dependents.new) (seen world.new) }
     ensures names { D.names dependents.new ≡ D.names dependents.old }
 {
@@ -241,7 +248,6 @@ pub fn defclass<N: Natives, D: Dependents>(
 }
 
 /// Evaluates the initforms of the new cells of a class, and then makes it.
-#[tactic(auto, using(crate::proofs::Defining::class_not_begun, crate::proofs::Defining::class_forms_stop, crate::proofs::Defining::class_forms_go_on))]
 fn define_checked_class<N: Natives, D: Dependents>(
     alloc: Global,
     world: &mut World,
@@ -252,8 +258,8 @@ fn define_checked_class<N: Natives, D: Dependents>(
     cells: &[NewCell],
     steps: &mut u64,
 ) -> Result<Value, Stop>
-    ensures answers { AnswersBy (N.host natives.now) (forms_evaluated (initforms cells.now) [] (class_made definition.now))
-        world.old steps.old answers.old result world.new steps.new answers.new }
+    ensures performs { Performs (N.host natives.now) (forms_evaluated (initforms cells.now) []
+        (class_made definition.now)) world.old steps.old answers.old.items result world.new steps.new answers.new.items }
     ensures heard { Heard (D.told dependents.old) (seen world.old) (D.told dependents.new) (seen world.new) }
     ensures names { D.names dependents.new ≡ D.names dependents.old }
 {
@@ -298,7 +304,10 @@ fn make_checked_class<D: Dependents>(
     values: Vec<Slot>,
     steps: &mut u64,
 ) -> Result<Value, Stop>
-    ensures answers { AnswersNoting (class_concerned definition.now values.items (seen world.old)) (class_made definition.now values.items) (seen world.old) steps.old result (seen world.new) steps.new }
+    ensures answers { AnswersNoting (class_concerned definition.now values.items (seen world.old))
+        (class_made definition.now values.items) (seen world.old) steps.old result (seen world.new) steps.new }
+    ensures uses { UsesAfter (class_concerned definition.now values.items (seen world.old)) (seen world.old)
+        (uses_of world.old) result (uses_of world.new) }
     ensures heard { Heard (D.told dependents.old) (seen world.old) (D.told dependents.new) (seen world.new) }
     ensures names { D.names dependents.new ≡ D.names dependents.old }
 {
@@ -325,7 +334,13 @@ fn make_prepared_class<D: Dependents>(
 ) -> Result<Value, Stop>
     requires allowed { class_refusal definition.now (length values.items) (seen world.old) ≡ None }
     requires reserved { IsReserved accessors world.old.generics }
-    ensures answers { AnswersNoting (class_concerned_by definition.now values.items accessors (seen world.old)) (takes_effect (class_concerned_by definition.now values.items accessors (seen world.old)) (class id.0) (with_class definition.now values.items (with_effect accessors (noting (class_notices definition.now (seen world.old)) (seen world.old))))) (seen world.old) steps.old result (seen world.new) steps.new }
+    ensures answers { AnswersNoting (class_concerned_by definition.now values.items accessors (seen world.old))
+        (takes_effect (class_concerned_by definition.now values.items accessors (seen world.old)) (class id.0)
+        (with_class definition.now values.items (with_effect accessors
+        (noting (class_notices definition.now (seen world.old)) (seen world.old))))) (seen world.old) steps.old result
+        (seen world.new) steps.new }
+    ensures uses { UsesAfter (class_concerned_by definition.now values.items accessors (seen world.old))
+        (seen world.old) (uses_of world.old) result (uses_of world.new) }
     ensures heard { Heard (D.told dependents.old) (seen world.old) (D.told dependents.new) (seen world.new) }
     ensures names { D.names dependents.new ≡ D.names dependents.old }
 {
@@ -358,8 +373,8 @@ pub fn remove_method<N: Natives, D: Dependents>(
     method: Form,
     steps: &mut u64,
 ) -> Result<Value, Stop>
-    ensures answers { AnswersBy (N.host natives.now) (remove_method function method) world.old steps.old answers.old result world.new steps.new
-        answers.new }
+    ensures performs { Performs (N.host natives.now) (remove_method function method) world.old steps.old
+        answers.old.items result world.new steps.new answers.new.items }
     ensures heard { Heard (D.told dependents.old) (seen world.old) (D.told dependents.new) (seen world.new) }
     ensures names { D.names dependents.new ≡ D.names dependents.old }
 {
@@ -386,7 +401,7 @@ pub(crate) fn both(
 }
 
 /// Takes a method out of a function, which are these two values.
-#[tactic(auto, using(crate::proofs::Defining::removal_not_begun_yet, crate::proofs::Defining::not_removable, crate::proofs::Defining::is_removed))]
+#[tactic(auto, using(crate::proofs::Defining::removal_not_begun_yet, crate::proofs::Defining::not_removable, crate::proofs::Defining::is_removed, crate::proofs::Concerned::removal_uses))]
 fn remove_evaluated<D: Dependents>(
     alloc: Global,
     world: &mut World,
@@ -394,7 +409,10 @@ fn remove_evaluated<D: Dependents>(
     values: &[Slot],
     steps: &mut u64,
 ) -> Result<Value, Stop>
-    ensures answers { AnswersNoting (values_concerned values.now (seen world.old)) (values_removed values.now) (seen world.old) steps.old result (seen world.new) steps.new }
+    ensures answers { AnswersNoting (values_concerned values.now (seen world.old)) (values_removed values.now)
+        (seen world.old) steps.old result (seen world.new) steps.new }
+    ensures uses { UsesAfter (values_concerned values.now (seen world.old)) (seen world.old) (uses_of world.old) result
+        (uses_of world.new) }
     ensures heard { Heard (D.told dependents.old) (seen world.old) (D.told dependents.new) (seen world.new) }
     ensures names { D.names dependents.new ≡ D.names dependents.old }
 {
@@ -420,7 +438,11 @@ fn take_out<D: Dependents>(
     function: Value,
     steps: &mut u64,
 ) -> Result<Value, Stop>
-    ensures answers { AnswersNoting (concerned_by_removal generic.0 method.0 (seen world.old).generics) (takes_effect (concerned_by_removal generic.0 method.0 (seen world.old).generics) (value_of function) (with_removed generic.0 method.0 (seen world.old))) (seen world.old) steps.old result (seen world.new) steps.new }
+    ensures answers { AnswersNoting (concerned_by_removal generic.0 method.0 (seen world.old).generics)
+        (takes_effect (concerned_by_removal generic.0 method.0 (seen world.old).generics) (value_of function)
+        (with_removed generic.0 method.0 (seen world.old))) (seen world.old) steps.old result (seen world.new) steps.new }
+    ensures uses { UsesAfter (concerned_by_removal generic.0 method.0 (seen world.old).generics) (seen world.old)
+        (uses_of world.old) result (uses_of world.new) }
     ensures heard { Heard (D.told dependents.old) (seen world.old) (D.told dependents.new) (seen world.new) }
     ensures names { D.names dependents.new ≡ D.names dependents.old }
 {

@@ -4,8 +4,9 @@ ghost use Rattle.lisp_data.specs.ValueView.{value_of};
 ghost use Rattle.lisp_prims.specs.Primitive.{truth};
 ghost use Rattle.clos_machine.specs.Machine.{Answers};
 ghost use Rattle.clos_machine.specs.clos_meaning.ClassFunctions.{symbol_in};
+ghost use Rattle.clos_machine.specs.clos_world.Uses.{uses_of};
 ghost use Rattle.clos_machine.specs.clos_world.World.{seen};
-ghost use Rattle.clos_eval.specs.Host.{AnswersBy};
+ghost use Rattle.clos_eval.specs.Evaluation.{Performs};
 ghost use Rattle.clos_definition_forms.specs.Dependents.{FindsNamed, FindsWatched, change_dependents, dependent_named, metaobject_in, takes_step, values_watched, watched, with_change};
 
 use crate::definition::{both, value_or_nil};
@@ -39,8 +40,8 @@ pub fn change_dependents<N: Natives>(
     dependent: Form,
     steps: &mut u64,
 ) -> Result<Value, Stop>
-    ensures { AnswersBy (N.host natives.now) (change_dependents change metaobject dependent) world.old steps.old answers.old result
-        world.new steps.new answers.new }
+    ensures { Performs (N.host natives.now) (change_dependents change metaobject dependent) world.old steps.old
+        answers.old.items result world.new steps.new answers.new.items }
 {
     let Ok(forms) = both(alloc, metaobject, dependent) else {
         return Err(Stop::Storage);
@@ -60,7 +61,9 @@ fn change_evaluated(
     values: &[Slot],
     steps: &mut u64,
 ) -> Result<Value, Stop>
-    ensures { Answers (values_watched change values.now) (seen world.old) steps.old result (seen world.new) steps.new }
+    ensures answers { Answers (values_watched change values.now) (seen world.old) steps.old result (seen world.new)
+        steps.new }
+    ensures kept { uses_of world.new ≡ uses_of world.old }
 {
     let Ok(metaobject) = value_or_nil(values, 0) else {
         return Err(Stop::Storage);
@@ -81,7 +84,8 @@ fn find_watched(
     metaobject: &Value,
     dependent: &Value,
 ) -> Result<(Metaobject, usize), Stop>
-    ensures { FindsWatched (watched (seen world.now).hearing.names (value_of metaobject.now) (value_of dependent.now)) result }
+    ensures { FindsWatched (watched (seen world.now).hearing.names (value_of metaobject.now) (value_of dependent.now))
+        result }
 {
     let Some(watched) = metaobject_in(metaobject) else {
         return Err(Stop::Refused(wrong_type(alloc, metaobject)?));
@@ -103,7 +107,8 @@ fn metaobject_in(value: &Value) -> Option<Metaobject>
 
 /// The place of the dependent that a symbol names.
 fn dependent_named(alloc: Global, world: &World, value: &Value) -> Result<usize, Stop>
-    ensures { FindsNamed (dependent_named (seen world.now).hearing.names (value_of value.now) (symbol_in (value_of value.now))) result }
+    ensures { FindsNamed (dependent_named (seen world.now).hearing.names (value_of value.now)
+        (symbol_in (value_of value.now))) result }
 {
     let Some(name) = symbol_in(value)? else {
         return Err(Stop::Refused(wrong_type(alloc, value)?));
@@ -126,8 +131,9 @@ fn change_at(
     place: usize,
     steps: &mut u64,
 ) -> Result<Value, Stop>
-    ensures { Answers (takes_step (with_change change metaobject place (seen world.old))) (seen world.old) steps.old result
-        (seen world.new) steps.new }
+    ensures answers { Answers (takes_step (with_change change metaobject place (seen world.old))) (seen world.old)
+        steps.old result (seen world.new) steps.new }
+    ensures kept { uses_of world.new ≡ uses_of world.old }
 {
     if *steps == 0 {
         return Err(Stop::Refused(plain(alloc, ConditionKind::StepLimit)));
@@ -149,6 +155,7 @@ fn change_watchers(
 ) -> Result<(), AllocError>
     ensures ok { OnOk result (seen world.new ≡ with_change change metaobject place (seen world.old)) }
     ensures err { OnErr result (seen world.new ≡ seen world.old) }
+    ensures kept { uses_of world.new ≡ uses_of world.old }
 {
     match change {
         Change::Add => world.hearing.watchers.add(alloc, metaobject, place),

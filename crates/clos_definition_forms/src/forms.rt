@@ -1,8 +1,8 @@
 //! Forms that a definition evaluates, one after another, before it takes effect: initforms of shared slots (HyperSpec 7.1.3), and the
 //! forms of eql specializers (HyperSpec 7.7 `defmethod`).
 ghost use Rattle.std.specs.Prelude.{◌≡◌, [], IfOk, IfErr};
-ghost use Rattle.clos_machine.specs.clos_world.World.{seen};
-ghost use Rattle.clos_definition_forms.specs.Forms.{EndsBefore, GoesOn, form_evaluated, forms_evaluated};
+ghost use Rattle.clos_eval.specs.Evaluation.{GoesOn};
+ghost use Rattle.clos_definition_forms.specs.Forms.{EndsBefore, form_evaluated, forms_evaluated};
 
 use clos_eval::{Natives, evaluate};
 use clos_forms::Form;
@@ -11,7 +11,7 @@ use clos_store::Slot;
 use std::alloc::Global;
 
 /// Evaluates these forms, one after another. Where there is none, there is no value.
-#[tactic(auto, using(crate::proofs::Evaluated::none_yet, crate::proofs::Evaluated::one_more, crate::proofs::Evaluated::one_stops, crate::proofs::Evaluated::between))]
+#[tactic(auto, using(crate::proofs::Evaluated::begins, crate::proofs::Evaluated::one_more, crate::proofs::Evaluated::one_stops, crate::proofs::Evaluated::between))]
 pub fn evaluate_forms<N: Natives>(
     alloc: Global,
     world: &mut World,
@@ -21,9 +21,9 @@ pub fn evaluate_forms<N: Natives>(
     steps: &mut u64,
 ) -> Result<Vec<Slot>, Stop>
     ensures values { IfOk result (λ r. GoesOn (N.host natives.now) (forms_evaluated forms.now [])
-        (seen world.old) steps.old answers.old.items r.items (seen world.new) steps.new answers.new.items) }
+        world.old steps.old answers.old.items r.items world.new steps.new answers.new.items) }
     ensures stop { IfErr result (λ e. EndsBefore (N.host natives.now) (forms_evaluated forms.now [])
-        (seen world.old) steps.old answers.old.items e (seen world.new) steps.new answers.new.items) }
+        world.old steps.old answers.old.items e world.new steps.new answers.new.items) }
 {
     let mut values = Vec::new(alloc);
     let mut left = forms;
@@ -46,9 +46,9 @@ fn evaluate_form<N: Natives>(
     steps: &mut u64,
 ) -> Result<Slot, Stop>
     ensures value { IfOk result (λ r. GoesOn (N.host natives.now) (form_evaluated form.now)
-        (seen world.old) steps.old answers.old.items r (seen world.new) steps.new answers.new.items) }
+        world.old steps.old answers.old.items r world.new steps.new answers.new.items) }
     ensures stop { IfErr result (λ e. EndsBefore (N.host natives.now) (form_evaluated form.now)
-        (seen world.old) steps.old answers.old.items e (seen world.new) steps.new answers.new.items) }
+        world.old steps.old answers.old.items e world.new steps.new answers.new.items) }
 {
     let Some(form) = form else {
         return Ok(Slot::new(None));

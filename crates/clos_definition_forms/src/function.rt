@@ -2,6 +2,7 @@
 ghost use Rattle.std.specs.Prelude.{◌≡◌, ◌+◌, IfOk, length, is_some};
 ghost use Rattle.lisp_data.specs.ValueView.{value_of};
 ghost use Rattle.clos_forms.specs.Quotation.{name_value};
+ghost use Rattle.clos_machine.specs.clos_world.Uses.{uses_of};
 ghost use Rattle.clos_machine.specs.clos_world.World.{seen};
 ghost use Rattle.clos_machine.specs.Machine.{Answers};
 ghost use Rattle.clos_definition_forms.specs.Function.{define_function, new_function_defined, new_setter_defined, has_room};
@@ -19,7 +20,10 @@ pub fn defun(
     definition: FunctionDefinition,
     steps: &mut u64,
 ) -> Result<Value, Stop>
-    ensures { Answers (define_function definition.name (record { lambda_list = definition.lambda_list; body = definition.body })) (seen world.old) steps.old result (seen world.new) steps.new }
+    ensures answers { Answers (define_function definition.name (record
+        { lambda_list = definition.lambda_list; body = definition.body })) (seen world.old) steps.old result
+        (seen world.new) steps.new }
+    ensures kept { uses_of world.new ≡ uses_of world.old }
 {
     let FunctionDefinition {
         name,
@@ -50,7 +54,9 @@ fn define_named(
     function: Function,
     steps: &mut u64,
 ) -> Result<Value, Stop>
-    ensures { Answers (new_function_defined name function) (seen world.old) steps.old result (seen world.new) steps.new }
+    ensures answers { Answers (new_function_defined name function) (seen world.old) steps.old result (seen world.new)
+        steps.new }
+    ensures kept { uses_of world.new ≡ uses_of world.old }
 {
     if world.generics.named_by_symbol(&name).is_some() {
         return Err(Stop::Refused(plain(alloc, ConditionKind::ProgramError)));
@@ -79,7 +85,9 @@ fn define_setter(
     function: Function,
     steps: &mut u64,
 ) -> Result<Value, Stop>
-    ensures { Answers (new_setter_defined name function) (seen world.old) steps.old result (seen world.new) steps.new }
+    ensures answers { Answers (new_setter_defined name function) (seen world.old) steps.old result (seen world.new)
+        steps.new }
+    ensures kept { uses_of world.new ≡ uses_of world.old }
 {
     if world.generics.named_by_setf(&name).is_some() {
         return Err(Stop::Refused(plain(alloc, ConditionKind::ProgramError)));

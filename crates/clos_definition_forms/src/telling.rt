@@ -1,5 +1,6 @@
 //! What dependents are told of a definition (AMOP chapter 6). They are asked for room before its effect, and told after it.
 ghost use Rattle.std.specs.Prelude.{◌≡◌, ◌<◌, ◌≤◌, ℕ, OnOk, drop, length};
+ghost use Rattle.clos_machine.specs.clos_world.Uses.{uses_of};
 ghost use Rattle.clos_machine.specs.clos_world.World.{seen};
 ghost use Rattle.clos_watch.specs.Watching.{heard_after, times_told};
 
@@ -17,6 +18,7 @@ pub fn prepare_to_tell<D: Dependents>(
     ensures ready { OnOk result ((p : ℕ) → p < length (D.names dependents.new)
         → times_told (seen world.old).hearing.watching notices.now p ≤ D.room dependents.new p) }
     ensures seen { seen world.new ≡ seen world.old }
+    ensures kept { uses_of world.new ≡ uses_of world.old }
     ensures generics { world.new.generics ≡ world.old.generics }
     ensures told { D.told dependents.new ≡ D.told dependents.old }
     ensures names { D.names dependents.new ≡ D.names dependents.old }
@@ -28,10 +30,10 @@ pub fn prepare_to_tell<D: Dependents>(
 /// Tells the changes from this one on, for which there is room.
 pub fn tell<D: Dependents>(world: &World, dependents: &mut D, from: usize)
     requires within { from ≤ length (seen world.now).hearing.notices }
-    requires ready { (p : ℕ) → p < length (D.names dependents.old)
-        → times_told (seen world.now).hearing.watching (drop from (seen world.now).hearing.notices) p ≤ D.room dependents.old p }
-    ensures told { D.told dependents.new ≡ heard_after (seen world.now).hearing.watching (drop from (seen world.now).hearing.notices)
-        (D.told dependents.old) }
+    requires ready { (p : ℕ) → p < length (D.names dependents.old) → times_told (seen world.now).hearing.watching
+        (drop from (seen world.now).hearing.notices) p ≤ D.room dependents.old p }
+    ensures told { D.told dependents.new ≡ heard_after (seen world.now).hearing.watching
+        (drop from (seen world.now).hearing.notices) (D.told dependents.old) }
     ensures names { D.names dependents.new ≡ D.names dependents.old }
 {
     let notices = since(world.hearing.notices.as_slice(), from);

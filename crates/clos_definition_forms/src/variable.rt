@@ -3,9 +3,10 @@ ghost use Rattle.std.specs.Prelude.{◌≡◌, ℕ, ◌+◌, ◌-◌, option_map
 ghost use Rattle.lisp_data.specs.Value.{Val};
 ghost use Rattle.lisp_data.specs.ValueView.{value_of};
 ghost use Rattle.clos_forms.specs.Quotation.{name_value};
+ghost use Rattle.clos_machine.specs.clos_world.Uses.{uses_of};
 ghost use Rattle.clos_machine.specs.clos_world.World.{State, seen};
 ghost use Rattle.clos_machine.specs.Machine.{Answers};
-ghost use Rattle.clos_eval.specs.Host.{AnswersBy};
+ghost use Rattle.clos_eval.specs.Evaluation.{Performs};
 ghost use Rattle.clos_machine.specs.clos_meaning.Meaning.{evaluation};
 ghost use Rattle.clos_machine.specs.clos_meaning.Outcome.{step_then};
 ghost use Rattle.clos_definition_forms.specs.Variable.{admits, variable_defined, keeps_value, declared, given_value, named, value_given};
@@ -27,8 +28,8 @@ pub fn define_variable<N: Natives>(
     definition: VariableDefinition,
     steps: &mut u64,
 ) -> Result<Value, Stop>
-    ensures { AnswersBy (N.host natives.now) (variable_defined definition) world.old steps.old answers.old result world.new steps.new
-        answers.new }
+    ensures { Performs (N.host natives.now) (variable_defined definition) world.old steps.old answers.old.items result
+        world.new steps.new answers.new.items }
 {
     let VariableDefinition {
         definer,
@@ -66,7 +67,8 @@ fn keeps_value(world: &World, definer: Definer, name: &Name) -> bool
 
 /// Nothing changes, but a step is taken.
 fn keep_value(alloc: Global, world: &mut World, name: &Name, steps: &mut u64) -> Result<Value, Stop>
-    ensures { Answers (step_then (named name.now)) (seen world.old) steps.old result (seen world.new) steps.new }
+    ensures answers { Answers (step_then (named name.now)) (seen world.old) steps.old result (seen world.new) steps.new }
+    ensures kept { uses_of world.new ≡ uses_of world.old }
 {
     let _ = world;
     if *steps == 0 {
@@ -79,7 +81,8 @@ fn keep_value(alloc: Global, world: &mut World, name: &Name, steps: &mut u64) ->
 
 /// A variable without a value, where there is none yet.
 fn declare(alloc: Global, world: &mut World, name: Name, steps: &mut u64) -> Result<Value, Stop>
-    ensures { Answers (step_then (declared name)) (seen world.old) steps.old result (seen world.new) steps.new }
+    ensures answers { Answers (step_then (declared name)) (seen world.old) steps.old result (seen world.new) steps.new }
+    ensures kept { uses_of world.new ≡ uses_of world.old }
 {
     if *steps == 0 {
         return Err(Stop::Refused(plain(alloc, ConditionKind::StepLimit)));
@@ -95,7 +98,6 @@ fn declare(alloc: Global, world: &mut World, name: Name, steps: &mut u64) -> Res
 }
 
 /// The variable gets the value of the form.
-#[tactic(auto, using(crate::proofs::Evaluations::stopped_before, crate::proofs::Evaluations::changed_after))]
 fn give_value<N: Natives>(
     alloc: Global,
     world: &mut World,
@@ -105,8 +107,8 @@ fn give_value<N: Natives>(
     form: Form,
     steps: &mut u64,
 ) -> Result<Value, Stop>
-    ensures { AnswersBy (N.host natives.now) (given_value name form) world.old steps.old answers.old result world.new steps.new
-        answers.new }
+    ensures { Performs (N.host natives.now) (given_value name form) world.old steps.old answers.old.items result
+        world.new steps.new answers.new.items }
 {
     let room = world.limits.depth.min(4_000);
     let below = room.saturating_sub(1);
@@ -124,7 +126,9 @@ fn set_value(
     value: Value,
     steps: &mut u64,
 ) -> Result<Value, Stop>
-    ensures { Answers (step_then (value_given name (value_of value))) (seen world.old) steps.old result (seen world.new) steps.new }
+    ensures answers { Answers (step_then (value_given name (value_of value))) (seen world.old) steps.old result
+        (seen world.new) steps.new }
+    ensures kept { uses_of world.new ≡ uses_of world.old }
 {
     if *steps == 0 {
         return Err(Stop::Refused(plain(alloc, ConditionKind::StepLimit)));

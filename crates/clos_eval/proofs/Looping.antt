@@ -1,19 +1,16 @@
 -- How the loop of the machine goes on from what comes next, and how it ends.
 use Rattle.std.specs.Prelude.{ℤ}
-use Rattle.std.proofs.Common.{inl}
-use Rattle.std.proofs.Common.{◌≡◌, ℕ, ◌+◌, List, [], ◌∷◌, Some, Result, Ok, Err, ap, append-nil, arith, refl, subst, sym, ◌∙◌}
+use Rattle.std.proofs.Common.{◌≡◌, ℕ, ◌+◌, List, [], ◌∷◌, ◌++◌, Some, Result, Ok, Err, ap, append-nil, arith, refl, subst, sym, ◌∙◌}
 use Rattle.lisp_data.specs.ValueView.{value_of}
 use Rattle.clos_forms.specs.Form.{Form}
 use Rattle.clos_machine.specs.clos_meaning.declared.arguments.Context.{Context}
 use Rattle.lisp_data.specs.declared.value.Value.{Value}
 use Rattle.clos_machine.specs.clos_world.Uses.{uses_of}
 use Rattle.clos_machine.specs.clos_world.World.{Local, State, seen, unbound}
-use Rattle.clos_machine.specs.clos_world.clos_cache.Uses.{Uses}
 use Rattle.clos_machine.specs.clos_world.declared.condition.Stop.{Stop}
-use Rattle.clos_machine.specs.clos_world.declared.condition.Stop.TheVariants.{Storage}
 use Rattle.clos_machine.specs.clos_world.declared.tables.World.{World}
-use Rattle.clos_machine.specs.Machine.{AnswersWith, Asks, Leads, Reached, TakesWith, Turns, at, denote, given_to, resume}
-use Rattle.clos_machine.specs.Uses.{KeepsBy, Made, Notes, TurnsBy}
+use Rattle.clos_machine.specs.Machine.{Asks, Leads, Reached, Turns, at, denote, given_to, resume}
+use Rattle.clos_machine.specs.Uses.{Made, Notes, TurnsBy}
 use Rattle.clos_machine.specs.clos_meaning.Contexts.{known}
 use Rattle.clos_machine.specs.clos_meaning.Host.{Host, answered_by}
 use Rattle.clos_machine.specs.clos_meaning.Meaning.{closed, evaluation}
@@ -26,7 +23,9 @@ use Rattle.clos_machine.specs.declared.machine.Machine.{Machine}
 use Rattle.clos_machine.proofs.Quiet.{doing_quiet}
 use Rattle.clos_machine.proofs.Runs.{ended, popped, reached_now, reached_on, turns_of_leads}
 use Rattle.clos_machine.proofs.Turns.{leads_same}
-use Rattle.clos_machine.proofs.Uses.{made_ended, made_finished, made_on, none_made, turns_by_ask, turns_by_note, turns_none}
+use Rattle.clos_machine.proofs.Uses.{all_notes, made_ended, made_finished, made_on, notes_then, same_answers, turns_by_ask, turns_by_note, turns_none}
+use Rattle.clos_machine.proofs.Answering.{answered_then}
+use Rattle.clos_eval.specs.Evaluation.{GoesOn, Performs, followed}
 
 -- What the handler of what comes next did: what the host's functions answered, and the uses that were made.
 pub record Did (host : Host) (m : Machine) (d : Doing) (world : World) (s : ℕ) (past : List ℤ) (came : Result Doing Stop) (n : Machine)
@@ -88,13 +87,13 @@ module _ (host : Host) (run : Run) (start : World) (s0 : ℕ) (past0 : List ℤ)
         past' (uses_of world') (subst (λ x. Notes host (denote m d) (seen world) s past (uses_of world) x n (seen world') s' past' (uses_of world')) h t.notes);
   }
 
-  pub stops : (stop : Stop) → came ≡ Err stop → AnswersWith host run (seen start) s0 past0 (Err stop) (unbound (seen world')) s' past'
-  stops stop h = ended host run (seen start) s0 past0 (denote m d) (seen world) s past stop n (seen world') s' past' (doing_quiet m d (seen world)) r.reached
-      (subst (λ x. Asks host (denote m d) (seen world) s past x n (seen world') s' past') h t.asks)
-
-  pub stops_keeping : (stop : Stop) → came ≡ Err stop → KeepsBy host run (seen start) s0 past0 (uses_of start) (Err stop) s' past' (uses_of world')
-  stops_keeping stop h = made_ended host run (seen start) s0 past0 (uses_of start) (denote m d) (seen world) s past (uses_of world) r.made stop n (seen world') s'
-      past' (uses_of world') (subst (λ x. Notes host (denote m d) (seen world) s past (uses_of world) x n (seen world') s' past' (uses_of world')) h t.notes)
+  pub stops : (stop : Stop) → came ≡ Err stop → Performs host run start s0 past0 (Err stop) world' s' past'
+  stops stop h = record {
+    answer = ended host run (seen start) s0 past0 (denote m d) (seen world) s past stop n (seen world') s' past' (doing_quiet m d (seen world)) r.reached
+        (subst (λ x. Asks host (denote m d) (seen world) s past x n (seen world') s' past') h t.asks);
+    uses = made_ended host run (seen start) s0 past0 (uses_of start) (denote m d) (seen world) s past (uses_of world) r.made stop n (seen world') s'
+        past' (uses_of world') (subst (λ x. Notes host (denote m d) (seen world) s past (uses_of world) x n (seen world') s' past' (uses_of world')) h t.notes);
+  }
 
 -- a form begins by itself
 pub begun : (host : Host) (f : Form) (room : ℕ) (ls : List Level) (env : Context) (locals : List Local) (world : World) (s : ℕ) (past : List ℤ)
@@ -132,23 +131,36 @@ module _ (host : Host) (run : Run) (start : World) (s0 : ℕ) (past0 : List ℤ)
       ∙ ap (λ ls. answered_by host (closed (resume ls m.context (Gave (value_of v) (at m (seen world)) t))) []) h
       ∙ ap (λ u. Some (Given (value_of v) u t)) q
 
-  pub finished : unbound (seen world) ≡ seen world → AnswersWith host run (seen start) s0 past0 (Ok v) (seen world) s past
-  finished q = (r.reached.used, r.reached.answers, ap (λ k. answered_by host (run (seen start) k) r.reached.used) r.reached.steps ∙ given_last q s)
+  nothing_noted : (t : ℕ) → notes_by host (denote m d (seen world) t) [] ≡ []
+  nothing_noted t =
+      ap (λ x. notes_by host (denote m x (seen world) t) []) e
+      ∙ ap (λ ls. notes_by host (closed (resume ls m.context (Gave (value_of v) (at m (seen world)) t))) []) h
 
-  pub finished_after : unbound (seen world) ≡ seen world → TakesWith host run (seen start) s0 past0 (Ok v) (seen world) s past
-  finished_after q = (r.reached.taken, r.reached.used, r.reached.steps, r.reached.answers, given_last q)
+  pub finished : unbound (seen world) ≡ seen world → Performs host run start s0 past0 (Ok v) world s past
+  finished q = record {
+    answer = (r.reached.used, r.reached.answers, ap (λ k. answered_by host (run (seen start) k) r.reached.used) r.reached.steps ∙ given_last q s);
+    uses = made_finished host run (seen start) s0 past0 (uses_of start) (denote m d) (seen world) s past (uses_of world) r.made v (nothing_noted s);
+  }
 
-  pub finished_keeping : KeepsBy host run (seen start) s0 past0 (uses_of start) (Ok v) s past (uses_of world)
-  finished_keeping =
-      made_finished host run (seen start) s0 past0 (uses_of start) (denote m d) (seen world) s past (uses_of world) r.made v
-      (ap (λ x. notes_by host (denote m x (seen world) s) []) e ∙ ap (λ ls. notes_by host (closed (resume ls m.context (Gave (value_of v) (at m (seen world)) s))) []) h)
+  -- by the same steps and answers
+  noted_last : (t : ℕ) → notes_by host (run (seen start) (r.reached.taken + t)) r.reached.used ≡ r.made.notes
+  noted_last t =
+      let steps : r.reached.taken ≡ r.made.taken = omega (arith, r.made.steps, r.reached.steps) in
+      let answers : r.reached.used ≡ r.made.answers = same_answers past0 r.reached.used r.made.answers (sym r.reached.answers ∙ r.made.heard) in
+      ap (λ k. notes_by host (run (seen start) (k + t)) r.reached.used) steps ∙ ap (notes_by host (run (seen start) (r.made.taken + t))) answers
+      ∙ all_notes host run (seen start) s0 past0 (uses_of start) (denote m d) (seen world) s past (uses_of world) r.made t
+      ∙ ap (λ l. r.made.notes ++ l) (nothing_noted t) ∙ append-nil r.made.notes
 
--- memory is refused at once
-pub nothing_kept : (host : Host) (run : Run) (w : State) (s : ℕ) (past : List ℤ) (u : Uses) → KeepsBy host run w s past u (Err Storage) s past u
-nothing_kept host run w s past u = (
-  [],
-  sym (append-nil past),
-  0,
-  omega arith,
-  none_made (notes_by host (run w 0) []) u u (record { kept = refl; built = inl refl }),
-)
+  pub finished_after : unbound (seen world) ≡ seen world → GoesOn host (followed run) start s0 past0 (value_of v) world s past
+  finished_after q = record {
+    taken = r.reached.taken;
+    answers = r.reached.used;
+    notes = r.made.notes;
+    steps = r.reached.steps;
+    heard = r.reached.answers;
+    kept = r.made.kept;
+    same = λ go t more. answered_then host (run (seen start) (r.reached.taken + t)) go r.reached.used more (value_of v) (seen world) t (given_last q t);
+    noted = λ go t more.
+        notes_then host (run (seen start) (r.reached.taken + t)) go r.reached.used more (value_of v) (seen world) t (given_last q t)
+        ∙ ap (λ l. l ++ notes_by host (go (value_of v) (seen world) t) more) (noted_last t);
+  }

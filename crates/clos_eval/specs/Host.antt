@@ -1,18 +1,10 @@
 -- The functions that a host stored, as the meaning of forms sees them.
-use Rattle.std.specs.Prelude.{ℕ, ℤ, List, Option, Result, option_map}
-use Rattle.std.specs.declared.alloc.Global.{Global}
-use Rattle.std.specs.declared.vec.Vec.{Vec}
+use Rattle.std.specs.Prelude.{ℕ, List, Option, option_map}
 use Rattle.lisp_data.specs.Name.{Name}
-use Rattle.lisp_data.specs.declared.value.Value.{Value}
 use Rattle.clos_native.specs.Relation.{permits}
 use Rattle.clos_native.specs.Stored.{native_named}
 use Rattle.clos_native.specs.declared.native.Native.{Native}
-use Rattle.clos_machine.specs.Machine.{AnswersWith}
 use Rattle.clos_machine.specs.clos_meaning.Host.{Host, HostFunction}
-use Rattle.clos_machine.specs.clos_meaning.Outcome.{Run}
-use Rattle.clos_machine.specs.clos_world.World.{seen}
-use Rattle.clos_machine.specs.clos_world.declared.condition.Stop.{Stop}
-use Rattle.clos_machine.specs.clos_world.declared.tables.World.{World}
 
 -- what is known of a function
 abbrev pub host_function : {I : Type 0} {F : I → Type 0} {g : _} → Native I F g → HostFunction
@@ -25,7 +17,3 @@ host_of fs name = option_map host_function (native_named fs name)
 -- how many integers the function of a name takes
 abbrev pub takes_in : Host → Name → Option ℕ
 takes_in host name = option_map (λ f. f.takes) (host name)
-
--- The run answers by these functions: their answers come after those that were there.
-abbrev pub AnswersBy : Host → Run → World → ℕ → Vec ℤ Global → Result Value Stop → World → ℕ → Vec ℤ Global → Type 0
-AnswersBy host run w s past r w' s' past' = AnswersWith host run (seen w) s past.items r (seen w') s' past'.items

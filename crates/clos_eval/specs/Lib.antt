@@ -1,3 +1,4 @@
 pub mod Host
+pub mod Evaluation
 pub mod Natives
 pub use Rattle.clos_native.specs as clos_native

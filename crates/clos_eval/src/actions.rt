@@ -36,7 +36,8 @@ fn apply(
     values: Values,
     steps: &mut u64,
 ) -> Result<Doing, Stop>
-    ensures turns { TurnsBy (here machine.old (λ ev env. called ev env name.now values)) (seen world.old) steps.old (uses_of world.old) result machine.new (seen world.new) steps.new (uses_of world.new) }
+    ensures turns { TurnsBy (here machine.old (λ ev env. called ev env name.now values)) (seen world.old) steps.old
+        (uses_of world.old) result machine.new (seen world.new) steps.new (uses_of world.new) }
     ensures small { Shrinks act_weight steps.old steps.new machine.old.levels result machine.new }
     ensures fewer { steps.new ≤ steps.old }
 {
@@ -68,7 +69,8 @@ fn set_place(
     values: Values,
     steps: &mut u64,
 ) -> Result<Doing, Stop>
-    ensures turns { TurnsBy (here machine.old (λ ev env. place_set ev env (access_of target.now) values)) (seen world.old) steps.old (uses_of world.old) result machine.new (seen world.new) steps.new (uses_of world.new) }
+    ensures turns { TurnsBy (here machine.old (λ ev env. place_set ev env (access_of target.now) values))
+        (seen world.old) steps.old (uses_of world.old) result machine.new (seen world.new) steps.new (uses_of world.new) }
     ensures small { Shrinks act_weight steps.old steps.new machine.old.levels result machine.new }
     ensures fewer { steps.new ≤ steps.old }
 {
@@ -88,7 +90,8 @@ fn read_place(
     values: Values,
     steps: &mut u64,
 ) -> Result<Doing, Stop>
-    ensures turns { TurnsBy (here machine.old (λ ev env. place_read ev env (access_of target.now) values)) (seen world.old) steps.old (uses_of world.old) result machine.new (seen world.new) steps.new (uses_of world.new) }
+    ensures turns { TurnsBy (here machine.old (λ ev env. place_read ev env (access_of target.now) values))
+        (seen world.old) steps.old (uses_of world.old) result machine.new (seen world.new) steps.new (uses_of world.new) }
     ensures small { Shrinks act_weight steps.old steps.new machine.old.levels result machine.new }
     ensures fewer { steps.new ≤ steps.old }
 {
@@ -117,7 +120,8 @@ pub fn perform(
     arguments: &Arguments,
     steps: &mut u64,
 ) -> Result<Doing, Stop>
-    ensures turns { TurnsBy (here machine.old (λ ev env. performed ev env method arguments.now)) (seen world.old) steps.old (uses_of world.old) result machine.new (seen world.new) steps.new (uses_of world.new) }
+    ensures turns { TurnsBy (here machine.old (λ ev env. performed ev env method arguments.now)) (seen world.old)
+        steps.old (uses_of world.old) result machine.new (seen world.new) steps.new (uses_of world.new) }
     ensures small { Shrinks perform_weight steps.old steps.new machine.old.levels result machine.new }
     ensures fewer { steps.new ≤ steps.old }
 {
@@ -144,7 +148,8 @@ fn visit(
     visit: Visit,
     steps: &mut u64,
 ) -> Result<Doing, Stop>
-    ensures turns { TurnsBy (here machine.old (λ ev env. visited ev env id.0 visit)) (seen world.old) steps.old (uses_of world.old) result machine.new (seen world.new) steps.new (uses_of world.new) }
+    ensures turns { TurnsBy (here machine.old (λ ev env. visited ev env id.0 visit)) (seen world.old) steps.old
+        (uses_of world.old) result machine.new (seen world.new) steps.new (uses_of world.new) }
     ensures small { Shrinks perform_weight steps.old steps.new machine.old.levels result machine.new }
     ensures fewer { steps.new ≤ steps.old }
 {
@@ -170,7 +175,8 @@ pub fn act(
     values: Values,
     steps: &mut u64,
 ) -> Result<Doing, Stop>
-    ensures turns { TurnsBy (here machine.old (λ ev env. acted ev env action values)) (seen world.old) steps.old (uses_of world.old) result machine.new (seen world.new) steps.new (uses_of world.new) }
+    ensures turns { TurnsBy (here machine.old (λ ev env. acted ev env action values)) (seen world.old) steps.old
+        (uses_of world.old) result machine.new (seen world.new) steps.new (uses_of world.new) }
     ensures small { Shrinks (action_weight action) steps.old steps.new machine.old.levels result machine.new }
     ensures fewer { steps.new ≤ steps.old }
 {

@@ -1,10 +1,8 @@
 //! Evaluation: the machine takes one turn after another, up to the value of the whole.
-ghost use Rattle.clos_machine.specs.clos_world.Uses.{uses_of};
-ghost use Rattle.clos_machine.specs.clos_world.World.{seen};
-ghost use Rattle.clos_machine.specs.Machine.{TakesWith};
-ghost use Rattle.clos_machine.specs.Uses.{KeepsBy};
+ghost use Rattle.std.specs.Prelude.{IfOk};
+ghost use Rattle.lisp_data.specs.ValueView.{value_of};
 ghost use Rattle.clos_machine.specs.clos_meaning.Meaning.{evaluation};
-ghost use Rattle.clos_eval.specs.Host.{AnswersBy};
+ghost use Rattle.clos_eval.specs.Evaluation.{GoesOn, Performs, followed};
 
 use crate::actions::{act, perform};
 use crate::forms::begin_form;
@@ -33,12 +31,10 @@ pub fn evaluate<N: Natives>(
     room: u64,
     steps: &mut u64,
 ) -> Result<Value, Stop>
-    ensures answer { AnswersBy (N.host natives.now) (evaluation room form) world.old steps.old answers.old result world.new steps.new
-        answers.new }
-    ensures taken { TakesWith (N.host natives.now) (evaluation room form)
-        (seen world.old) steps.old answers.old.items result (seen world.new) steps.new answers.new.items }
-    ensures uses { KeepsBy (N.host natives.now) (evaluation room form) (seen world.old) steps.old answers.old.items (uses_of world.old) result
-        steps.new answers.new.items (uses_of world.new) }
+    ensures performs { Performs (N.host natives.now) (evaluation room form) world.old steps.old answers.old.items result
+        world.new steps.new answers.new.items }
+    ensures taken { IfOk result (λ v. GoesOn (N.host natives.now) (followed (evaluation room form)) world.old steps.old
+        answers.old.items (value_of v) world.new steps.new answers.new.items) }
 {
     let Ok(arguments) = Arguments::new(alloc, Values::new(alloc)) else {
         return Err(Stop::Storage);

@@ -47,7 +47,8 @@ fn operate(
     parts: &Forms,
 ) -> Result<Doing, Stop>
     requires { operator_of operator.now ≡ operator_in form.now }
-    ensures leads { Leads (here machine.old (λ ev env. operated ev env (operator_of operator.now) parts.now)) (seen world.now) result machine.new }
+    ensures leads { Leads (here machine.old (λ ev env. operated ev env (operator_of operator.now) parts.now))
+        (seen world.now) result machine.new }
     ensures small { Grows form_growth machine.old.levels result machine.new }
 {
     match operator {
@@ -99,7 +100,8 @@ pub fn begin_form(
     form: Form,
     steps: &mut u64,
 ) -> Result<Doing, Stop>
-    ensures turns { Turns (denote machine.old (Start form)) (seen world.now) steps.old result machine.new (seen world.now) steps.new }
+    ensures turns { Turns (denote machine.old (Start form)) (seen world.now) steps.old result machine.new
+        (seen world.now) steps.new }
     ensures small { Grows form_growth machine.old.levels result machine.new }
     ensures fewer { OnOk result (steps.new < steps.old) }
 {

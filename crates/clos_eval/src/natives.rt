@@ -28,10 +28,10 @@ pub fn call_native<N: Natives>(
     values: &Values,
     steps: &mut u64,
 ) -> Result<Doing, Stop>
-    ensures asks { (w : State) → Asks (N.host natives.now) (denote machine.now (doing.Native values.now)) w steps.old answers.old.items
-        result machine.now w steps.new answers.new.items }
-    ensures notes { (w : State) (u : Uses) → Notes (N.host natives.now) (denote machine.now (doing.Native values.now)) w steps.old answers.old.items u
-        result machine.now w steps.new answers.new.items u }
+    ensures asks { (w : State) → Asks (N.host natives.now) (denote machine.now (doing.Native values.now)) w steps.old
+        answers.old.items result machine.now w steps.new answers.new.items }
+    ensures notes { (w : State) (u : Uses) → Notes (N.host natives.now) (denote machine.now (doing.Native values.now)) w
+        steps.old answers.old.items u result machine.now w steps.new answers.new.items u }
     ensures small { Shrinks native_weight steps.old steps.new machine.now.levels result machine.now }
 {
     let _ = machine;
@@ -50,8 +50,8 @@ fn answer_to<N: Natives>(
     values: &[Value],
     steps: &mut u64,
 ) -> Result<i64, Stop>
-    ensures { Calls (N.host natives.now) (native_called (map value_of values.now)) steps.old answers.old.items result steps.new
-        answers.new.items }
+    ensures { Calls (N.host natives.now) (native_called (map value_of values.now)) steps.old answers.old.items result
+        steps.new answers.new.items }
 {
     match values.split_first() {
         None => Err(Stop::Refused(plain(alloc, ConditionKind::ProgramError))),
@@ -92,8 +92,8 @@ fn answer_of<N: Natives>(
     arguments: &[Value],
     steps: &mut u64,
 ) -> Result<i64, Stop>
-    ensures { Calls (N.host natives.now) (native_sought name.now (map value_of arguments.now)) steps.old answers.old.items result steps.new
-        answers.new.items }
+    ensures { Calls (N.host natives.now) (native_sought name.now (map value_of arguments.now)) steps.old
+        answers.old.items result steps.new answers.new.items }
 {
     match natives.takes(name) {
         None => {
@@ -116,8 +116,8 @@ fn answer_to_values<N: Natives>(
     steps: &mut u64,
 ) -> Result<i64, Stop>
     requires { takes_in (N.host natives.now) name.now ≡ Some count }
-    ensures { Calls (N.host natives.now) (native_found name.now (map value_of arguments.now) (Some count)) steps.old answers.old.items
-        result steps.new answers.new.items }
+    ensures { Calls (N.host natives.now) (native_found name.now (map value_of arguments.now) (Some count)) steps.old
+        answers.old.items result steps.new answers.new.items }
 {
     if arguments.len() != count {
         return Err(Stop::Refused(plain(alloc, ConditionKind::ProgramError)));
@@ -158,8 +158,8 @@ fn ask<N: Natives>(
     steps: &mut u64,
 ) -> Result<i64, Stop>
     requires { takes_in (N.host natives.now) name.now ≡ Some (length integers.now) }
-    ensures { Calls (N.host natives.now) (integers_given name.now (Ok integers.now)) steps.old answers.old.items result steps.new
-        answers.new.items }
+    ensures { Calls (N.host natives.now) (integers_given name.now (Ok integers.now)) steps.old answers.old.items result
+        steps.new answers.new.items }
 {
     if *steps == 0 {
         return Err(Stop::Refused(plain(alloc, ConditionKind::StepLimit)));

@@ -55,7 +55,7 @@ use Rattle.clos_session.specs.clos_definition_forms.declared.dependents.Change.T
 use Rattle.clos_session.specs.clos_definition_forms.lisp_prims.Primitive.{truth}
 use Rattle.clos_session.specs.clos_machine.clos_meaning.Meaning.{evaluation}
 use Rattle.clos_session.specs.clos_machine.clos_meaning.Host.{Host, answered_by, may_answer}
-use Rattle.clos_session.specs.clos_machine.clos_meaning.Outcome.{Asked, End, Gave, Looked, Noted, Out, Run, Stopped, changed, step_then, stopped, then_do}
+use Rattle.clos_session.specs.clos_machine.clos_meaning.Outcome.{Asked, End, Gave, Looked, Noted, Out, Run, Stopped, step_then, stopped, then_do, took_effect}
 use Rattle.clos_session.specs.clos_world.clos_cache.Cache as of_calls
 use Rattle.clos_meaning.proofs.Kept.{SameAfter, evaluation_kept}
 use Rattle.clos_session.specs.Step.{checked, performed, room_of, step}
@@ -150,8 +150,8 @@ pub same_sound : (w u : State) → Same w u → IsSound w.generics → IsSound u
 same_sound w u h s = subst IsSound (sym h.1) s
 
 kept_sound : (w : State) (o : Out) → SameAfter w o → IsSound w.generics → SoundAfter o
-kept_sound w (Gave v u k) h s = same_sound w u h s
-kept_sound w (Stopped c u k) h s = same_sound w u h s
+kept_sound w (Gave v u k) h s = same_sound w u h.0 s
+kept_sound w (Stopped c u k) h s = same_sound w u h.0 s
 kept_sound w (Noted n o) h s = kept_sound w o h s
 kept_sound w (Looked name more) h s = λ n. kept_sound w (more n) (h n) s
 kept_sound w (Asked name xs more) h s = λ x. kept_sound w (more x) (h x) s
@@ -162,8 +162,8 @@ Keeps go = (u : State) (j : ℕ) → IsSound u.generics → SoundAfter (go u j)
 
 then_sound : (w : State) (o : Out) (go : Val → Run) → SameAfter w o → IsSound w.generics → ((v : Val) → Keeps (go v))
     → SoundAfter (then_do o go)
-then_sound w (Gave v u k) go h s g = g v u k (same_sound w u h s)
-then_sound w (Stopped c u k) go h s g = same_sound w u h s
+then_sound w (Gave v u k) go h s g = g v u k (same_sound w u h.0 s)
+then_sound w (Stopped c u k) go h s g = same_sound w u h.0 s
 then_sound w (Noted n o) go h s g = then_sound w o go h s g
 then_sound w (Looked name more) go h s g = λ n. then_sound w (more n) go (h n) s g
 then_sound w (Asked name xs more) go h s g = λ x. then_sound w (more x) go (h x) s g
@@ -195,7 +195,7 @@ unless_sound None go w k s h = h refl
 unless_sound (Some c) go w k s h = s
 
 effect_sound : (cs : List of_calls.Change) (v : Val) (u w : State) (k : ℕ) → IsSound w.generics → IsSound u.generics → SoundAfter (takes_effect cs v u w k)
-effect_sound cs v u w k s h = step_sound (λ x j. Noted (changed x cs) (Gave v u j)) (λ x j i. h) w k s
+effect_sound cs v u w k s h = step_sound (λ x j. Noted (took_effect x cs) (Gave v u j)) (λ x j i. h) w k s
 
 method_keeps : (name : FunctionName) (m : MethodDefinition) → IsSpecialized m → Keeps (define_method name m)
 method_keeps name m h w k s =

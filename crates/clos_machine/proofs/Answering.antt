@@ -21,7 +21,7 @@ goes_to host (Some (Given v w s)) go more = answered_by host (go v w s) more
 goes_to host (Some (Signalled c w s)) go more = None
 
 -- an answer that may be given
-permitted : {A : Type 0} (b : Bool) (o : Option A) (a : A) → (if b then o else None) ≡ Some a → (b ≡ true) × (o ≡ Some a)
+pub permitted : {A : Type 0} (b : Bool) (o : Option A) (a : A) → (if b then o else None) ≡ Some a → (b ≡ true) × (o ≡ Some a)
 permitted true o a h = (refl, h)
 permitted false o a h = absurd (cc h)
 

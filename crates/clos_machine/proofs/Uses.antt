@@ -1,7 +1,7 @@
 -- Uses through the levels of the machine, and through its turns.
-use Rattle.std.proofs.Common.{◌≡◌, ℕ, suc, ◌+◌, Result, Ok, Err, List, [], ◌∷◌, ◌++◌, refl, ap, sym, subst, ◌∙◌, append-nil, append_assoc, add-zero, add_assoc}
+use Rattle.std.proofs.Common.{◌≡◌, ℕ, suc, ◌+◌, Result, Ok, Err, List, [], ◌∷◌, ◌++◌, refl, ap, arith, sym, subst, ◌∙◌, append-nil, append_assoc, add-zero, add_assoc}
 use Rattle.std.proofs.Common.{inl}
-use Rattle.std.specs.Prelude.{ℤ, take}
+use Rattle.std.specs.Prelude.{ℤ, Option, Some, None, drop, option_map, take}
 use Rattle.lisp_data.specs.Value.{Val}
 use Rattle.lisp_data.specs.declared.value.Value.{Value}
 use Rattle.clos_meaning.specs.clos_world.clos_cache.Uses.{Uses}
@@ -9,24 +9,27 @@ use Rattle.clos_meaning.specs.clos_world.Uses.{AtMostOneMore}
 use Rattle.clos_meaning.specs.clos_world.Dispatch.{required_by}
 use Rattle.clos_meaning.specs.clos_world.Keys.{argument_at, arguments_from, key_of}
 use Rattle.clos_meaning.specs.clos_world.World.{Local, State, bound_as}
+use Rattle.clos_meaning.specs.clos_world.declared.condition.Condition.{Condition}
 use Rattle.clos_meaning.specs.clos_world.declared.condition.Stop.{Stop}
 use Rattle.clos_meaning.specs.clos_world.declared.condition.Stop.TheVariants.{Refused, Storage}
-use Rattle.clos_meaning.specs.Host.{Host, answered_by}
+use Rattle.clos_meaning.specs.Host.{Host, answered_by, may_answer}
 use Rattle.clos_meaning.specs.Meaning.{closed}
-use Rattle.clos_meaning.specs.Outcome.{Note, Noted, Out, Run}
-use Rattle.clos_meaning.specs.Uses.{after_notes, most, notes_by, noting, with_note}
+use Rattle.clos_meaning.specs.Outcome.{Asked, End, Gave, Given, Looked, Note, Noted, Out, Run, Signalled, Stopped, then_do}
+use Rattle.clos_meaning.specs.Uses.{after_notes, most, notes_by, noted, with_note}
 use Rattle.clos_meaning.specs.declared.arguments.Context.{Context}
 use Rattle.clos_machine.specs.Machine.{Asks, Leads, Turns, at, denote, inside, resume}
 use Rattle.clos_machine.specs.Uses.{KeepsBy, KeptAfter, LeadsBy, Made, MadeSome, Notes, TurnsBy}
 use Rattle.clos_machine.specs.declared.machine.Doing.{Doing}
 use Rattle.clos_machine.specs.declared.machine.Level.{Level}
 use Rattle.clos_machine.specs.declared.machine.Machine.{Machine}
+use Rattle.clos_machine.proofs.Answering.{permitted}
 use Rattle.clos_machine.proofs.Runs.{turns_of_leads}
 use Rattle.clos_machine.proofs.Turns.{noted_closed}
 
 -- ---- what is kept
 
-nothing_more : (u u' : Uses) → u' ≡ u → AtMostOneMore most u u'
+-- nothing more is kept than was
+pub nothing_more : (u u' : Uses) → u' ≡ u → AtMostOneMore most u u'
 nothing_more u u' e = record { kept = ap (λ x. x.kept) e; built = inl (ap (λ x. x.built) e) }
 
 -- where no use was made
@@ -55,14 +58,14 @@ none_made notes u u' h = record { made = []; left = notes; first = refl; kept = 
 -- ---- what is noted first
 
 -- .. is noted first through all levels
-pub noting_through : (ls : List Level) (env : Context) (notes : List Note) (o : Out)
-    → closed (resume ls env (noting notes o)) ≡ noting notes (closed (resume ls env o))
-noting_through ls env [] o = refl
-noting_through ls env (n ∷ notes) o = noted_closed ls env n (noting notes o) ∙ ap (Noted n) (noting_through ls env notes o)
+pub noted_through : (ls : List Level) (env : Context) (notes : List Note) (o : Out)
+    → closed (resume ls env (noted notes o)) ≡ noted notes (closed (resume ls env o))
+noted_through ls env [] o = refl
+noted_through ls env (n ∷ notes) o = noted_closed ls env n (noted notes o) ∙ ap (Noted n) (noted_through ls env notes o)
 
-pub noting_more : (xs ys : List Note) (o : Out) → noting (xs ++ ys) o ≡ noting xs (noting ys o)
-noting_more [] ys o = refl
-noting_more (x ∷ xs) ys o = ap (Noted x) (noting_more xs ys o)
+pub noted_more : (xs ys : List Note) (o : Out) → noted (xs ++ ys) o ≡ noted xs (noted ys o)
+noted_more [] ys o = refl
+noted_more (x ∷ xs) ys o = ap (Noted x) (noted_more xs ys o)
 
 -- ---- variables are no part of a key
 
@@ -92,26 +95,26 @@ leads_refused_use run w u u' m h = record { notes = []; rest = run; first = λ t
 
 -- the run notes these first
 pub leads_noting : (m0 : Machine) (run rest : Run) (notes : List Note) (w : State) (u u' : Uses) (r : Result Doing Stop) (m : Machine)
-    → ((t : ℕ) → run (at m0 w) t ≡ noting notes (rest (at m0 w) t)) → Leads (inside m0 rest) w r m → KeptAfter notes r u u'
+    → ((t : ℕ) → run (at m0 w) t ≡ noted notes (rest (at m0 w) t)) → Leads (inside m0 rest) w r m → KeptAfter notes r u u'
     → LeadsBy (inside m0 run) w u r m u'
 leads_noting m0 run rest notes w u u' r m e h k = record {
   notes = notes;
   rest = inside m0 rest;
-  first = λ t. ap (λ o. closed (resume m0.levels m0.context o)) (e t) ∙ noting_through m0.levels m0.context notes (rest (at m0 w) t);
+  first = λ t. ap (λ o. closed (resume m0.levels m0.context o)) (e t) ∙ noted_through m0.levels m0.context notes (rest (at m0 w) t);
   leads = h;
   kept = k;
 }
 
 -- after uses that were made
 leads_more : (m0 : Machine) (run rest : Run) (notes : List Note) (w : State) (u u' : Uses) (r : Result Doing Stop) (m : Machine)
-    → ((t : ℕ) → run (at m0 w) t ≡ noting notes (rest (at m0 w) t))
+    → ((t : ℕ) → run (at m0 w) t ≡ noted notes (rest (at m0 w) t))
     → (h : LeadsBy (inside m0 rest) w (after_notes notes u) r m u')
     → KeptAfter (notes ++ h.notes) r u u' → LeadsBy (inside m0 run) w u r m u'
 leads_more m0 run rest notes w u u' r m e h k = record {
   notes = notes ++ h.notes;
   rest = h.rest;
-  first = λ t. ap (λ o. closed (resume m0.levels m0.context o)) (e t) ∙ noting_through m0.levels m0.context notes (rest (at m0 w) t)
-      ∙ ap (noting notes) (h.first t) ∙ sym (noting_more notes h.notes (h.rest w t));
+  first = λ t. ap (λ o. closed (resume m0.levels m0.context o)) (e t) ∙ noted_through m0.levels m0.context notes (rest (at m0 w) t)
+      ∙ ap (noted notes) (h.first t) ∙ sym (noted_more notes h.notes (h.rest w t));
   leads = h.leads;
   kept = k;
 }
@@ -123,7 +126,7 @@ kept_more (n ∷ notes) others r u u' h = kept_used n (notes ++ others) r u u' (
 
 -- the run notes these first, and they were made
 pub leads_used : (m0 : Machine) (run rest : Run) (notes : List Note) (w v : State) (u mid u' : Uses) (r : Result Doing Stop) (m : Machine)
-    → ((t : ℕ) → run (at m0 w) t ≡ noting notes (rest (at m0 w) t)) → v ≡ w → mid ≡ after_notes notes u
+    → ((t : ℕ) → run (at m0 w) t ≡ noted notes (rest (at m0 w) t)) → v ≡ w → mid ≡ after_notes notes u
     → LeadsBy (inside m0 rest) v mid r m u' → LeadsBy (inside m0 run) w u r m u'
 leads_used m0 run rest notes w v u mid u' r m e q k h =
     let at_w : LeadsBy (inside m0 rest) w mid r m u' = subst (λ x. LeadsBy (inside m0 rest) x mid r m u') q h in
@@ -160,13 +163,13 @@ turns_by run w w' s u u' r m e h = record {
 
 -- ---- what a host's functions answer, and the uses, where some are noted first
 
-pub answered_noting : (host : Host) (notes : List Note) (o : Out) (xs : List ℤ) → answered_by host (noting notes o) xs ≡ answered_by host o xs
-answered_noting host [] o xs = refl
-answered_noting host (n ∷ notes) o xs = answered_noting host notes o xs
+pub answered_noted : (host : Host) (notes : List Note) (o : Out) (xs : List ℤ) → answered_by host (noted notes o) xs ≡ answered_by host o xs
+answered_noted host [] o xs = refl
+answered_noted host (n ∷ notes) o xs = answered_noted host notes o xs
 
-pub notes_noting : (host : Host) (notes : List Note) (o : Out) (xs : List ℤ) → notes_by host (noting notes o) xs ≡ notes ++ notes_by host o xs
-notes_noting host [] o xs = refl
-notes_noting host (n ∷ notes) o xs = ap (λ l. n ∷ l) (notes_noting host notes o xs)
+pub notes_noted : (host : Host) (notes : List Note) (o : Out) (xs : List ℤ) → notes_by host (noted notes o) xs ≡ notes ++ notes_by host o xs
+notes_noted host [] o xs = refl
+notes_noted host (n ∷ notes) o xs = ap (λ l. n ∷ l) (notes_noted host notes o xs)
 
 -- what such a turn comes to, by what the host's functions answer
 pub turns_by_ask : (host : Host) (run : Run) (w : State) (s : ℕ) (past : List ℤ) (u u' : Uses) (r : Result Doing Stop) (m : Machine) (w' : State)
@@ -176,20 +179,21 @@ turns_by_ask host run w s past u u' (Ok d) m w' s' h = (
   [],
   h.turns.1,
   sym (append-nil past),
-  λ t more. ap (λ o. answered_by host o more) (h.turns.2 t) ∙ sym (answered_noting host h.notes (h.rest w (h.turns.0 + t)) more)
+  λ t more. ap (λ o. answered_by host o more) (h.turns.2 t) ∙ sym (answered_noted host h.notes (h.rest w (h.turns.0 + t)) more)
       ∙ ap (λ o. answered_by host o more) (sym (h.first (h.turns.0 + t))),
 )
 turns_by_ask host run w s past u u' (Err (Refused c)) m w' s' h = (
   refl,
-  ap (λ o. answered_by host o []) (h.first s) ∙ answered_noting host h.notes (h.rest w s) [] ∙ ap (λ o. answered_by host o []) h.turns,
+  ap (λ o. answered_by host o []) (h.first s) ∙ answered_noted host h.notes (h.rest w s) [] ∙ ap (λ o. answered_by host o []) h.turns,
 )
 turns_by_ask host run w s past u u' (Err Storage) m w' s' h = (refl, h.turns.0, h.turns.1)
 
-notes_first : (host : Host) (run : Run) (w : State) (t : ℕ) (notes : List Note) (rest : Run) (more : List ℤ) → run w t ≡ noting notes (rest w t)
+notes_first : (host : Host) (run : Run) (w : State) (t : ℕ) (notes : List Note) (rest : Run) (more : List ℤ) → run w t ≡ noted notes (rest w t)
     → notes_by host (run w t) more ≡ notes ++ notes_by host (rest w t) more
-notes_first host run w t notes rest more e = ap (λ o. notes_by host o more) e ∙ notes_noting host notes (rest w t) more
+notes_first host run w t notes rest more e = ap (λ o. notes_by host o more) e ∙ notes_noted host notes (rest w t) more
 
-made_of_more : (notes others : List Note) (u u' : Uses) → MadeSome notes u u' → MadeSome (notes ++ others) u u'
+-- where the run goes on after these uses
+pub made_of_more : (notes others : List Note) (u u' : Uses) → MadeSome notes u u' → MadeSome (notes ++ others) u u'
 made_of_more notes others u u' h = record {
   made = h.made;
   left = h.left ++ others;
@@ -224,14 +228,14 @@ turns_by_note host run w s past u u' (Err Storage) m w' s' h = (
 
 -- ---- a run
 
-after_more : (notes others : List Note) (u : Uses) → after_notes (notes ++ others) u ≡ after_notes others (after_notes notes u)
+pub after_more : (notes others : List Note) (u : Uses) → after_notes (notes ++ others) u ≡ after_notes others (after_notes notes u)
 after_more [] others u = refl
 after_more (n ∷ notes) others u = after_more notes others (with_note n u)
 
 module _ (host : Host) (run : Run) (w0 : State) (s0 : ℕ) (past0 : List ℤ) (u0 : Uses) (den : Run) (w : State) (s : ℕ) (past : List ℤ) (u : Uses)
     (r : Made host run w0 s0 past0 u0 den w s past u) where
   -- the uses of the run are those that were made and those of what is left, where no more answers come
-  all_notes : (t : ℕ) → notes_by host (run w0 (r.taken + t)) r.answers ≡ r.notes ++ notes_by host (den w t) []
+  pub all_notes : (t : ℕ) → notes_by host (run w0 (r.taken + t)) r.answers ≡ r.notes ++ notes_by host (den w t) []
   all_notes t = ap (λ xs. notes_by host (run w0 (r.taken + t)) xs) (sym (append-nil r.answers)) ∙ r.same t []
 
   all_after : (t : ℕ) → after_notes (notes_by host (den w t) []) u ≡ after_notes (notes_by host (run w0 (r.taken + t)) r.answers) u0
@@ -281,3 +285,63 @@ module _ (host : Host) (run : Run) (w0 : State) (s0 : ℕ) (past0 : List ℤ) (u
     r.heard,
     sym (ap (λ l. after_notes l u) e) ∙ all_after s ∙ ap (λ k. after_notes (notes_by host (run w0 k) r.answers) u0) (sym r.steps),
   )
+
+-- memory is refused at once
+pub nothing_kept : (host : Host) (run : Run) (w : State) (s : ℕ) (past : List ℤ) (u : Uses) → KeepsBy host run w s past u (Err Storage) s past u
+nothing_kept host run w s past u = ([], sym (append-nil past), 0, omega arith, none_made (notes_by host (run w 0) []) u u (nothing_more u u refl))
+
+-- ---- uses of what follows
+
+abbrev notes_after : Host → Option End → (Val → Run) → List ℤ → List Note
+notes_after host None go more = []
+notes_after host (Some (Given v w s)) go more = notes_by host (go v w s) more
+notes_after host (Some (Signalled c w s)) go more = []
+
+-- where the run gives a value, those of what follows come after its own
+pub notes_then : (host : Host) (o : Out) (go : Val → Run) (used more : List ℤ) (v : Val) (w : State) (s : ℕ)
+    → answered_by host o used ≡ Some (Given v w s)
+    → notes_by host (then_do o go) (used ++ more) ≡ notes_by host o used ++ notes_by host (go v w s) more
+notes_then host (Gave x y k) go [] more v w s h = ap (λ e. notes_after host e go more) h
+notes_then host (Gave x y k) go (z ∷ zs) more v w s h = absurd (cc h)
+notes_then host (Stopped c y k) go [] more v w s h = absurd (cc h)
+notes_then host (Stopped c y k) go (z ∷ zs) more v w s h = absurd (cc h)
+notes_then host (Noted n o) go used more v w s h = ap (λ l. n ∷ l) (notes_then host o go used more v w s h)
+notes_then host (Looked name f) go used more v w s h = notes_then host (f (option_map (λ g. g.takes) (host name))) go used more v w s h
+notes_then host (Asked name ys f) go [] more v w s h = absurd (cc h)
+notes_then host (Asked name ys f) go (z ∷ zs) more v w s h =
+    notes_then host (f z) go zs more v w s (permitted (may_answer (host name) ys z) (answered_by host (f z) zs) (Given v w s) h).1
+
+-- where it stops, there are no more
+pub notes_stopped : (host : Host) (o : Out) (go : Val → Run) (used : List ℤ) (c : Condition) (w : State) (s : ℕ)
+    → answered_by host o used ≡ Some (Signalled c w s) → notes_by host (then_do o go) used ≡ notes_by host o used
+notes_stopped host (Gave x y k) go [] c w s h = absurd (cc h)
+notes_stopped host (Gave x y k) go (z ∷ zs) c w s h = absurd (cc h)
+notes_stopped host (Stopped d y k) go used c w s h = refl
+notes_stopped host (Noted n o) go used c w s h = ap (λ l. n ∷ l) (notes_stopped host o go used c w s h)
+notes_stopped host (Looked name f) go used c w s h = notes_stopped host (f (option_map (λ g. g.takes) (host name))) go used c w s h
+notes_stopped host (Asked name ys f) go [] c w s h = absurd (cc h)
+notes_stopped host (Asked name ys f) go (z ∷ zs) c w s h =
+    notes_stopped host (f z) go zs c w s (permitted (may_answer (host name) ys z) (answered_by host (f z) zs) (Signalled c w s) h).1
+
+-- with these answers some may come after its own, or none
+pub notes_longer : (host : Host) (o : Out) (go : Val → Run) (used : List ℤ)
+    → (more : List Note) × (notes_by host (then_do o go) used ≡ notes_by host o used ++ more)
+notes_longer host (Gave x w s) go used = (notes_by host (go x w s) used, refl)
+notes_longer host (Stopped c w s) go used = ([], refl)
+notes_longer host (Noted n o) go used = let p = notes_longer host o go used in (p.0, ap (λ l. n ∷ l) p.1)
+notes_longer host (Looked name f) go used = notes_longer host (f (option_map (λ g. g.takes) (host name))) go used
+notes_longer host (Asked name ys f) go [] = ([], refl)
+notes_longer host (Asked name ys f) go (z ∷ zs) = notes_longer host (f z) go zs
+
+-- the answers that came are these
+pub same_answers : (past xs ys : List ℤ) → past ++ xs ≡ past ++ ys → xs ≡ ys
+same_answers [] xs ys e = e
+same_answers (z ∷ zs) xs ys e = same_answers zs xs ys (ap (λ l. drop 1 l) e)
+
+-- a run that does the same from there
+pub keeps_as : (host : Host) (run run' : Run) (w : State) (s : ℕ) (past : List ℤ) (u : Uses) (r : Result Value Stop) (s' : ℕ) (past' : List ℤ) (u' : Uses)
+    → ((i : ℕ) → run w i ≡ run' w i) → KeepsBy host run w s past u r s' past' u' → KeepsBy host run' w s past u r s' past' u'
+keeps_as host run run' w s past u (Ok v) s' past' u' e h = (h.0, h.1, h.2 ∙ ap (λ o. after_notes (notes_by host o h.0) u) (e s))
+keeps_as host run run' w s past u (Err (Refused c)) s' past' u' e h = (h.0, h.1, h.2 ∙ ap (λ o. after_notes (notes_by host o h.0) u) (e s))
+keeps_as host run run' w s past u (Err Storage) s' past' u' e h =
+    (h.0, h.1, h.2, h.3, subst (λ o. MadeSome (notes_by host o h.0) u u') (e h.2) h.4)

@@ -309,13 +309,6 @@ AnswersWith host run w s past (Err (Refused c)) w' s' past' = (used : List ℤ) 
 AnswersWith host run w s past (Err Storage) w' s' past' = (used : List ℤ) × (past' ≡ past ++ used) × (k : ℕ) × (s ≡ k + s')
     × leaves_by host (run w k) used w' 0
 
--- The run takes as many steps and answers, whatever is left after them.
-abbrev pub TakesWith : Host → Run → State → ℕ → List ℤ → Result Value Stop → State → ℕ → List ℤ → Type 0
-TakesWith host run w s past (Ok v) w' s' past' =
-    (k : ℕ) × (used : List ℤ) × (s ≡ k + s') × (past' ≡ past ++ used)
-    × ((t : ℕ) → answered_by host (run w (k + t)) used ≡ Some (Given (value_of v) w' t))
-TakesWith host run w s past (Err e) w' s' past' = Unit {0}
-
 -- ---- What is left to do has a weight, and each turn makes it less
 
 -- a value to be given

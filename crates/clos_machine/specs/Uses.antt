@@ -8,7 +8,7 @@ use Rattle.clos_meaning.specs.clos_world.declared.condition.Stop.{Stop}
 use Rattle.clos_meaning.specs.clos_world.declared.condition.Stop.TheVariants.{Refused, Storage}
 use Rattle.clos_meaning.specs.Host.{Host}
 use Rattle.clos_meaning.specs.Outcome.{Note, Run}
-use Rattle.clos_meaning.specs.Uses.{after_notes, most, notes_by, noting}
+use Rattle.clos_meaning.specs.Uses.{after_notes, most, notes_by, noted}
 use Rattle.clos_machine.specs.Machine.{Leads, Turns, denote}
 use Rattle.clos_machine.specs.declared.machine.Doing.{Doing}
 use Rattle.clos_machine.specs.declared.machine.Machine.{Machine}
@@ -30,7 +30,7 @@ KeptAfter notes (Err Storage) old new = MadeSome notes old new
 pub record LeadsBy (run : Run) (w : State) (old : Uses) (r : Result Doing Stop) (m : Machine) (new : Uses) : Type 0 where
   pub notes : List Note
   pub rest : Run
-  pub first : (t : ℕ) → run w t ≡ noting notes (rest w t)
+  pub first : (t : ℕ) → run w t ≡ noted notes (rest w t)
   pub leads : Leads rest w r m
   pub kept : KeptAfter notes r old new
 
@@ -39,7 +39,7 @@ pub record TurnsBy (run : Run) (w : State) (s : ℕ) (old : Uses) (r : Result Do
     : Type 0 where
   pub notes : List Note
   pub rest : Run
-  pub first : (t : ℕ) → run w t ≡ noting notes (rest w t)
+  pub first : (t : ℕ) → run w t ≡ noted notes (rest w t)
   pub turns : Turns rest w s r m w' s'
   pub kept : KeptAfter notes r old new
 

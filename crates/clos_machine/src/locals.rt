@@ -116,8 +116,8 @@ impl Locals {
 
     /// Makes the innermost of this name hold this value; where there is none, the value comes back.
     pub fn set(&mut self, name: &Name, value: Value) -> Option<Value>
-        ensures { MatchOption result
-            ((is_some (local_named self.old name.now) ≡ true) × (self.new ≡ with_local name.now (value_of value) self.old))
+        ensures { MatchOption result ((is_some (local_named self.old name.now) ≡ true) ×
+            (self.new ≡ with_local name.now (value_of value) self.old))
             (λ v. (v ≡ value) × (is_some (local_named self.old name.now) ≡ false) × (self.new ≡ self.old)) }
     {
         let mut place = self.locals.len();

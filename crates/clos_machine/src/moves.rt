@@ -53,9 +53,10 @@ pub fn set_apart(alloc: Global, machine: &mut Machine, context: Context) -> Resu
 
 /// Evaluates this next, and then does what the frame does with its value.
 pub fn begin(machine: &mut Machine, next: Form, frame: Frame) -> Result<Doing, Stop>
-    ensures leads { (run : Run) (w : State) → below machine.old.context frame ≡ machine.old.context
-        → ((t : ℕ) → then_do (meaning machine.old.room machine.old.context next (at machine.old w) t) (after (meaning machine.old.room) machine.old.context frame) ≡ run (at machine.old w) t)
-        → Leads (inside machine.old run) w result machine.new }
+    ensures leads { (run : Run) (w : State) → below machine.old.context frame ≡ machine.old.context →
+        ((t : ℕ) → then_do (meaning machine.old.room machine.old.context next (at machine.old w) t)
+        (after (meaning machine.old.room) machine.old.context frame) ≡ run (at machine.old w) t) → Leads
+        (inside machine.old run) w result machine.new }
     ensures small { Grows (weight_of frame) machine.old.levels result machine.new }
 {
     let room = machine.room;
@@ -65,7 +66,8 @@ pub fn begin(machine: &mut Machine, next: Form, frame: Frame) -> Result<Doing, S
 
 /// Two levels of this room: the frame, and the outer one under it.
 fn push_both(levels: &mut Levels, frame: Frame, outer: Frame, room: u64) -> Result<(), AllocError>
-    ensures { OnOk result (levels.new ≡ record { frame = frame; room = room } ∷ record { frame = outer; room = room } ∷ levels.old) }
+    ensures { OnOk result (levels.new ≡ record { frame = frame; room = room } ∷ record { frame = outer; room = room } ∷
+        levels.old) }
 {
     let Ok(()) = levels.push(Level { frame: outer, room }) else {
         drop(frame);
@@ -81,9 +83,11 @@ pub fn begin_under(
     frame: Frame,
     outer: Frame,
 ) -> Result<Doing, Stop>
-    ensures leads { (run : Run) (w : State) → below machine.old.context frame ≡ machine.old.context → below machine.old.context outer ≡ machine.old.context
-        → ((t : ℕ) → then_do (then_do (meaning machine.old.room machine.old.context next (at machine.old w) t) (after (meaning machine.old.room) machine.old.context frame)) (after (meaning machine.old.room) machine.old.context outer) ≡ run (at machine.old w) t)
-        → Leads (inside machine.old run) w result machine.new }
+    ensures leads { (run : Run) (w : State) → below machine.old.context frame ≡ machine.old.context → below
+        machine.old.context outer ≡ machine.old.context → ((t : ℕ) → then_do
+        (then_do (meaning machine.old.room machine.old.context next (at machine.old w) t)
+        (after (meaning machine.old.room) machine.old.context frame)) (after (meaning machine.old.room)
+        machine.old.context outer) ≡ run (at machine.old w) t) → Leads (inside machine.old run) w result machine.new }
     ensures small { Grows (weight_of frame + weight_of outer) machine.old.levels result machine.new }
 {
     let room = machine.room;
@@ -101,9 +105,10 @@ pub fn act_under(
     values: Values,
     frame: Frame,
 ) -> Result<Doing, Stop>
-    ensures leads { (run : Run) (w : State) → below machine.old.context frame ≡ machine.old.context
-        → ((t : ℕ) → then_do (acted (meaning machine.old.room) machine.old.context action values (at machine.old w) t) (after (meaning machine.old.room) machine.old.context frame) ≡ run (at machine.old w) t)
-        → Leads (inside machine.old run) w result machine.new }
+    ensures leads { (run : Run) (w : State) → below machine.old.context frame ≡ machine.old.context →
+        ((t : ℕ) → then_do (acted (meaning machine.old.room) machine.old.context action values (at machine.old w) t)
+        (after (meaning machine.old.room) machine.old.context frame) ≡ run (at machine.old w) t) → Leads
+        (inside machine.old run) w result machine.new }
     ensures small { Grows (weight_of frame + action_weight action) machine.old.levels result machine.new }
 {
     let room = machine.room;
@@ -120,9 +125,10 @@ pub fn invoke_under(
     arguments: Values,
     frame: Frame,
 ) -> Result<Doing, Stop>
-    ensures leads { (run : Run) (w : State) → below machine.old.context frame ≡ machine.old.context
-        → ((t : ℕ) → then_do (invoked (meaning machine.old.room) function arguments (at machine.old w) t) (after (meaning machine.old.room) machine.old.context frame) ≡ run (at machine.old w) t)
-        → Leads (inside machine.old run) w result machine.new }
+    ensures leads { (run : Run) (w : State) → below machine.old.context frame ≡ machine.old.context →
+        ((t : ℕ) → then_do (invoked (meaning machine.old.room) function arguments (at machine.old w) t)
+        (after (meaning machine.old.room) machine.old.context frame) ≡ run (at machine.old w) t) → Leads
+        (inside machine.old run) w result machine.new }
     ensures small { Grows (weight_of frame + invoke_weight) machine.old.levels result machine.new }
 {
     let room = machine.room;
@@ -132,8 +138,8 @@ pub fn invoke_under(
 
 /// Gives this value.
 pub fn done(machine: &Machine, value: Value) -> Doing
-    ensures leads { (run : Run) (w : State) → ((t : ℕ) → run (at machine.now w) t ≡ Gave (value_of value) (at machine.now w) t)
-        → Leads (inside machine.now run) w (Ok result) machine.now }
+    ensures leads { (run : Run) (w : State) → ((t : ℕ) → run (at machine.now w) t ≡ Gave (value_of value)
+        (at machine.now w) t) → Leads (inside machine.now run) w (Ok result) machine.now }
     ensures small { Grows value_weight machine.now.levels (Ok result) machine.now }
 {
     let _ = machine;
@@ -142,8 +148,8 @@ pub fn done(machine: &Machine, value: Value) -> Doing
 
 /// Evaluates this next, whose value is the machine's.
 pub fn turn_to(machine: &Machine, next: Form) -> Doing
-    ensures leads { (run : Run) (w : State) → ((t : ℕ) → meaning machine.now.room machine.now.context next (at machine.now w) t ≡ run (at machine.now w) t)
-        → Leads (inside machine.now run) w (Ok result) machine.now }
+    ensures leads { (run : Run) (w : State) → ((t : ℕ) → meaning machine.now.room machine.now.context next
+        (at machine.now w) t ≡ run (at machine.now w) t) → Leads (inside machine.now run) w (Ok result) machine.now }
     ensures small { Grows value_weight machine.now.levels (Ok result) machine.now }
 {
     let _ = machine;
@@ -157,9 +163,9 @@ pub fn collect_next(
     forms: &Forms,
     values: Values,
 ) -> Result<Doing, Stop>
-    ensures leads { (run : Run) (w : State)
-        → ((t : ℕ) → collect (meaning machine.old.room) machine.old.context forms.now values (acted (meaning machine.old.room) machine.old.context action) (at machine.old w) t ≡ run (at machine.old w) t)
-        → Leads (inside machine.old run) w result machine.new }
+    ensures leads { (run : Run) (w : State) → ((t : ℕ) → collect (meaning machine.old.room) machine.old.context
+        forms.now values (acted (meaning machine.old.room) machine.old.context action) (at machine.old w) t ≡ run
+        (at machine.old w) t) → Leads (inside machine.old run) w result machine.new }
     ensures small { Grows (collect_weight action) machine.old.levels result machine.new }
 {
     let _ = machine;

@@ -341,7 +341,8 @@ fn push_variable(
     variable: &Optional,
     argument: Option<&Value>,
 ) -> Result<(), AllocError>
-    ensures { OnOk result (plan.new ≡ plan.old ++ variable_sources variable.now (option_map (λ v. value_of v.now) argument.entry)) }
+    ensures { OnOk result (plan.new ≡ plan.old ++ variable_sources variable.now
+        (option_map (λ v. value_of v.now) argument.entry)) }
 {
     match argument {
         Some(value) => {
@@ -377,7 +378,11 @@ fn push_optional(
 
 /// The first, where there is one, and the others.
 fn first_of(values: &[Value]) -> (Option<&Value>, &[Value])
-    ensures { first_and_others (map value_of values.now) ≡ (option_map (λ v. value_of v.now) result.0, map value_of result.1.now) }
+    ensures { first_and_others (map value_of values.now) ≡ (
+      option_map (λ v. value_of v.now) result.0,
+      map value_of
+          result.1.now,
+    ) }
 {
     match values.split_first() {
         None => (None, values),

@@ -141,7 +141,8 @@ pub fn update(
     steps: &mut u64,
 ) -> Result<Doing, Stop>
     requires { due (seen world.old) id.0 ≡ Some layout.now }
-    ensures turns { Turns (here machine.old (λ ev env. updated ev id.0 (visited ev env id.0 visit))) (seen world.old) steps.old result machine.new (seen world.new) steps.new }
+    ensures turns { Turns (here machine.old (λ ev env. updated ev id.0 (visited ev env id.0 visit))) (seen world.old)
+        steps.old result machine.new (seen world.new) steps.new }
     ensures small { Shrinks act_weight steps.old steps.new machine.old.levels result machine.new }
     ensures fewer { steps.new ≤ steps.old }
     ensures kept { uses_of world.new ≡ uses_of world.old }
@@ -167,7 +168,8 @@ fn restructure(
     steps: &mut u64,
 ) -> Result<Doing, Stop>
     requires { IsThere (seen world.old) id.0 }
-    ensures turns { Turns (here machine.old (λ ev env. restructured ev id.0 layout.now arguments (visited ev env id.0 visit))) (seen world.old) steps.old result machine.new (seen world.new) steps.new }
+    ensures turns { Turns (here machine.old (λ ev env. restructured ev id.0 layout.now arguments
+        (visited ev env id.0 visit))) (seen world.old) steps.old result machine.new (seen world.new) steps.new }
     ensures small { Shrinks act_weight steps.old steps.new machine.old.levels result machine.new }
     ensures fewer { steps.new ≤ steps.old }
     ensures kept { uses_of world.new ≡ uses_of world.old }

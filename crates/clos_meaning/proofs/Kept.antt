@@ -1,5 +1,5 @@
 -- What an evaluation keeps: all that is defined, and where no step is left all but variables.
-use Rattle.std.proofs.Common.{◌≡◌, subst, ℕ, zero, suc, List, [], ◌∷◌, ◌++◌, map, Option, Some, None, Result, Ok, Err, Bool, true, false, length, ◌+◌, slice_get, refl, ◌∙◌}
+use Rattle.std.proofs.Common.{◌≡◌, subst, ℕ, zero, suc, List, [], ◌∷◌, ◌++◌, map, Option, Some, None, Result, Ok, Err, Bool, true, false, length, ◌+◌, slice_get, refl, ap, append-nil, append_assoc, sym, ◌∙◌}
 use Rattle.std.specs.Prelude.{codes, pos, is_some, ℤ, ◌==◌, if◌then◌else◌}
 use Rattle.lisp_data.specs.Name.{Name}
 use Rattle.lisp_data.specs.Print.{Called, by_symbol, by_setf}
@@ -71,7 +71,7 @@ use Rattle.clos_world.specs.Class.{effective, layout}
 use Rattle.clos_meaning.specs.ChangeClass.{change_called, changed_by_layout, changed_if, changed_of, changed_to, class_changed, different_called, if_there}
 use Rattle.clos_meaning.specs.Updating.{due, names_listed, restructured, told, updated, updated_if, updated_with}
 use Rattle.clos_meaning.specs.Outcome.{leaves, Noted, Looked, Asked, Out, Gave, Stopped, Run, Eval, then_do, step_then, gave, stopped, is_true}
-use Rattle.clos_meaning.specs.Output.{output_of, text_by, written, line_ended}
+use Rattle.clos_meaning.specs.Output.{WritesMore, output_of, text_by, written, line_ended}
 use Rattle.clos_meaning.specs.Parameters.{Sources, argument, refused, init, are_even, are_pairs, fits, sources}
 use Rattle.clos_meaning.specs.Variables.{Loop, found_value, variable_value, inner, leaving, init_form, within, binding, in_order, together, aside, name_in, counted, body_of, result_value, turns, turns_in, repeated}
 use Rattle.clos_meaning.specs.SlotNames.{name_stored, name_read, name_set, place_denoted, slot_locals, within_slots}
@@ -88,10 +88,26 @@ same w = (refl, refl, refl, refl, refl, refl)
 pub same_then : (w u t : State) → Same w u → Same u t → Same w t
 same_then w u t h g = (g.0 ∙ h.0, g.1 ∙ h.1, g.2 ∙ h.2, g.3 ∙ h.3, g.4 ∙ h.4, g.5 ∙ h.5)
 
--- the definitions after it are those before
+-- the definitions are the same, and nothing that was written is gone
+abbrev pub Follows : State → State → Type 0
+Follows w u = Same w u × WritesMore w u
+
+pub nothing_written : (w : State) → WritesMore w w
+nothing_written w = ([], sym (append-nil w.written))
+
+pub writes_then : (w u t : State) → WritesMore w u → WritesMore u t → WritesMore w t
+writes_then w u t h g = (h.0 ++ g.0, g.1 ∙ ap (λ l. l ++ g.0) h.1 ∙ append_assoc w.written h.0 g.0)
+
+pub stays : (w : State) → Follows w w
+stays w = (same w, nothing_written w)
+
+pub follows_then : (w u t : State) → Follows w u → Follows u t → Follows w t
+follows_then w u t h g = (same_then w u t h.0 g.0, writes_then w u t h.1 g.1)
+
+-- each state that it comes to follows
 abbrev pub SameAfter : State → Out → Type 0
-SameAfter w (Gave v u k) = Same w u
-SameAfter w (Stopped c u k) = Same w u
+SameAfter w (Gave v u k) = Follows w u
+SameAfter w (Stopped c u k) = Follows w u
 SameAfter w (Noted n o) = SameAfter w o
 SameAfter w (Looked name more) = (n : Option ℕ) → SameAfter w (more n)
 SameAfter w (Asked name xs more) = (x : ℤ) → SameAfter w (more x)
@@ -104,13 +120,13 @@ abbrev pub Keeps : Eval → Type 0
 Keeps ev = (env : Context) (f : Form) (w : State) (k : ℕ) → Kept w k (ev env f w k)
 
 -- the state stays, but for variables, and no step is taken
-pub still : (w : State) (k : ℕ) → Same w w × (k ≡ 0 → (unbound w ≡ unbound w) × (k ≡ 0))
-still w k = (same w, λ e. (refl, e))
+pub still : (w : State) (k : ℕ) → Follows w w × (k ≡ 0 → (unbound w ≡ unbound w) × (k ≡ 0))
+still w k = (stays w, λ e. (refl, e))
 
 -- .. also those before an earlier state with the same
-pub shifted : (w u : State) (o : Out) → Same w u → SameAfter u o → SameAfter w o
-shifted w u (Gave v t k) h g = same_then w u t h g
-shifted w u (Stopped c t k) h g = same_then w u t h g
+pub shifted : (w u : State) (o : Out) → Follows w u → SameAfter u o → SameAfter w o
+shifted w u (Gave v t k) h g = follows_then w u t h g
+shifted w u (Stopped c t k) h g = follows_then w u t h g
 shifted w u (Noted n o) h g = shifted w u o h g
 shifted w u (Looked name more) h g = λ n. shifted w u (more n) h (g n)
 shifted w u (Asked name xs more) h g = λ x. shifted w u (more x) h (g x)
@@ -189,7 +205,7 @@ binding_kept name v go h w k = choice_kept (is_global w.globals name) w k _ (go 
 stored_kept_then : (f : Subject) (slot : EffectiveSlot) (rest : Run) → ((u : State) (j : ℕ) → Kept u j (rest u j)) → (v : Val) (w : State) (k : ℕ) → Kept w k (filled f slot rest v w k)
 stored_kept_then f slot rest g v w k =
     then_kept w k (step_then (slot_stored f.instance slot.name (Some v) v) w k) (λ x u j. rest u j)
-    (step_kept (slot_stored f.instance slot.name (Some v) v) w k (λ j. same w)) (λ x u j. g u j)
+    (step_kept (slot_stored f.instance slot.name (Some v) v) w k (λ j. stays w)) (λ x u j. g u j)
 
 pub filled_with_kept : (f : Subject) (slot : EffectiveSlot) (rest : Run) → ((u : State) (j : ℕ) → Kept u j (rest u j)) → (v : Val) (w : State) (k : ℕ) → Kept w k (filled_with f slot rest v w k)
 filled_with_kept f slot rest g v w k =
@@ -199,7 +215,7 @@ filled_with_kept f slot rest g v w k =
 
 integers_kept : (name : Name) (r : Result (List ℤ) Val) (w : State) (k : ℕ) → Kept w k (integers_given name r w k)
 integers_kept name (Err v) w k = still w k
-integers_kept name (Ok xs) w k = step_kept (answer_given name xs) w k (λ j x. same w)
+integers_kept name (Ok xs) w k = step_kept (answer_given name xs) w k (λ j x. stays w)
 
 found_kept : (name : Name) (vs : List Val) (n : Option ℕ) (w : State) (k : ℕ) → Kept w k (native_found name vs n w k)
 found_kept name vs None w k = still w k
@@ -216,10 +232,10 @@ native_kept (v ∷ vs) w k = named_kept v (symbol_in v) vs w k
 
 output_kept : (o : output.Output) (x : Option Val) (w : State) (k : ℕ) → Kept w k (output_of o x w k)
 output_kept o None w k = still w k
-output_kept o (Some v) w k = step_kept (written (text_by o (names_of w) v) v) w k (λ j. same w)
+output_kept o (Some v) w k = step_kept (written (text_by o (names_of w) v) v) w k (λ j. (same w, (text_by o (names_of w) v, refl)))
 
 line_kept : (vs : List Val) (w : State) (k : ℕ) → Kept w k (line_ended vs w k)
-line_kept [] w k = step_kept (written _ none) w k (λ j. same w)
+line_kept [] w k = step_kept (written (codes "\n") none) w k (λ j. (same w, (codes "\n", refl)))
 line_kept (v ∷ vs) w k = still w k
 
 answered_kept : (x : Result Val prims.Condition) (w : State) (k : ℕ) → Kept w k (answered x w k)
@@ -236,7 +252,7 @@ variable_kept name (Some v) w k = still w k
 
 globally_kept : (name : Name) (v : Val) (w : State) (k : ℕ) → Kept w k (stored_globally name v w k)
 globally_kept name v w k =
-    choice_kept (is_global w.globals name) w k (step_then (global_set name v) w k) _ (step_kept (global_set name v) w k (λ j. same w)) (still w k)
+    choice_kept (is_global w.globals name) w k (step_then (global_set name v) w k) _ (step_kept (global_set name v) w k (λ j. stays w)) (still w k)
 
 stored_kept : (name : Name) (v : Val) (w : State) (k : ℕ) → Kept w k (stored name v w k)
 stored_kept name v w k = choice_kept (is_some (local_named w.locals name)) w k _ (stored_globally name v w k) (still w k) (globally_kept name v w k)
@@ -440,7 +456,7 @@ module _ (ev : Eval) (h : Keeps ev) where
       → Kept w k (slot_changed ev env i name x v o w k)
   slot_changed_kept env i name x v None w k =
       then_kept w k (missing_changed ev i name x w k) (λ y. gave v) (missing_changed_kept i name x w k) (λ y u j. still u j)
-  slot_changed_kept env i name x v (Some old) w k = step_kept (slot_stored i name x v) w k (λ j. same w)
+  slot_changed_kept env i name x v (Some old) w k = step_kept (slot_stored i name x v) w k (λ j. stays w)
 
   pub slot_put_kept : (env : Context) (i : ℕ) (name : Name) (x : Option Val) (v : Val) (w : State) (k : ℕ) → Kept w k (slot_put ev env i name x v w k)
   slot_put_kept env i name x v w k = slot_changed_kept env i name x v (slot_found w.store i name) w k
@@ -937,7 +953,7 @@ module _ (ev : Eval) (h : Keeps ev) where
 -- ---- the meaning of forms
 
 pub meaning_kept : (n : ℕ) → Keeps (meaning n)
-meaning_kept zero env f w k = step_kept (stopped DepthLimit []) w k (λ j. same w)
+meaning_kept zero env f w k = step_kept (stopped DepthLimit []) w k (λ j. stays w)
 meaning_kept (suc n) env f w k = step_kept (body (meaning n) env f) w k (λ j. (operated_kept (meaning n) (meaning_kept n) env (operator_in f) (parts_in f) w j).0)
 
 closed_same : (w : State) (o : Out) → SameAfter w o → SameAfter w (closed o)

@@ -26,7 +26,7 @@ use Rattle.clos_meaning.specs.Contexts.{known}
 use Rattle.clos_meaning.specs.GenericCalls.{invoked}
 use Rattle.clos_meaning.specs.Objects.{designated}
 use Rattle.clos_meaning.specs.Outcome.{Note, used, Stopped, Run, Eval, then_do, gave, stopped, step_then}
-use Rattle.clos_meaning.specs.Uses.{noting}
+use Rattle.clos_meaning.specs.Uses.{noted}
 use Rattle.clos_meaning.specs.Parameters.{are_pairs, argument_named, is_allow_other_keys, is_allowing, is_symbol_named}
 use Rattle.clos_meaning.specs.declared.arguments.Context.{Context}
 
@@ -80,7 +80,7 @@ initialized ev c vs i None w s = then_do (invoked ev InitializeInstance (instanc
 
 abbrev pub checked : Eval → ℕ → Effective → List Val → ℕ → Run
 checked ev c e vs i w s =
-    noting (reaching w InitializeInstance (instance i ∷ []) i (truth true))
+    noted (reaching w InitializeInstance (instance i ∷ []) i (truth true))
     (initialized ev c vs i (invalid_initarg w.generics.methods (methods_reached w InitializeInstance (instance i ∷ []) i (truth true)) e.slots vs) w s)
 
 abbrev pub made : Eval → Context → ℕ → Effective → List Val → Run

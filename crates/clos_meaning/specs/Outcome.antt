@@ -14,7 +14,7 @@ use Rattle.clos_meaning.specs.declared.arguments.Context.{Context}
 -- what is told beside an evaluation, and read by none
 pub data Note : Type 0 where
   used : Key → Note  -- the methods of a generic function were asked for, for a call of this key
-  changed : State → List Change → Note  -- a definition changed these, in this state
+  took_effect : State → List Change → Note  -- a definition changed these, in this state
 
 -- the value or the condition, the state after, and the steps left; or that something was noted first; or, where the host has
 -- to answer before it goes on, what comes of each answer

@@ -1,8 +1,8 @@
 -- Output (HyperSpec 22.4).
-use Rattle.std.specs.Prelude.{ℕ, List, [], ◌∷◌, ◌++◌, true, false, Option, Some, None, codes}
+use Rattle.std.specs.Prelude.{◌≡◌, ℕ, List, [], ◌∷◌, ◌++◌, true, false, Option, Some, None, codes}
 use Rattle.lisp_data.specs.Value.{Val, list, nil}
 use Rattle.lisp_data.specs.Print.{Names, text_of}
-use Rattle.clos_world.specs.World.{names_of}
+use Rattle.clos_world.specs.World.{State, names_of}
 use Rattle.clos_world.specs.declared.condition.ConditionKind.TheVariants.{ProgramError}
 use Rattle.clos_meaning.specs.Outcome.{Gave, Run, stopped, step_then}
 use Rattle.clos_forms.specs.clos_names.declared.callee.Output as output
@@ -27,3 +27,7 @@ output_of o (Some v) w s = step_then (written (text_by o (names_of w) v) v) w s
 abbrev pub line_ended : List Val → Run
 line_ended [] w s = step_then (written (codes "\n") (list nil)) w s
 line_ended (v ∷ vs) w s = stopped ProgramError [] w s
+
+-- what was written before stays, and more may have been written after it
+abbrev pub WritesMore : State → State → Type 0
+WritesMore w u = (more : List ℕ) × (u.written ≡ w.written ++ more)

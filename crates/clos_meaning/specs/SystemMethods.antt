@@ -21,7 +21,7 @@ use Rattle.clos_meaning.specs.Filling.{are_slot_names, fill}
 use Rattle.clos_meaning.specs.Contexts.{known}
 use Rattle.clos_meaning.specs.GenericCalls.{invoked}
 use Rattle.clos_meaning.specs.Initialization.{invalid_for, invalid_initarg, methods_reached, reaching}
-use Rattle.clos_meaning.specs.Uses.{noting}
+use Rattle.clos_meaning.specs.Uses.{noted}
 use Rattle.clos_meaning.specs.Outcome.{Stopped, Run, Eval, then_do, gave, stopped}
 use Rattle.clos_meaning.specs.Parameters.{are_even}
 use Rattle.clos_meaning.specs.Slots.{has_slot, instance_in}
@@ -63,7 +63,7 @@ if_valid c (Some k) go w s = Stopped (invalid_for k (class_name w.classes c)) w 
 abbrev pub shared_if_valid : Eval → SystemFunction → List Val → Val → List Val → ℕ → Option (ℕ × Effective) → Run
 shared_if_valid ev f vs names initargs i None w s = stopped ProgramError [] w s
 shared_if_valid ev f vs names initargs i (Some p) w s =
-    noting (reaching w f vs i names)
+    noted (reaching w f vs i names)
     (if_valid p.0 (invalid_initarg w.generics.methods (methods_reached w f vs i names) p.1.slots initargs) (shared_initialized ev i names initargs) w s)
 
 -- with the slots that the class of the instance has

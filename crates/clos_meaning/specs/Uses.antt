@@ -8,7 +8,7 @@ use Rattle.clos_world.specs.clos_cache.Cache.{Change, has_class, of_classes, of_
 use Rattle.clos_world.specs.clos_cache.Key.{Key}
 use Rattle.clos_world.specs.clos_cache.Uses.{Uses, with_use}
 use Rattle.clos_meaning.specs.Host.{Host}
-use Rattle.clos_meaning.specs.Outcome.{Asked, Gave, Looked, Note, Noted, Out, Stopped, changed, used}
+use Rattle.clos_meaning.specs.Outcome.{Asked, Gave, Looked, Note, Noted, Out, Stopped, took_effect, used}
 
 -- so many effective methods are counted at most
 abbrev pub most : ℕ
@@ -31,7 +31,7 @@ without dropped u = record u { kept = λ key. if dropped key then false else u.k
 -- after what was noted: a use keeps what was not kept, and counts it; changes drop what they concern
 abbrev pub with_note : Note → Uses → Uses
 with_note (used key) u = with_use most key u
-with_note (changed w changes) u = without (one_concerns w changes) u
+with_note (took_effect w changes) u = without (one_concerns w changes) u
 
 -- after all of these notes, in order
 abbrev pub after_notes : List Note → Uses → Uses
@@ -39,9 +39,9 @@ after_notes [] u = u
 after_notes (n ∷ ns) u = after_notes ns (with_note n u)
 
 -- these are noted first
-abbrev pub noting : List Note → Out → Out
-noting [] o = o
-noting (n ∷ ns) o = Noted n (noting ns o)
+abbrev pub noted : List Note → Out → Out
+noted [] o = o
+noted (n ∷ ns) o = Noted n (noted ns o)
 
 -- What an outcome notes, where the host answered so, as far as its answers go.
 abbrev pub notes_by : Host → Out → List ℤ → List Note

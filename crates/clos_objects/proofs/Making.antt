@@ -25,7 +25,7 @@ use Rattle.clos_machine.specs.clos_meaning.Meaning.{closed, meaning}
 use Rattle.clos_machine.specs.clos_meaning.Objects.{designated}
 use Rattle.clos_machine.specs.clos_meaning.Parameters.{are_pairs}
 use Rattle.clos_machine.specs.clos_meaning.Outcome.{Note, Run, Eval, Stopped, gave, then_do, step_then, stopped}
-use Rattle.clos_machine.specs.clos_meaning.Uses.{after_notes, noting}
+use Rattle.clos_machine.specs.clos_meaning.Uses.{after_notes, noted}
 use Rattle.clos_machine.specs.Uses.{LeadsBy, MadeSome}
 use Rattle.clos_machine.specs.clos_world.clos_cache.Uses.{Uses}
 use Rattle.clos_machine.specs.clos_meaning.declared.arguments.Context.{Context}
@@ -171,8 +171,8 @@ module _ (m n : Machine) (ev : Eval) (c : ℕ) (e : Effective) (vs : List Val) (
   reached = reaching w InitializeInstance (instance i ∷ []) i (truth true)
 
   module _ (u u' : Uses) where
-    checks : (t : ℕ) → checked ev c e vs i (at m w) t ≡ noting reached (initialized ev c vs i wrong_new (at m w) t)
-    checks t = ap (λ ns. noting ns (initialized ev c vs i wrong_new (at m w) t)) (reaching_bound m.locals w InitializeInstance (instance i ∷ []) i (truth true))
+    checks : (t : ℕ) → checked ev c e vs i (at m w) t ≡ noted reached (initialized ev c vs i wrong_new (at m w) t)
+    checks t = ap (λ ns. noted ns (initialized ev c vs i wrong_new (at m w) t)) (reaching_bound m.locals w InitializeInstance (instance i ∷ []) i (truth true))
 
     pub invalid_new : (k : Val) (stop : Stop) → Some k ≡ wrong_new → TellsCondition (invalid_for k (class_name w.classes c)) stop → u' ≡ after_notes reached u
         → LeadsBy (inside m (checked ev c e vs i)) w u (Err stop) n u'

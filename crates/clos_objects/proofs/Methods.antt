@@ -23,7 +23,7 @@ use Rattle.clos_machine.specs.clos_meaning.Initialization.{invalid_for, invalid_
 use Rattle.clos_machine.specs.Machine.{DesignatesInstance, Leads, Turns, at, inside, resume, initargs_in, names_in}
 use Rattle.clos_machine.specs.clos_meaning.Meaning.{closed}
 use Rattle.clos_machine.specs.clos_meaning.Outcome.{Eval, Run, Stopped, stopped, used}
-use Rattle.clos_machine.specs.clos_meaning.Uses.{after_notes, noting}
+use Rattle.clos_machine.specs.clos_meaning.Uses.{after_notes, noted}
 use Rattle.clos_machine.specs.Uses.{LeadsBy, MadeSome}
 use Rattle.clos_machine.specs.clos_meaning.Slots.{instance_in}
 use Rattle.clos_machine.specs.clos_meaning.SystemMethods.{checked_shared, class_in, filled_as, if_valid, initialize_slots, shared_if_valid, shared_initialize, shared_initialized, slots_filled, system_method_run}
@@ -99,8 +99,8 @@ module _ (m n : Machine) (w : State) where
       abbrev checking : Run
       checking = if_valid p.0 (wrong p.1) (shared_initialized ev i names vs)
 
-      checks : (t : ℕ) → sharing (at m w) t ≡ noting (reaching w f us i names) (checking (at m w) t)
-      checks t = ap (λ o. shared_if_valid ev f us names vs i o (at m w) t) (sym e) ∙ ap (λ ns. noting ns (checking (at m w) t)) (reaching_bound m.locals w f us i names)
+      checks : (t : ℕ) → sharing (at m w) t ≡ noted (reaching w f us i names) (checking (at m w) t)
+      checks t = ap (λ o. shared_if_valid ev f us names vs i o (at m w) t) (sym e) ∙ ap (λ ns. noted ns (checking (at m w) t)) (reaching_bound m.locals w f us i names)
 
       pub invalid_shared : (k : Val) (stop : Stop) → Some k ≡ wrong p.1 → TellsCondition (invalid_for k (class_name w.classes p.0)) stop
           → u' ≡ after_notes (reaching w f us i names) u → LeadsBy (inside m sharing) w u (Err stop) n u'

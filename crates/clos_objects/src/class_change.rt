@@ -31,7 +31,8 @@ pub fn change_class(
     mut values: Values,
     steps: &mut u64,
 ) -> Result<Doing, Stop>
-    ensures turns { Turns (here machine.old (λ ev env. change_called ev values)) (seen world.old) steps.old result machine.new (seen world.new) steps.new }
+    ensures turns { Turns (here machine.old (λ ev env. change_called ev values)) (seen world.old) steps.old result
+        machine.new (seen world.new) steps.new }
     ensures small { Shrinks act_weight steps.old steps.new machine.old.levels result machine.new }
     ensures fewer { steps.new ≤ steps.old }
     ensures kept { uses_of world.new ≡ uses_of world.old }
@@ -58,7 +59,8 @@ fn change_object(
     initargs: Values,
     steps: &mut u64,
 ) -> Result<Doing, Stop>
-    ensures turns { Turns (here machine.old (λ ev env. changed_of ev (value_of class) initargs (instance_in (value_of object)))) (seen world.old) steps.old result machine.new (seen world.new) steps.new }
+    ensures turns { Turns (here machine.old (λ ev env. changed_of ev (value_of class) initargs
+        (instance_in (value_of object)))) (seen world.old) steps.old result machine.new (seen world.new) steps.new }
     ensures small { Shrinks act_weight steps.old steps.new machine.old.levels result machine.new }
     ensures fewer { steps.new ≤ steps.old }
     ensures kept { uses_of world.new ≡ uses_of world.old }
@@ -85,7 +87,8 @@ fn update_and_change(
     initargs: Values,
     steps: &mut u64,
 ) -> Result<Doing, Stop>
-    ensures turns { Turns (here machine.old (λ ev env. updated ev id.0 (changed_to ev id.0 class.0 initargs))) (seen world.old) steps.old result machine.new (seen world.new) steps.new }
+    ensures turns { Turns (here machine.old (λ ev env. updated ev id.0 (changed_to ev id.0 class.0 initargs)))
+        (seen world.old) steps.old result machine.new (seen world.new) steps.new }
     ensures small { Shrinks act_weight steps.old steps.new machine.old.levels result machine.new }
     ensures fewer { steps.new ≤ steps.old }
     ensures kept { uses_of world.new ≡ uses_of world.old }
@@ -101,7 +104,8 @@ fn update_and_change(
 
 /// The layout of a class, for an instance that there is.
 fn layout_for(world: &World, id: InstanceId, class: ClassId) -> Result<Option<Layout>, AllocError>
-    ensures layout { IfOk result (λ r. r ≡ if_there (class_of_instance (seen world.now) id.0) (layout (seen world.now).classes class.0)) }
+    ensures layout { IfOk result (λ r. r ≡ if_there (class_of_instance (seen world.now) id.0)
+        (layout (seen world.now).classes class.0)) }
     ensures there { IfOk result (λ r. IfSome r (λ l. IsThere (seen world.now) id.0)) }
 {
     match world.store().class_of(id) {
@@ -123,7 +127,8 @@ pub fn change_to(
     initargs: Values,
     steps: &mut u64,
 ) -> Result<Doing, Stop>
-    ensures turns { Turns (here machine.old (λ ev env. changed_to ev id.0 class.0 initargs)) (seen world.old) steps.old result machine.new (seen world.new) steps.new }
+    ensures turns { Turns (here machine.old (λ ev env. changed_to ev id.0 class.0 initargs)) (seen world.old) steps.old
+        result machine.new (seen world.new) steps.new }
     ensures small { Shrinks act_weight steps.old steps.new machine.old.levels result machine.new }
     ensures fewer { steps.new ≤ steps.old }
     ensures kept { uses_of world.new ≡ uses_of world.old }
@@ -154,7 +159,8 @@ fn change(
 ) -> Result<Doing, Stop>
     requires there { IsThere (seen world.old) id.0 }
     requires next { Some copy.0 ≡ next_instance (seen world.old).store }
-    ensures turns { Turns (here machine.old (λ ev env. class_changed ev id.0 class.0 layout.now initargs)) (seen world.old) steps.old result machine.new (seen world.new) steps.new }
+    ensures turns { Turns (here machine.old (λ ev env. class_changed ev id.0 class.0 layout.now initargs))
+        (seen world.old) steps.old result machine.new (seen world.new) steps.new }
     ensures small { Shrinks act_weight steps.old steps.new machine.old.levels result machine.new }
     ensures fewer { steps.new ≤ steps.old }
     ensures kept { uses_of world.new ≡ uses_of world.old }

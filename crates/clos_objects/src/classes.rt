@@ -38,7 +38,8 @@ fn designate_list(alloc: Global, world: &World, items: &Items) -> Result<ClassId
 }
 
 fn found(alloc: Global, world: &World, name: &Name) -> Result<ClassId, Stop>
-    ensures { Designates (class_found (seen world.now).classes name.now (named (seen world.now).classes name.now)) result }
+    ensures { Designates (class_found (seen world.now).classes name.now (named (seen world.now).classes name.now))
+        result }
 {
     match world.classes().hierarchy().named(name) {
         None => Err(Stop::Refused(about_name(alloc, ConditionKind::UndefinedClass, name)?)),

@@ -35,7 +35,8 @@ pub fn make_instance(
     mut values: Values,
     steps: &mut u64,
 ) -> Result<Doing, Stop>
-    ensures turns { Turns (here machine.old (λ ev env. instance_made ev values)) (seen world.old) steps.old result machine.new (seen world.new) steps.new }
+    ensures turns { Turns (here machine.old (λ ev env. instance_made ev values)) (seen world.old) steps.old result
+        machine.new (seen world.new) steps.new }
     ensures small { Shrinks act_weight steps.old steps.new machine.old.levels result machine.new }
     ensures fewer { steps.new ≤ steps.old }
     ensures kept { uses_of world.new ≡ uses_of world.old }
@@ -55,7 +56,8 @@ fn make(
     initargs: Values,
     steps: &mut u64,
 ) -> Result<Doing, Stop>
-    ensures turns { Turns (here machine.old (λ ev env. instance_made ev (value_of class ∷ initargs))) (seen world.old) steps.old result machine.new (seen world.new) steps.new }
+    ensures turns { Turns (here machine.old (λ ev env. instance_made ev (value_of class ∷ initargs))) (seen world.old)
+        steps.old result machine.new (seen world.new) steps.new }
     ensures small { Shrinks act_weight steps.old steps.new machine.old.levels result machine.new }
     ensures fewer { steps.new ≤ steps.old }
     ensures kept { uses_of world.new ≡ uses_of world.old }
@@ -78,7 +80,8 @@ fn make_of(
     initargs: Values,
     steps: &mut u64,
 ) -> Result<Doing, Stop>
-    ensures turns { Turns (here machine.old (λ ev env w. making_of ev initargs class.0 (effective w.classes class.0) w)) (seen world.old) steps.old result machine.new (seen world.new) steps.new }
+    ensures turns { Turns (here machine.old (λ ev env w. making_of ev initargs class.0 (effective w.classes class.0) w))
+        (seen world.old) steps.old result machine.new (seen world.new) steps.new }
     ensures small { Shrinks act_weight steps.old steps.new machine.old.levels result machine.new }
     ensures fewer { steps.new ≤ steps.old }
     ensures kept { uses_of world.new ≡ uses_of world.old }
@@ -107,7 +110,8 @@ fn make_within(
     initargs: Values,
     steps: &mut u64,
 ) -> Result<Doing, Stop>
-    ensures turns { Turns (here machine.old (λ ev env. making_of ev initargs class.0 (Some effective))) (seen world.old) steps.old result machine.new (seen world.new) steps.new }
+    ensures turns { Turns (here machine.old (λ ev env. making_of ev initargs class.0 (Some effective))) (seen world.old)
+        steps.old result machine.new (seen world.new) steps.new }
     ensures small { Shrinks act_weight steps.old steps.new machine.old.levels result machine.new }
     ensures fewer { steps.new ≤ steps.old }
     ensures kept { uses_of world.new ≡ uses_of world.old }
@@ -146,7 +150,8 @@ fn evaluate_default(
     initargs: Values,
 ) -> Result<Doing, Stop>
     requires { place < length effective.defaults }
-    ensures leads { Does (λ ev env. default_first ev env class.0 effective (drop place effective.defaults) initargs) machine.old result machine.new }
+    ensures leads { Does (λ ev env. default_first ev env class.0 effective (drop place effective.defaults) initargs)
+        machine.old result machine.new }
     ensures small { Grows value_weight machine.old.levels result machine.new }
 {
     let form = effective.defaults()[place].form.copy()?;
@@ -167,7 +172,8 @@ pub fn next_default(
     mut initargs: Values,
     value: Value,
 ) -> Result<Doing, Stop>
-    ensures leads { (w : State) → Leads (here machine.old (λ ev env. default_given ev env class.0 effective (drop place effective.defaults) initargs (value_of value))) w result machine.new }
+    ensures leads { (w : State) → Leads (here machine.old (λ ev env. default_given ev env class.0 effective
+        (drop place effective.defaults) initargs (value_of value))) w result machine.new }
     ensures small { Grows act_weight machine.old.levels result machine.new }
 {
     let Some((default, next)) = default_at(&effective, place) else {
@@ -188,7 +194,8 @@ pub fn next_default(
 
 /// The default initarg at this place, and the next place.
 fn default_at(effective: &Finalized, place: usize) -> Option<(&DefaultInitarg, usize)>
-    ensures { MatchOption result (drop place effective.now.defaults ≡ []) (λ p. drop place effective.now.defaults ≡ p.0.now ∷ drop p.1 effective.now.defaults) }
+    ensures { MatchOption result (drop place effective.now.defaults ≡ [])
+        (λ p. drop place effective.now.defaults ≡ p.0.now ∷ drop p.1 effective.now.defaults) }
 {
     let defaults = effective.defaults();
     if place >= defaults.len() {
@@ -205,7 +212,8 @@ fn go_on(
     from: usize,
     initargs: Values,
 ) -> Result<Doing, Stop>
-    ensures leads { (w : State) → Leads (here machine.old (λ ev env. defaulted ev env class.0 effective (drop from effective.defaults) initargs)) w result machine.new }
+    ensures leads { (w : State) → Leads (here machine.old (λ ev env. defaulted ev env class.0 effective
+        (drop from effective.defaults) initargs)) w result machine.new }
     ensures small { Grows act_weight machine.old.levels result machine.new }
 {
     match next_ungiven(&effective, from, initargs.as_slice()) {
@@ -224,7 +232,8 @@ pub fn allocate(
     initargs: Values,
     steps: &mut u64,
 ) -> Result<Doing, Stop>
-    ensures turns { Turns (here machine.old (λ ev env. allocate ev env class.0 effective initargs)) (seen world.old) steps.old result machine.new (seen world.new) steps.new }
+    ensures turns { Turns (here machine.old (λ ev env. allocate ev env class.0 effective initargs)) (seen world.old)
+        steps.old result machine.new (seen world.new) steps.new }
     ensures small { Shrinks value_weight steps.old steps.new machine.old.levels result machine.new }
     ensures fewer { steps.new ≤ steps.old }
     ensures kept { uses_of world.new ≡ uses_of world.old }
@@ -254,7 +263,8 @@ pub fn initialize(
     id: InstanceId,
     mut initargs: Values,
 ) -> Result<Doing, Stop>
-    ensures leads { LeadsBy (here machine.old (λ ev env. checked ev class.0 effective.now initargs id.0)) (seen world.old) (uses_of world.old) result machine.new (uses_of world.new) }
+    ensures leads { LeadsBy (here machine.old (λ ev env. checked ev class.0 effective.now initargs id.0))
+        (seen world.old) (uses_of world.old) result machine.new (uses_of world.new) }
     ensures same { seen world.new ≡ seen world.old }
     ensures small { Grows value_weight machine.old.levels result machine.new }
 {

@@ -36,7 +36,9 @@ fn initform_for<'a>(
     names: Option<&Value>,
     slot: &'a EffectiveSlot,
 ) -> Option<&'a Form>
-    ensures { filler_of_form (option_copied result) ≡ unbound_filler (is_named (option_map_or (λ v. value_of v.now) names.entry (list nil)) slot.now.name) slot.now.cell (slot_found (seen world.now).store id.0 slot.now.name) slot.now.initform }
+    ensures { filler_of_form (option_copied result) ≡ unbound_filler (is_named
+        (option_map_or (λ v. value_of v.now) names.entry (list nil)) slot.now.name) slot.now.cell
+        (slot_found (seen world.now).store id.0 slot.now.name) slot.now.initform }
 {
     if slot.cell.is_some() {
         return None;
@@ -72,7 +74,8 @@ fn find_filler(
 
 /// The next slot that is filled with something, by its place, and with what.
 fn next_filler(world: &World, filling: &Filling) -> Result<Option<(usize, Found)>, AllocError>
-    ensures { IfOk result (λ r. Finds (seen world.now) (subject_of filling.now) filling.now.effective.slots (slots_left filling.now) r) }
+    ensures { IfOk result (λ r. Finds (seen world.now) (subject_of filling.now) filling.now.effective.slots
+        (slots_left filling.now) r) }
 {
     let slots = filling.effective.slots();
     let mut place = filling.place;
@@ -93,7 +96,8 @@ pub fn fill(
     mut filling: Filling,
     steps: &mut u64,
 ) -> Result<Doing, Stop>
-    ensures turns { Turns (here machine.old (λ ev env. fill ev env (subject_of filling) (slots_left filling))) (seen world.old) steps.old result machine.new (seen world.new) steps.new }
+    ensures turns { Turns (here machine.old (λ ev env. fill ev env (subject_of filling) (slots_left filling)))
+        (seen world.old) steps.old result machine.new (seen world.new) steps.new }
     ensures small { Shrinks act_weight steps.old steps.new machine.old.levels result machine.new }
     ensures fewer { steps.new ≤ steps.old }
     ensures kept { uses_of world.new ≡ uses_of world.old }
@@ -119,7 +123,8 @@ fn fill_first(
     value: Value,
     steps: &mut u64,
 ) -> Result<Doing, Stop>
-    ensures turns { Turns (here machine.now (λ ev env. first_filled ev env (subject_of filling) (slots_left filling) (value_of value))) (seen world.old) steps.old result machine.now (seen world.new) steps.new }
+    ensures turns { Turns (here machine.now (λ ev env. first_filled ev env (subject_of filling) (slots_left filling)
+        (value_of value))) (seen world.old) steps.old result machine.now (seen world.new) steps.new }
     ensures small { Shrinks act_weight steps.old steps.new machine.now.levels result machine.now }
     ensures fewer { steps.new ≤ steps.old }
     ensures kept { uses_of world.new ≡ uses_of world.old }
@@ -141,7 +146,8 @@ fn fill_first(
 
 /// The slot that comes next, and the place after it.
 fn slot_at(filling: &Filling) -> Option<(&EffectiveSlot, usize)>
-    ensures { MatchOption result (slots_left filling.now ≡ []) (λ p. slots_left filling.now ≡ p.0.now ∷ drop p.1 filling.now.effective.slots) }
+    ensures { MatchOption result (slots_left filling.now ≡ []) (λ p. slots_left filling.now ≡ p.0.now ∷ drop p.1
+        filling.now.effective.slots) }
 {
     let slots = filling.effective.slots();
     if filling.place >= slots.len() {
@@ -160,7 +166,8 @@ pub fn fill_with(
     value: Value,
     steps: &mut u64,
 ) -> Result<Doing, Stop>
-    ensures turns { Turns (here machine.old (λ ev env. fill_with ev env (subject_of filling) (slots_left filling) (value_of value))) (seen world.old) steps.old result machine.new (seen world.new) steps.new }
+    ensures turns { Turns (here machine.old (λ ev env. fill_with ev env (subject_of filling) (slots_left filling)
+        (value_of value))) (seen world.old) steps.old result machine.new (seen world.new) steps.new }
     ensures small { Shrinks act_weight steps.old steps.new machine.old.levels result machine.new }
     ensures fewer { steps.new ≤ steps.old }
     ensures kept { uses_of world.new ≡ uses_of world.old }

@@ -78,7 +78,8 @@ fn first_invalid<'a>(
     slots: &[EffectiveSlot],
     initargs: &'a [Value],
 ) -> Option<&'a Value>
-    ensures { option_map (λ v. value_of v.now) result ≡ first_invalid methods.now reached.now slots.now (map value_of initargs.now) }
+    ensures { option_map (λ v. value_of v.now) result ≡ first_invalid methods.now reached.now slots.now
+        (map value_of initargs.now) }
 {
     let mut left = initargs;
     while let Some((name, rest)) = left.split_first() {
@@ -100,7 +101,8 @@ pub fn invalid_initarg<'a>(
     slots: &[EffectiveSlot],
     initargs: &'a [Value],
 ) -> Option<&'a Value>
-    ensures { option_map (λ v. value_of v.now) result ≡ invalid_initarg methods.now reached.now slots.now (map value_of initargs.now) }
+    ensures { option_map (λ v. value_of v.now) result ≡ invalid_initarg methods.now reached.now slots.now
+        (map value_of initargs.now) }
 {
     if is_allowing(initargs) || reached.allows(methods) {
         return None;

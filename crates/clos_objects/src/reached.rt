@@ -71,10 +71,13 @@ pub fn methods_reached(
     id: InstanceId,
     names: Value,
 ) -> Result<Reached, AllocError>
-    ensures reached { IfOk result (λ r. r ≡ methods_reached (seen world.old) function (map value_of arguments.now) id.0 (value_of names)) }
+    ensures reached { IfOk result (λ r. r ≡ methods_reached (seen world.old) function (map value_of arguments.now) id.0
+        (value_of names)) }
     ensures same { seen world.new ≡ seen world.old }
-    ensures uses { OnOk result (uses_of world.new ≡ after_notes (reaching (seen world.old) function (map value_of arguments.now) id.0 (value_of names)) (uses_of world.old)) }
-    ensures refused { OnErr result (MadeSome (reaching (seen world.old) function (map value_of arguments.now) id.0 (value_of names)) (uses_of world.old) (uses_of world.new)) }
+    ensures uses { OnOk result (uses_of world.new ≡ after_notes (reaching (seen world.old) function
+        (map value_of arguments.now) id.0 (value_of names)) (uses_of world.old)) }
+    ensures refused { OnErr result (MadeSome (reaching (seen world.old) function (map value_of arguments.now) id.0
+        (value_of names)) (uses_of world.old) (uses_of world.new)) }
 {
     let Ok(own) = world.effective_method(alloc, function.id(), arguments) else {
         drop(names);
@@ -94,9 +97,11 @@ fn shared_methods(
     id: InstanceId,
     names: Value,
 ) -> Result<Rc<EffectiveMethod>, AllocError>
-    ensures methods { IfOk result (λ r. r.value.methods ≡ ordered (seen world.old) (system_number SharedInitialize) (instance id.0 ∷ value_of names ∷ [])) }
+    ensures methods { IfOk result (λ r. r.value.methods ≡ ordered (seen world.old) (system_number SharedInitialize)
+        (instance id.0 ∷ value_of names ∷ [])) }
     ensures same { seen world.new ≡ seen world.old }
-    ensures uses { OnOk result (uses_of world.new ≡ with_note (used (key_of (seen world.old) (system_number SharedInitialize) (instance id.0 ∷ value_of names ∷ []))) (uses_of world.old)) }
+    ensures uses { OnOk result (uses_of world.new ≡ with_note (used (key_of (seen world.old)
+        (system_number SharedInitialize) (instance id.0 ∷ value_of names ∷ []))) (uses_of world.old)) }
     ensures refused { OnErr result (AtMostOneMore most (uses_of world.old) (uses_of world.new)) }
 {
     let mut arguments = Values::new(alloc);

@@ -43,7 +43,8 @@ pub fn initialize_shared(
     names: Value,
     initargs: &[Value],
 ) -> Result<Doing, Stop>
-    ensures leads { Leads (here machine.old (λ ev env. shared_initialized ev id.0 (value_of names) (map value_of initargs.now))) (seen world.now) result machine.new }
+    ensures leads { Leads (here machine.old (λ ev env. shared_initialized ev id.0 (value_of names)
+        (map value_of initargs.now))) (seen world.now) result machine.new }
     ensures small { Grows value_weight machine.old.levels result machine.new }
 {
     let _ = world;
@@ -84,7 +85,9 @@ pub fn check_shared(
     id: InstanceId,
     initargs: &[Value],
 ) -> Result<Doing, Stop>
-    ensures leads { LeadsBy (here machine.old (λ ev env. checked_shared ev function (map value_of arguments.now) (value_of names.now) (map value_of initargs.now) id.0)) (seen world.old) (uses_of world.old) result machine.new (uses_of world.new) }
+    ensures leads { LeadsBy (here machine.old (λ ev env. checked_shared ev function (map value_of arguments.now)
+        (value_of names.now) (map value_of initargs.now) id.0)) (seen world.old) (uses_of world.old) result machine.new
+        (uses_of world.new) }
     ensures same { seen world.new ≡ seen world.old }
     ensures small { Grows value_weight machine.old.levels result machine.new }
 {

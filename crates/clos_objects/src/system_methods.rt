@@ -39,7 +39,8 @@ pub fn run_system_method(
     arguments: &Arguments,
     steps: &mut u64,
 ) -> Result<Doing, Stop>
-    ensures turns { TurnsBy (here machine.old (λ ev env. system_method_run ev function arguments.now)) (seen world.old) steps.old (uses_of world.old) result machine.new (seen world.new) steps.new (uses_of world.new) }
+    ensures turns { TurnsBy (here machine.old (λ ev env. system_method_run ev function arguments.now)) (seen world.old)
+        steps.old (uses_of world.old) result machine.new (seen world.new) steps.new (uses_of world.new) }
     ensures small { Shrinks perform_weight steps.old steps.new machine.old.levels result machine.new }
     ensures fewer { steps.new ≤ steps.old }
 {
@@ -66,7 +67,8 @@ fn run_with(
     steps: &mut u64,
 ) -> Result<Doing, Stop>
     requires { arguments.now ≡ value_of first.now ∷ map value_of rest.now }
-    ensures turns { TurnsBy (here machine.old (λ ev env. system_method_run ev function arguments.now)) (seen world.old) steps.old (uses_of world.old) result machine.new (seen world.new) steps.new (uses_of world.new) }
+    ensures turns { TurnsBy (here machine.old (λ ev env. system_method_run ev function arguments.now)) (seen world.old)
+        steps.old (uses_of world.old) result machine.new (seen world.new) steps.new (uses_of world.new) }
     ensures small { Shrinks perform_weight steps.old steps.new machine.old.levels result machine.new }
     ensures fewer { steps.new ≤ steps.old }
 {
@@ -97,7 +99,8 @@ fn run_with(
 
 /// The first of these values, and the others.
 fn split(values: &[Value]) -> Option<(&Value, &[Value])>
-    ensures { MatchOption result (map value_of values.now ≡ []) (λ p. map value_of values.now ≡ value_of p.0.now ∷ map value_of p.1.now) }
+    ensures { MatchOption result (map value_of values.now ≡ []) (λ p. map value_of values.now ≡ value_of p.0.now ∷ map
+        value_of p.1.now) }
 {
     values.split_first()
 }
@@ -110,7 +113,8 @@ fn initialize(
     object: &Value,
     initargs: &[Value],
 ) -> Result<Doing, Stop>
-    ensures leads { Leads (here machine.old (λ ev env. initialize ev (map value_of initargs.now) (instance_in (value_of object.now)))) (seen world.now) result machine.new }
+    ensures leads { Leads (here machine.old (λ ev env. initialize ev (map value_of initargs.now)
+        (instance_in (value_of object.now)))) (seen world.now) result machine.new }
     ensures small { Grows value_weight machine.old.levels result machine.new }
 {
     match instance_in(alloc, object) {
@@ -128,7 +132,9 @@ fn reinitialize(
     initargs: &[Value],
     steps: &mut u64,
 ) -> Result<Doing, Stop>
-    ensures turns { TurnsBy (here machine.old (λ ev env. reinitialize ev (map value_of initargs.now) (instance_in (value_of object.now)))) (seen world.old) steps.old (uses_of world.old) result machine.new (seen world.new) steps.new (uses_of world.new) }
+    ensures turns { TurnsBy (here machine.old (λ ev env. reinitialize ev (map value_of initargs.now)
+        (instance_in (value_of object.now)))) (seen world.old) steps.old (uses_of world.old) result machine.new
+        (seen world.new) steps.new (uses_of world.new) }
     ensures small { Shrinks perform_weight steps.old steps.new machine.old.levels result machine.new }
     ensures fewer { steps.new ≤ steps.old }
 {
@@ -148,7 +154,9 @@ fn update_and_reinitialize(
     initargs: &[Value],
     steps: &mut u64,
 ) -> Result<Doing, Stop>
-    ensures turns { TurnsBy (here machine.old (λ ev env. updated ev id.0 (reinitialize_instance ev (map value_of initargs.now) id.0))) (seen world.old) steps.old (uses_of world.old) result machine.new (seen world.new) steps.new (uses_of world.new) }
+    ensures turns { TurnsBy (here machine.old (λ ev env. updated ev id.0
+        (reinitialize_instance ev (map value_of initargs.now) id.0))) (seen world.old) steps.old (uses_of world.old)
+        result machine.new (seen world.new) steps.new (uses_of world.new) }
     ensures small { Shrinks perform_weight steps.old steps.new machine.old.levels result machine.new }
     ensures fewer { steps.new ≤ steps.old }
 {
@@ -171,7 +179,8 @@ pub fn reinitialize_instance(
     id: InstanceId,
     initargs: &[Value],
 ) -> Result<Doing, Stop>
-    ensures leads { LeadsBy (here machine.old (λ ev env. reinitialize_instance ev (map value_of initargs.now) id.0)) (seen world.old) (uses_of world.old) result machine.new (uses_of world.new) }
+    ensures leads { LeadsBy (here machine.old (λ ev env. reinitialize_instance ev (map value_of initargs.now) id.0))
+        (seen world.old) (uses_of world.old) result machine.new (uses_of world.new) }
     ensures same { seen world.new ≡ seen world.old }
     ensures small { Grows value_weight machine.old.levels result machine.new }
 {
@@ -200,7 +209,8 @@ fn initialize_slots(
     steps: &mut u64,
 ) -> Result<Doing, Stop>
     requires { arguments.now ≡ value_of object.now ∷ map value_of rest.now }
-    ensures turns { Turns (here machine.old (λ ev env. system_method_run ev SharedInitialize arguments.now)) (seen world.old) steps.old result machine.new (seen world.new) steps.new }
+    ensures turns { Turns (here machine.old (λ ev env. system_method_run ev SharedInitialize arguments.now))
+        (seen world.old) steps.old result machine.new (seen world.new) steps.new }
     ensures small { Shrinks perform_weight steps.old steps.new machine.old.levels result machine.new }
     ensures fewer { steps.new ≤ steps.old }
     ensures kept { uses_of world.new ≡ uses_of world.old }
@@ -233,7 +243,9 @@ fn update_and_fill(
     arguments: &Arguments,
     steps: &mut u64,
 ) -> Result<Doing, Stop>
-    ensures turns { Turns (here machine.old (λ ev env. updated ev id.0 (slots_filled ev id.0 (names_in arguments.now) (initargs_in arguments.now)))) (seen world.old) steps.old result machine.new (seen world.new) steps.new }
+    ensures turns { Turns (here machine.old (λ ev env. updated ev id.0
+        (slots_filled ev id.0 (names_in arguments.now) (initargs_in arguments.now)))) (seen world.old) steps.old result
+        machine.new (seen world.new) steps.new }
     ensures small { Shrinks perform_weight steps.old steps.new machine.old.levels result machine.new }
     ensures fewer { steps.new ≤ steps.old }
     ensures kept { uses_of world.new ≡ uses_of world.old }
@@ -255,7 +267,8 @@ pub fn fill_instance(
     id: InstanceId,
     arguments: &Arguments,
 ) -> Result<Doing, Stop>
-    ensures leads { Leads (here machine.old (λ ev env. slots_filled ev id.0 (names_in arguments.now) (initargs_in arguments.now))) (seen world.now) result machine.new }
+    ensures leads { Leads (here machine.old (λ ev env. slots_filled ev id.0 (names_in arguments.now)
+        (initargs_in arguments.now))) (seen world.now) result machine.new }
     ensures small { Grows built_in_growth machine.old.levels result machine.new }
 {
     match class_in(world, id)? {
@@ -318,7 +331,11 @@ fn about_no_next(alloc: Global, arguments: &[Value]) -> Result<Condition, AllocE
 
 /// The condition that a generic function has no applicable method.
 fn signal_unmatched(alloc: Global, world: &World, function: &Value, arguments: &[Value]) -> Stop
-    ensures { TellsCondition (record { kind = NoApplicableMethod; items = told (seen world.now) (value_of function.now) ∷ map value_of arguments.now }) result }
+    ensures { TellsCondition (record {
+      kind = NoApplicableMethod;
+      items = told (seen world.now) (value_of function.now)
+          ∷ map value_of arguments.now;
+    }) result }
 {
     match about_unmatched(alloc, world, function, arguments) {
         Ok(condition) => Stop::Refused(condition),
@@ -332,7 +349,11 @@ fn about_unmatched(
     function: &Value,
     arguments: &[Value],
 ) -> Result<Condition, AllocError>
-    ensures { IfOk result (λ c. c ≡ record { kind = NoApplicableMethod; items = told (seen world.now) (value_of function.now) ∷ map value_of arguments.now }) }
+    ensures { IfOk result (λ c. c ≡ record {
+      kind = NoApplicableMethod;
+      items = told (seen world.now)
+          (value_of function.now) ∷ map value_of arguments.now;
+    }) }
 {
     let mut items = Values::new(alloc);
     items.push(told(alloc, world, function)?)?;

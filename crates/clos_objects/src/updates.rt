@@ -23,7 +23,8 @@ use std::alloc::{AllocError, Global};
 
 /// The names of the new slots and the initargs, after the instance.
 fn names_and_initargs(rest: &[Value]) -> Option<(&Value, &[Value])>
-    ensures { option_map (λ p. (value_of p.0.now, map value_of p.1.now)) result ≡ names_and_initargs (map value_of rest.now) }
+    ensures { option_map (λ p. (value_of p.0.now, map value_of p.1.now)) result ≡ names_and_initargs
+        (map value_of rest.now) }
 {
     match rest {
         [names, _, _, initargs @ ..] => Some((names, initargs)),
@@ -33,7 +34,8 @@ fn names_and_initargs(rest: &[Value]) -> Option<(&Value, &[Value])>
 
 /// The instance and the initargs, after the copy.
 fn current_and_initargs(rest: &[Value]) -> Option<(&Value, &[Value])>
-    ensures { option_map (λ p. (value_of p.0.now, map value_of p.1.now)) result ≡ current_and_initargs (map value_of rest.now) }
+    ensures { option_map (λ p. (value_of p.0.now, map value_of p.1.now)) result ≡ current_and_initargs
+        (map value_of rest.now) }
 {
     match rest {
         [current, initargs @ ..] => Some((current, initargs)),
@@ -51,7 +53,8 @@ pub fn update_redefined(
     arguments: &Arguments,
 ) -> Result<Doing, Stop>
     requires { arguments.now ≡ value_of object.now ∷ map value_of rest.now }
-    ensures leads { LeadsBy (here machine.old (λ ev env. system_method_run ev UpdateInstanceForRedefinedClass arguments.now)) (seen world.old) (uses_of world.old) result machine.new (uses_of world.new) }
+    ensures leads { LeadsBy (here machine.old (λ ev env. system_method_run ev UpdateInstanceForRedefinedClass
+        arguments.now)) (seen world.old) (uses_of world.old) result machine.new (uses_of world.new) }
     ensures same { seen world.new ≡ seen world.old }
     ensures small { Grows value_weight machine.old.levels result machine.new }
 {
@@ -78,7 +81,8 @@ pub fn update_different(
     arguments: &Arguments,
 ) -> Result<Doing, Stop>
     requires { arguments.now ≡ value_of previous.now ∷ map value_of rest.now }
-    ensures leads { LeadsBy (here machine.old (λ ev env. system_method_run ev UpdateInstanceForDifferentClass arguments.now)) (seen world.old) (uses_of world.old) result machine.new (uses_of world.new) }
+    ensures leads { LeadsBy (here machine.old (λ ev env. system_method_run ev UpdateInstanceForDifferentClass
+        arguments.now)) (seen world.old) (uses_of world.old) result machine.new (uses_of world.new) }
     ensures same { seen world.new ≡ seen world.old }
     ensures small { Grows value_weight machine.old.levels result machine.new }
 {
@@ -104,7 +108,9 @@ fn update_from(
     current: &Value,
     initargs: &[Value],
 ) -> Result<Doing, Stop>
-    ensures leads { LeadsBy (here machine.old (λ ev env. different_from ev (map value_of arguments.now) (map value_of initargs.now) copy.0 (instance_in (value_of current.now)))) (seen world.old) (uses_of world.old) result machine.new (uses_of world.new) }
+    ensures leads { LeadsBy (here machine.old (λ ev env. different_from ev (map value_of arguments.now)
+        (map value_of initargs.now) copy.0 (instance_in (value_of current.now)))) (seen world.old) (uses_of world.old)
+        result machine.new (uses_of world.new) }
     ensures same { seen world.new ≡ seen world.old }
     ensures small { Grows value_weight machine.old.levels result machine.new }
 {
@@ -125,7 +131,9 @@ fn update_to(
     id: InstanceId,
     initargs: &[Value],
 ) -> Result<Doing, Stop>
-    ensures leads { LeadsBy (here machine.old (λ ev env w. different_with ev (map value_of arguments.now) (map value_of initargs.now) id.0 (names_listed (new_slots w copy.0 id.0)) w)) (seen world.old) (uses_of world.old) result machine.new (uses_of world.new) }
+    ensures leads { LeadsBy (here machine.old (λ ev env w. different_with ev (map value_of arguments.now)
+        (map value_of initargs.now) id.0 (names_listed (new_slots w copy.0 id.0)) w)) (seen world.old)
+        (uses_of world.old) result machine.new (uses_of world.new) }
     ensures same { seen world.new ≡ seen world.old }
     ensures small { Grows value_weight machine.old.levels result machine.new }
 {
@@ -164,7 +172,8 @@ fn lacking(
     class: Option<ClassId>,
     names: &[Name],
 ) -> Result<Vec<Name>, AllocError>
-    ensures { IfOk result (λ r. r.items ≡ filter (λ n. not (has_slot (seen world.now).classes (option_map (λ c. c.0) class) n)) names.now) }
+    ensures { IfOk result (λ r. r.items ≡ filter (λ n. not (has_slot (seen world.now).classes
+        (option_map (λ c. c.0) class) n)) names.now) }
 {
     let mut found = Vec::new(alloc);
     let mut left = names;

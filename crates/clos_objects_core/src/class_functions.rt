@@ -28,7 +28,8 @@ pub fn call_class_function(
     function: ClassFunction,
     values: &Values,
 ) -> Result<Doing, Stop>
-    ensures leads { Leads (inside machine.old (λ w. comes_to (class_answer function w.classes (class_of w) values.now) w)) (seen world.now) result machine.new }
+    ensures leads { Leads (inside machine.old (λ w. comes_to (class_answer function w.classes (class_of w) values.now)
+        w)) (seen world.now) result machine.new }
     ensures small { Grows value_weight machine.old.levels result machine.new }
 {
     let _ = machine;
@@ -45,7 +46,8 @@ fn answer(
     function: ClassFunction,
     values: &[Value],
 ) -> Result<Value, Stop>
-    ensures { Tells (class_answer function (seen world.now).classes (class_of (seen world.now)) (map value_of values.now)) result }
+    ensures { Tells (class_answer function (seen world.now).classes (class_of (seen world.now))
+        (map value_of values.now)) result }
 {
     match function {
         ClassFunction::ClassOf => class_of(alloc, world, values),
@@ -129,7 +131,8 @@ fn precedence_of_class(alloc: Global, world: &World, value: &Value) -> Result<Va
 
 /// The class precedence list of a class, if it is complete.
 fn listed_if_complete(alloc: Global, world: &World, id: ClassId) -> Result<Value, Stop>
-    ensures { Tells (listed_if_complete (class_name (seen world.now).classes id.0) (precedence (seen world.now).classes id.0)) result }
+    ensures { Tells (listed_if_complete (class_name (seen world.now).classes id.0)
+        (precedence (seen world.now).classes id.0)) result }
 {
     match world.classes().hierarchy().precedence(id) {
         None => Err(Stop::Refused(incomplete_class(alloc, world, id)?)),
@@ -157,7 +160,8 @@ fn class_values(alloc: Global, ids: &[ClassId]) -> Result<Vec<Value>, AllocError
 
 /// The class of a name; where there is none a condition, or NIL.
 fn class_by_symbol(alloc: Global, world: &World, errorp: bool, value: &Value) -> Result<Value, Stop>
-    ensures { Tells (class_by_symbol (seen world.now).classes errorp (value_of value.now) (symbol_in (value_of value.now))) result }
+    ensures { Tells (class_by_symbol (seen world.now).classes errorp (value_of value.now)
+        (symbol_in (value_of value.now))) result }
 {
     match symbol_in(value)? {
         None => Err(Stop::Refused(wrong_type(alloc, value)?)),
@@ -179,7 +183,8 @@ fn missing(alloc: Global, name: &Name, errorp: bool) -> Result<Value, Stop>
 
 /// Whether the class of a value is the one that a designator names, or has it as a superclass.
 fn of_class(alloc: Global, world: &World, class: ClassId, designator: &Value) -> Result<Value, Stop>
-    ensures { Tells (of_class (seen world.now).classes class.0 (class_designated (seen world.now).classes (value_of designator.now))) result }
+    ensures { Tells (of_class (seen world.now).classes class.0 (class_designated (seen world.now).classes
+        (value_of designator.now))) result }
 {
     match class_designated(alloc, world, designator) {
         Err(stop) => Err(stop),
@@ -206,7 +211,8 @@ fn class_designated(alloc: Global, world: &World, value: &Value) -> Result<Class
 
 /// The class that a symbol names.
 pub fn named_by(alloc: Global, world: &World, value: &Value) -> Result<ClassId, Stop>
-    ensures { Designates (named_by (seen world.now).classes (value_of value.now) (symbol_in (value_of value.now))) result }
+    ensures { Designates (named_by (seen world.now).classes (value_of value.now) (symbol_in (value_of value.now)))
+        result }
 {
     match symbol_in(value)? {
         None => Err(Stop::Refused(wrong_type(alloc, value)?)),

@@ -37,7 +37,8 @@ pub fn call_find_method(
     world: &World,
     values: &Values,
 ) -> Result<Doing, Stop>
-    ensures leads { Leads (inside machine.old (λ w. comes_to (method_answer w.classes w.generics values.now) w)) (seen world.now) result machine.new }
+    ensures leads { Leads (inside machine.old (λ w. comes_to (method_answer w.classes w.generics values.now) w))
+        (seen world.now) result machine.new }
     ensures small { Grows value_weight machine.old.levels result machine.new }
 {
     let _ = machine;
@@ -78,7 +79,8 @@ fn find(
     specializers: &Value,
     errorp: bool,
 ) -> Result<Value, Stop>
-    ensures { Tells (found_method (seen world.now).classes (seen world.now).generics (value_of function.now) (value_of qualifiers.now) (value_of specializers.now) errorp) result }
+    ensures { Tells (found_method (seen world.now).classes (seen world.now).generics (value_of function.now)
+        (value_of qualifiers.now) (value_of specializers.now) errorp) result }
 {
     match function {
         Value::Generic(id) => find_in(alloc, world, *id, qualifiers, specializers, errorp),
@@ -94,7 +96,8 @@ fn find_in(
     specializers: &Value,
     errorp: bool,
 ) -> Result<Value, Stop>
-    ensures { Tells (qualifiers_given (seen world.now).classes (seen world.now).generics id.0 (value_of qualifiers.now) (value_of specializers.now) errorp) result }
+    ensures { Tells (qualifiers_given (seen world.now).classes (seen world.now).generics id.0 (value_of qualifiers.now)
+        (value_of specializers.now) errorp) result }
 {
     match qualifiers {
         Value::List(items) => find_with(alloc, world, id, items, specializers, errorp),
@@ -110,7 +113,8 @@ fn find_with(
     specializers: &Value,
     errorp: bool,
 ) -> Result<Value, Stop>
-    ensures { Tells (specializers_given (seen world.now).classes (seen world.now).generics id.0 qualifiers.now (value_of specializers.now) errorp) result }
+    ensures { Tells (specializers_given (seen world.now).classes (seen world.now).generics id.0 qualifiers.now
+        (value_of specializers.now) errorp) result }
 {
     match specializers {
         Value::List(items) => match designators(alloc, items)? {
@@ -221,7 +225,8 @@ fn find_designated(
     designators: &[Designator],
     errorp: bool,
 ) -> Result<Value, Stop>
-    ensures { Tells (method_with (seen world.now).generics id.0 qualifiers.now errorp (specializers_for (seen world.now).classes (designators_of designators.now))) result }
+    ensures { Tells (method_with (seen world.now).generics id.0 qualifiers.now errorp
+        (specializers_for (seen world.now).classes (designators_of designators.now))) result }
 {
     match specializers_for(alloc, world, designators) {
         Err(stop) => Err(stop),

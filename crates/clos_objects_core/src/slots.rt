@@ -49,7 +49,8 @@ fn two(values: &[Value]) -> Option<(&Value, &Value)>
 
 /// The values, where they are three.
 fn three(values: &[Value]) -> Option<(&Value, &Value, &Value)>
-    ensures { option_map (λ p. (value_of p.0.now, (value_of p.1.now, value_of p.2.now))) result ≡ three_of (map value_of values.now) }
+    ensures { option_map (λ p. (value_of p.0.now, (value_of p.1.now, value_of p.2.now))) result ≡ three_of
+        (map value_of values.now) }
 {
     match values {
         [first, second, third] => Some((first, second, third)),
@@ -103,7 +104,8 @@ fn missing_arguments(
     name: &Name,
     operation: &'static &'static str,
 ) -> Result<Values, AllocError>
-    ensures { IfOk result (λ r. r ≡ class_value (seen world.now) id.0 ∷ instance id.0 ∷ name_value name.now ∷ operation_name operation.now.now ∷ []) }
+    ensures { IfOk result (λ r. r ≡ class_value (seen world.now) id.0 ∷ instance id.0 ∷ name_value name.now ∷
+        operation_name operation.now.now ∷ []) }
 {
     let mut arguments = unbound_arguments(alloc, world, id, name)?;
     arguments.push(Value::Sym(Name::fixed(operation)))?;
@@ -119,7 +121,8 @@ pub fn call_reader(
     values: &[Value],
     steps: &mut u64,
 ) -> Result<Doing, Stop>
-    ensures turns { Turns (here machine.old (λ ev env. read_by ev env slot (map value_of values.now))) (seen world.old) steps.old result machine.new (seen world.new) steps.new }
+    ensures turns { Turns (here machine.old (λ ev env. read_by ev env slot (map value_of values.now))) (seen world.old)
+        steps.old result machine.new (seen world.new) steps.new }
     ensures small { Shrinks act_weight steps.old steps.new machine.old.levels result machine.new }
     ensures fewer { steps.new ≤ steps.old }
     ensures kept { uses_of world.new ≡ uses_of world.old }
@@ -142,7 +145,8 @@ pub fn call_writer(
     values: &[Value],
     steps: &mut u64,
 ) -> Result<Doing, Stop>
-    ensures turns { Turns (here machine.old (λ ev env. written_by ev env slot (map value_of values.now))) (seen world.old) steps.old result machine.new (seen world.new) steps.new }
+    ensures turns { Turns (here machine.old (λ ev env. written_by ev env slot (map value_of values.now)))
+        (seen world.old) steps.old result machine.new (seen world.new) steps.new }
     ensures small { Shrinks act_weight steps.old steps.new machine.old.levels result machine.new }
     ensures fewer { steps.new ≤ steps.old }
     ensures kept { uses_of world.new ≡ uses_of world.old }
@@ -170,7 +174,8 @@ pub fn call_slot_function(
     values: &Values,
     steps: &mut u64,
 ) -> Result<Doing, Stop>
-    ensures turns { Turns (here machine.old (λ ev env. slot_called ev env function values.now)) (seen world.old) steps.old result machine.new (seen world.new) steps.new }
+    ensures turns { Turns (here machine.old (λ ev env. slot_called ev env function values.now)) (seen world.old)
+        steps.old result machine.new (seen world.new) steps.new }
     ensures small { Shrinks act_weight steps.old steps.new machine.old.levels result machine.new }
     ensures fewer { steps.new ≤ steps.old }
     ensures kept { uses_of world.new ≡ uses_of world.old }
@@ -193,7 +198,8 @@ fn answer(
     name: Name,
     steps: &mut u64,
 ) -> Result<Doing, Stop>
-    ensures turns { Turns (here machine.old (λ ev env. slot_asked ev env function id.0 name)) (seen world.old) steps.old result machine.new (seen world.new) steps.new }
+    ensures turns { Turns (here machine.old (λ ev env. slot_asked ev env function id.0 name)) (seen world.old) steps.old
+        result machine.new (seen world.new) steps.new }
     ensures small { Shrinks act_weight steps.old steps.new machine.old.levels result machine.new }
     ensures fewer { steps.new ≤ steps.old }
     ensures kept { uses_of world.new ≡ uses_of world.old }
@@ -218,7 +224,8 @@ fn visit(
     visit: SlotVisit,
     steps: &mut u64,
 ) -> Result<Doing, Stop>
-    ensures turns { Turns (here machine.old (λ ev env. updated ev id.0 (slot_visited ev env id.0 visit))) (seen world.old) steps.old result machine.new (seen world.new) steps.new }
+    ensures turns { Turns (here machine.old (λ ev env. updated ev id.0 (slot_visited ev env id.0 visit)))
+        (seen world.old) steps.old result machine.new (seen world.new) steps.new }
     ensures small { Shrinks act_weight steps.old steps.new machine.old.levels result machine.new }
     ensures fewer { steps.new ≤ steps.old }
     ensures kept { uses_of world.new ≡ uses_of world.old }
@@ -253,7 +260,8 @@ pub fn visit_slot(
     visit: SlotVisit,
     steps: &mut u64,
 ) -> Result<Doing, Stop>
-    ensures turns { Turns (here machine.old (λ ev env. slot_visited ev env id.0 visit)) (seen world.old) steps.old result machine.new (seen world.new) steps.new }
+    ensures turns { Turns (here machine.old (λ ev env. slot_visited ev env id.0 visit)) (seen world.old) steps.old
+        result machine.new (seen world.new) steps.new }
     ensures small { Shrinks act_weight steps.old steps.new machine.old.levels result machine.new }
     ensures fewer { steps.new ≤ steps.old }
     ensures kept { uses_of world.new ≡ uses_of world.old }
@@ -275,7 +283,8 @@ fn read(
     id: InstanceId,
     name: &Name,
 ) -> Result<Doing, Stop>
-    ensures leads { Leads (here machine.now (λ ev env w. slot_read ev env id.0 name.now (slot_found w.store id.0 name.now) w)) (seen world.now) result machine.now }
+    ensures leads { Leads (here machine.now (λ ev env w. slot_read ev env id.0 name.now
+        (slot_found w.store id.0 name.now) w)) (seen world.now) result machine.now }
     ensures small { Grows value_weight machine.now.levels result machine.now }
 {
     let _ = machine;
@@ -303,7 +312,8 @@ fn test(
     id: InstanceId,
     name: &Name,
 ) -> Result<Doing, Stop>
-    ensures leads { Leads (here machine.old (λ ev env w. slot_tested ev env id.0 name.now (slot_found w.store id.0 name.now) w)) (seen world.now) result machine.new }
+    ensures leads { Leads (here machine.old (λ ev env w. slot_tested ev env id.0 name.now
+        (slot_found w.store id.0 name.now) w)) (seen world.now) result machine.new }
     ensures small { Grows value_weight machine.old.levels result machine.new }
 {
     match world.store().slot(id, name) {
@@ -322,7 +332,8 @@ fn test(
 
 /// Whether the class of an instance has such a slot.
 fn exists(machine: &Machine, world: &World, id: InstanceId, name: &Name) -> Doing
-    ensures leads { Leads (inside machine.now (λ w s. Gave (truth (has_slot w.classes (class_of_instance w id.0) name.now)) w s)) (seen world.now) (Ok result) machine.now }
+    ensures leads { Leads (inside machine.now (λ w s. Gave (truth (has_slot w.classes (class_of_instance w id.0)
+        name.now)) w s)) (seen world.now) (Ok result) machine.now }
     ensures small { Grows value_weight machine.now.levels (Ok result) machine.now }
 {
     let _ = machine;
@@ -349,7 +360,9 @@ fn change(
     given: Value,
     steps: &mut u64,
 ) -> Result<Doing, Stop>
-    ensures turns { Turns (here machine.old (λ ev env w. slot_changed ev env id.0 name (option_map value_of value) (value_of given) (slot_found w.store id.0 name) w)) (seen world.old) steps.old result machine.new (seen world.new) steps.new }
+    ensures turns { Turns (here machine.old (λ ev env w. slot_changed ev env id.0 name (option_map value_of value)
+        (value_of given) (slot_found w.store id.0 name) w)) (seen world.old) steps.old result machine.new
+        (seen world.new) steps.new }
     ensures small { Grows value_weight machine.old.levels result machine.new }
     ensures fewer { steps.new ≤ steps.old }
     ensures kept { uses_of world.new ≡ uses_of world.old }
@@ -376,7 +389,8 @@ fn change_missing(
     value: Option<Value>,
     given: Value,
 ) -> Result<Doing, Stop>
-    ensures leads { Leads (here machine.old (λ ev env. slot_changed ev env id.0 name.now (option_map value_of value) (value_of given) None)) (seen world.now) result machine.new }
+    ensures leads { Leads (here machine.old (λ ev env. slot_changed ev env id.0 name.now (option_map value_of value)
+        (value_of given) None)) (seen world.now) result machine.new }
     ensures small { Grows value_weight machine.old.levels result machine.new }
 {
     match changed_arguments(alloc, world, id, name, value) {
@@ -422,7 +436,8 @@ pub fn set_slot_value(
     values: &Values,
     steps: &mut u64,
 ) -> Result<Doing, Stop>
-    ensures turns { Turns (here machine.old (λ ev env. slot_set ev env values.now)) (seen world.old) steps.old result machine.new (seen world.new) steps.new }
+    ensures turns { Turns (here machine.old (λ ev env. slot_set ev env values.now)) (seen world.old) steps.old result
+        machine.new (seen world.new) steps.new }
     ensures small { Shrinks act_weight steps.old steps.new machine.old.levels result machine.new }
     ensures fewer { steps.new ≤ steps.old }
     ensures kept { uses_of world.new ≡ uses_of world.old }

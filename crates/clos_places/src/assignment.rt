@@ -27,7 +27,8 @@ use std::alloc::Global;
 
 /// The variable of a `setq` form at this place, and the next place.
 fn target(form: &Form, place: usize) -> Option<(&Name, usize)>
-    ensures { MatchOption result (drop place (targets (operator_in form.now)) ≡ []) (λ p. drop place (targets (operator_in form.now)) ≡ p.0.now ∷ drop p.1 (targets (operator_in form.now))) }
+    ensures { MatchOption result (drop place (targets (operator_in form.now)) ≡ [])
+        (λ p. drop place (targets (operator_in form.now)) ≡ p.0.now ∷ drop p.1 (targets (operator_in form.now))) }
 {
     match form.operator() {
         Operator::Setq(names) => next_of(names.as_slice(), place),
@@ -54,7 +55,8 @@ pub fn set_next(
     forms: &Forms,
     value: Value,
 ) -> Result<Doing, Stop>
-    ensures leads { Does (λ ev env. setq ev env (drop place (targets (operator_in form.now))) forms.now (value_of value)) machine.old result machine.new }
+    ensures leads { Does (λ ev env. setq ev env (drop place (targets (operator_in form.now))) forms.now
+        (value_of value)) machine.old result machine.new }
     ensures small { Grows (follow_growth + waiting_weight) machine.old.levels result machine.new }
 {
     match target(form, place) {
@@ -73,9 +75,9 @@ fn set_target(
     next: usize,
     forms: &Forms,
 ) -> Result<Doing, Stop>
-    ensures leads { (run : Run) (w : State) (v : Val)
-        → ((t : ℕ) → setq (meaning machine.old.room) machine.old.context (name.now ∷ drop next (targets (operator_in form.now))) forms.now v (at machine.old w) t ≡ run (at machine.old w) t)
-        → Leads (inside machine.old run) w result machine.new }
+    ensures leads { (run : Run) (w : State) (v : Val) → ((t : ℕ) → setq (meaning machine.old.room) machine.old.context
+        (name.now ∷ drop next (targets (operator_in form.now))) forms.now v (at machine.old w) t ≡ run
+        (at machine.old w) t) → Leads (inside machine.old run) w result machine.new }
     ensures small { Grows (follow_growth + waiting_weight) machine.old.levels result machine.new }
 {
     match forms.split_first() {
@@ -113,9 +115,9 @@ pub fn set_next_place(
 /// A place gets the value of the first of these forms, and then the next place its own.
 #[tactic(auto, using(clos_machine::proofs::Turns::stopped_through))]
 fn set_pair(alloc: Global, machine: &mut Machine, place: &Form, rest: &Forms) -> Result<Doing, Stop>
-    ensures leads { (run : Run) (w : State) (v : Val)
-        → ((t : ℕ) → setf (meaning machine.old.room) machine.old.context (cons place.now rest.now) v (at machine.old w) t ≡ run (at machine.old w) t)
-        → Leads (inside machine.old run) w result machine.new }
+    ensures leads { (run : Run) (w : State) (v : Val) → ((t : ℕ) → setf (meaning machine.old.room) machine.old.context
+        (cons place.now rest.now) v (at machine.old w) t ≡ run (at machine.old w) t) → Leads (inside machine.old run) w
+        result machine.new }
     ensures small { Grows (follow_growth + waiting_weight) machine.old.levels result machine.new }
 {
     match rest.split_first() {
@@ -143,7 +145,8 @@ fn set_place(
     form: &Form,
     others: &Forms,
 ) -> Result<Doing, Stop>
-    ensures leads { Does (λ ev env u k. then_do (assigned ev env (place_in (operator_in place.now)) (parts_in place.now) form.now u k) (λ u. setf ev env others.now u)) machine.old result machine.new }
+    ensures leads { Does (λ ev env u k. then_do (assigned ev env (place_in (operator_in place.now)) (parts_in place.now)
+        form.now u k) (λ u. setf ev env others.now u)) machine.old result machine.new }
     ensures small { Grows (follow_growth + waiting_weight) machine.old.levels result machine.new }
 {
     match place_named(place.operator()) {
@@ -161,7 +164,8 @@ fn set_to(
     form: &Form,
     others: &Forms,
 ) -> Result<Doing, Stop>
-    ensures leads { Does (λ ev env u k. then_do (assigned ev env (Some (place_of place.now)) parts.now form.now u k) (λ u. setf ev env others.now u)) machine.old result machine.new }
+    ensures leads { Does (λ ev env u k. then_do (assigned ev env (Some (place_of place.now)) parts.now form.now u k)
+        (λ u. setf ev env others.now u)) machine.old result machine.new }
     ensures small { Grows (follow_growth + waiting_weight) machine.old.levels result machine.new }
 {
     match place {
@@ -183,7 +187,8 @@ fn set_variable(
     form: &Form,
     others: &Forms,
 ) -> Result<Doing, Stop>
-    ensures leads { Does (λ ev env u k. then_do (collected ev env (alone form.now) (Store name.now) u k) (λ u. setf ev env others.now u)) machine.old result machine.new }
+    ensures leads { Does (λ ev env u k. then_do (collected ev env (alone form.now) (Store name.now) u k)
+        (λ u. setf ev env others.now u)) machine.old result machine.new }
     ensures small { Grows (follow_growth + waiting_weight) machine.old.levels result machine.new }
 {
     let value = form.copy()?;
@@ -202,7 +207,8 @@ fn set_through(
     form: &Form,
     others: &Forms,
 ) -> Result<Doing, Stop>
-    ensures leads { Does (λ ev env u k. then_do (collected ev env parts.now (NewValue target form.now) u k) (λ u. setf ev env others.now u)) machine.old result machine.new }
+    ensures leads { Does (λ ev env u k. then_do (collected ev env parts.now (NewValue target form.now) u k)
+        (λ u. setf ev env others.now u)) machine.old result machine.new }
     ensures small { Grows (follow_growth + waiting_weight) machine.old.levels result machine.new }
 {
     match parts.split_first() {
@@ -219,7 +225,8 @@ fn set_alone(
     form: &Form,
     others: &Forms,
 ) -> Result<Doing, Stop>
-    ensures leads { Does (λ ev env u k. then_do (collected ev env nil (NewValue target form.now) u k) (λ u. setf ev env others.now u)) machine.old result machine.new }
+    ensures leads { Does (λ ev env u k. then_do (collected ev env nil (NewValue target form.now) u k)
+        (λ u. setf ev env others.now u)) machine.old result machine.new }
     ensures small { Grows (follow_growth + waiting_weight) machine.old.levels result machine.new }
 {
     let value = form.copy()?;
@@ -237,7 +244,8 @@ fn set_after(
     form: &Form,
     others: &Forms,
 ) -> Result<Doing, Stop>
-    ensures leads { Does (λ ev env u k. then_do (collected ev env (cons first.now rest.now) (NewValue target form.now) u k) (λ u. setf ev env others.now u)) machine.old result machine.new }
+    ensures leads { Does (λ ev env u k. then_do (collected ev env (cons first.now rest.now) (NewValue target form.now) u
+        k) (λ u. setf ev env others.now u)) machine.old result machine.new }
     ensures small { Grows (follow_growth + waiting_weight) machine.old.levels result machine.new }
 {
     let form = form.copy()?;
@@ -254,7 +262,8 @@ fn set_by(
     rest: &Forms,
     others: &Forms,
 ) -> Result<Doing, Stop>
-    ensures leads { Does (λ ev env u k. then_do (collected ev env (cons first.now rest.now) (NewValue target form) u k) (λ u. setf ev env others.now u)) machine.old result machine.new }
+    ensures leads { Does (λ ev env u k. then_do (collected ev env (cons first.now rest.now) (NewValue target form) u k)
+        (λ u. setf ev env others.now u)) machine.old result machine.new }
     ensures small { Grows (follow_growth + waiting_weight) machine.old.levels result machine.new }
 {
     let next = first.copy()?;
@@ -299,7 +308,8 @@ fn change_place(
     parts: &Forms,
     amount: &Forms,
 ) -> Result<Doing, Stop>
-    ensures leads { Does (λ ev env. changed_by ev env primitive (place_in (operator_of operator.now)) parts.now amount.now) machine.old result machine.new }
+    ensures leads { Does (λ ev env. changed_by ev env primitive (place_in (operator_of operator.now)) parts.now
+        amount.now) machine.old result machine.new }
     ensures small { Grows form_growth machine.old.levels result machine.new }
 {
     match place_named(operator) {
@@ -317,7 +327,8 @@ fn change_named(
     parts: &Forms,
     amount: &Forms,
 ) -> Result<Doing, Stop>
-    ensures leads { Does (λ ev env. changed_by ev env primitive (Some (place_of place.now)) parts.now amount.now) machine.old result machine.new }
+    ensures leads { Does (λ ev env. changed_by ev env primitive (Some (place_of place.now)) parts.now amount.now)
+        machine.old result machine.new }
     ensures small { Grows form_growth machine.old.levels result machine.new }
 {
     match place {
@@ -344,7 +355,8 @@ fn change_through(
     parts: &Forms,
     amount: &Forms,
 ) -> Result<Doing, Stop>
-    ensures leads { Does (λ ev env. collected ev env parts.now (Amount primitive target amount.now)) machine.old result machine.new }
+    ensures leads { Does (λ ev env. collected ev env parts.now (Amount primitive target amount.now)) machine.old result
+        machine.new }
     ensures small { Grows form_growth machine.old.levels result machine.new }
 {
     let action = Action::Amount(primitive, target, amount.copy()?);
@@ -358,7 +370,8 @@ pub fn with_amount(
     amount: &Forms,
     mut values: Values,
 ) -> Result<Doing, Stop>
-    ensures leads { Does (λ ev env. with_amount ev env amount.now values (acted ev env action)) machine.old result machine.new }
+    ensures leads { Does (λ ev env. with_amount ev env amount.now values (acted ev env action)) machine.old result
+        machine.new }
     ensures small { Grows (collect_weight action) machine.old.levels result machine.new }
 {
     match amount.split_first() {
@@ -382,7 +395,8 @@ pub fn change_from(
     amount: Value,
     old: Value,
 ) -> Result<Doing, Stop>
-    ensures leads { (w : State) → Leads (here machine.old (λ ev env. changed_from ev env primitive (access_of target) values (value_of amount) (value_of old))) w result machine.new }
+    ensures leads { (w : State) → Leads (here machine.old (λ ev env. changed_from ev env primitive (access_of target)
+        values (value_of amount) (value_of old))) w result machine.new }
     ensures small { Grows (waiting_weight + act_weight) machine.old.levels result machine.new }
 {
     let made = combine(alloc, primitive, &old, &amount);
@@ -401,7 +415,8 @@ fn set_changed(
     mut values: Values,
     value: Value,
 ) -> Result<Doing, Stop>
-    ensures leads { (w : State) → Leads (here machine.old (λ ev env. set_place ev env (access_of target) values (value_of value))) w result machine.new }
+    ensures leads { (w : State) → Leads (here machine.old (λ ev env. set_place ev env (access_of target) values
+        (value_of value))) w result machine.new }
     ensures small { Grows (waiting_weight + act_weight) machine.old.levels result machine.new }
 {
     let given = value.copy()?;
@@ -419,7 +434,8 @@ fn store(
     value: Value,
     steps: &mut u64,
 ) -> Result<Doing, Stop>
-    ensures turns { Turns (inside machine.old (stored name.now (value_of value))) (seen world.old) steps.old result machine.new (seen world.new) steps.new }
+    ensures turns { Turns (inside machine.old (stored name.now (value_of value))) (seen world.old) steps.old result
+        machine.new (seen world.new) steps.new }
     ensures small { Grows value_weight machine.old.levels result machine.new }
     ensures fewer { steps.new ≤ steps.old }
     ensures kept { uses_of world.new ≡ uses_of world.old }
@@ -442,7 +458,8 @@ fn store_globally(
     steps: &mut u64,
 ) -> Result<Doing, Stop>
     requires { value_of given ≡ value_of value }
-    ensures turns { Turns (inside machine.now (stored_globally name.now (value_of value))) (seen world.old) steps.old result machine.now (seen world.new) steps.new }
+    ensures turns { Turns (inside machine.now (stored_globally name.now (value_of value))) (seen world.old) steps.old
+        result machine.now (seen world.new) steps.new }
     ensures small { Grows value_weight machine.now.levels result machine.now }
     ensures fewer { steps.new ≤ steps.old }
     ensures kept { uses_of world.new ≡ uses_of world.old }
@@ -472,7 +489,8 @@ pub fn store_only(
     values: &Values,
     steps: &mut u64,
 ) -> Result<Doing, Stop>
-    ensures turns { Turns (inside machine.old (stored_only name.now (only_value values.now))) (seen world.old) steps.old result machine.new (seen world.new) steps.new }
+    ensures turns { Turns (inside machine.old (stored_only name.now (only_value values.now))) (seen world.old) steps.old
+        result machine.new (seen world.new) steps.new }
     ensures small { Grows value_weight machine.old.levels result machine.new }
     ensures fewer { steps.new ≤ steps.old }
     ensures kept { uses_of world.new ≡ uses_of world.old }
@@ -493,7 +511,8 @@ pub fn change_only(
     values: &Values,
     steps: &mut u64,
 ) -> Result<Doing, Stop>
-    ensures turns { Turns (inside machine.old (changed_only primitive name.now (only_value values.now))) (seen world.old) steps.old result machine.new (seen world.new) steps.new }
+    ensures turns { Turns (inside machine.old (changed_only primitive name.now (only_value values.now)))
+        (seen world.old) steps.old result machine.new (seen world.new) steps.new }
     ensures small { Grows value_weight machine.old.levels result machine.new }
     ensures fewer { steps.new ≤ steps.old }
     ensures kept { uses_of world.new ≡ uses_of world.old }
@@ -513,7 +532,8 @@ fn change_by_value(
     amount: &Value,
     steps: &mut u64,
 ) -> Result<Doing, Stop>
-    ensures turns { Turns (inside machine.old (changed primitive name.now (value_of amount.now))) (seen world.old) steps.old result machine.new (seen world.new) steps.new }
+    ensures turns { Turns (inside machine.old (changed primitive name.now (value_of amount.now))) (seen world.old)
+        steps.old result machine.new (seen world.new) steps.new }
     ensures small { Grows value_weight machine.old.levels result machine.new }
     ensures fewer { steps.new ≤ steps.old }
     ensures kept { uses_of world.new ≡ uses_of world.old }

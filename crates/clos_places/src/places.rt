@@ -30,7 +30,8 @@ pub fn new_value(
     form: &Form,
     values: Values,
 ) -> Result<Doing, Stop>
-    ensures leads { Does (λ ev env. collect ev env (alone form.now) values (λ vs u k. place_set ev env (access_of target) vs u k)) machine.old result machine.new }
+    ensures leads { Does (λ ev env. collect ev env (alone form.now) values
+        (λ vs u k. place_set ev env (access_of target) vs u k)) machine.old result machine.new }
     ensures small { Grows value_weight machine.old.levels result machine.new }
 {
     let next = form.copy()?;
@@ -60,7 +61,8 @@ pub fn change_place(
     target: Target,
     mut values: Values,
 ) -> Result<Doing, Stop>
-    ensures leads { Does (λ ev env. changed_place ev env primitive (access_of target) (last_first values)) machine.old result machine.new }
+    ensures leads { Does (λ ev env. changed_place ev env primitive (access_of target) (last_first values)) machine.old
+        result machine.new }
     ensures small { Grows (changed_weight + act_weight) machine.old.levels result machine.new }
 {
     match values.take_last() {
@@ -78,7 +80,8 @@ fn change_by(
     values: Values,
     amount: Value,
 ) -> Result<Doing, Stop>
-    ensures leads { Does (λ ev env. changed_place ev env primitive (access_of target) (value_of amount ∷ values)) machine.old result machine.new }
+    ensures leads { Does (λ ev env. changed_place ev env primitive (access_of target) (value_of amount ∷ values))
+        machine.old result machine.new }
     ensures small { Grows (changed_weight + act_weight) machine.old.levels result machine.new }
 {
     let Ok(read) = copy_target(&target) else {
@@ -103,7 +106,8 @@ pub fn set_name(
     values: Values,
     steps: &mut u64,
 ) -> Result<Doing, Stop>
-    ensures turns { Turns (here machine.old (λ ev env w. name_set ev env name.now (place_denoted w name.now) values w)) (seen world.old) steps.old result machine.new (seen world.new) steps.new }
+    ensures turns { Turns (here machine.old (λ ev env w. name_set ev env name.now (place_denoted w name.now) values w))
+        (seen world.old) steps.old result machine.new (seen world.new) steps.new }
     ensures small { Grows act_weight machine.old.levels result machine.new }
     ensures fewer { steps.new ≤ steps.old }
     ensures kept { uses_of world.new ≡ uses_of world.old }
@@ -128,7 +132,8 @@ pub fn change_name(
     values: Values,
     steps: &mut u64,
 ) -> Result<Doing, Stop>
-    ensures turns { Turns (here machine.old (λ ev env w. name_changed ev env primitive name.now (place_denoted w name.now) values w)) (seen world.old) steps.old result machine.new (seen world.new) steps.new }
+    ensures turns { Turns (here machine.old (λ ev env w. name_changed ev env primitive name.now
+        (place_denoted w name.now) values w)) (seen world.old) steps.old result machine.new (seen world.new) steps.new }
     ensures small { Grows (action_weight (ChangePlace primitive SlotValue)) machine.old.levels result machine.new }
     ensures fewer { steps.new ≤ steps.old }
     ensures kept { uses_of world.new ≡ uses_of world.old }

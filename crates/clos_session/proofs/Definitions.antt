@@ -1,4 +1,4 @@
--- A definition that is refused defines nothing, and neither does any other form.
+-- A definition that is refused defines nothing, and neither does any other form. What was written before it stays.
 use Rattle.std.proofs.Common.{ℕ, zero, suc, List, [], ◌∷◌, ◌++◌, Option, Some, None, Result, Ok, Err, Bool, true, false, length, map, subst}
 use Rattle.std.specs.Prelude.{⊤, ℤ, option_map, ◌||◌, is_some, if◌then◌else◌}
 use Rattle.lisp_data.specs.Datum.{Dat}
@@ -15,7 +15,7 @@ use Rattle.clos_top.specs.clos_syntax.declared.method.MethodDefinition.{MethodDe
 use Rattle.clos_top.specs.declared.top.Top.{Top}
 use Rattle.clos_top.specs.declared.top.Top.TheVariants.{DefClass, DefGeneric, DefMethod, DefCombination, Defun, DefVar, RemoveMethod, AddDependent, RemoveDependent, InPackage, Expr}
 use Rattle.clos_top.specs.clos_syntax.declared.variable.VariableDefinition.{VariableDefinition}
-use Rattle.clos_definition_forms.specs.clos_world.Definitions.{Same}
+use Rattle.clos_definition_forms.specs.clos_machine.clos_meaning.Output.{WritesMore}
 use Rattle.clos_definition_forms.specs.clos_world.Functions.{function_in}
 use Rattle.clos_definition_forms.specs.clos_world.Globals.{is_global}
 use Rattle.clos_definition_forms.specs.clos_world.World.{State}
@@ -28,9 +28,9 @@ use Rattle.clos_definition_forms.specs.clos_definition.Method.{eql_form, method_
 use Rattle.clos_definition_forms.specs.clos_definition.Removal.{concerned_by_removal, removable, with_removed}
 use Rattle.clos_definition_forms.specs.clos_machine.clos_meaning.Host.{Host, answered_by, may_answer}
 use Rattle.clos_definition_forms.specs.clos_machine.clos_meaning.Meaning.{evaluation}
-use Rattle.clos_definition_forms.specs.clos_machine.clos_meaning.Outcome.{Asked, End, Given, Looked, Noted, Out, Gave, Signalled, Stopped, Run, changed, then_do, step_then, stopped}
+use Rattle.clos_definition_forms.specs.clos_machine.clos_meaning.Outcome.{Asked, End, Given, Looked, Noted, Out, Gave, Signalled, Stopped, Run, then_do, step_then, stopped, took_effect}
 use Rattle.clos_definition_forms.specs.clos_world.clos_cache.Cache as of_calls
-use Rattle.clos_definition_forms.proofs.clos_machine.clos_meaning.Kept.{same, same_then, SameAfter, evaluation_kept}
+use Rattle.clos_definition_forms.proofs.clos_machine.clos_meaning.Kept.{Follows, SameAfter, evaluation_kept, follows_then, nothing_written, stays, writes_then}
 use Rattle.clos_definition_forms.specs.Definition.{class_made, define_class, define_generic, define_method, generic_made, method_made, remove_method, removed_if, takes_effect, unless, value_at, values_removed}
 use Rattle.clos_definition_forms.specs.lisp_prims.Primitive.{truth}
 use Rattle.clos_definition_forms.specs.Dependents.{change_dependents, changed_if, values_watched, watched, with_change}
@@ -50,25 +50,25 @@ use Rattle.clos_definition_forms.specs.Variable.{admits, room_below, keeps_value
 use Rattle.clos_session.specs.declared.session.Reply.{Reply}
 use Rattle.clos_session.specs.declared.session.Reply.TheVariants.{Value, Condition as a_condition, Storage}
 
--- where a form is refused, the definitions are those before
+-- what was written stays, and where a form is refused, the definitions are those before
 
 abbrev Refuses : State → Out → Type 0
-Refuses w (Gave v u k) = ⊤
-Refuses w (Stopped c u k) = Same w u
+Refuses w (Gave v u k) = WritesMore w u
+Refuses w (Stopped c u k) = Follows w u
 Refuses w (Noted n o) = Refuses w o
 Refuses w (Looked name more) = (n : Option ℕ) → Refuses w (more n)
 Refuses w (Asked name xs more) = (x : ℤ) → Refuses w (more x)
 
 kept_refuses : (w : State) (o : Out) → SameAfter w o → Refuses w o
-kept_refuses w (Gave v u k) h = tt
+kept_refuses w (Gave v u k) h = h.1
 kept_refuses w (Stopped c u k) h = h
 kept_refuses w (Noted n o) h = kept_refuses w o h
 kept_refuses w (Looked name more) h = λ n. kept_refuses w (more n) (h n)
 kept_refuses w (Asked name xs more) h = λ x. kept_refuses w (more x) (h x)
 
-shifted_refuses : (w u : State) (o : Out) → Same w u → Refuses u o → Refuses w o
-shifted_refuses w u (Gave v t k) h g = tt
-shifted_refuses w u (Stopped c t k) h g = same_then w u t h g
+shifted_refuses : (w u : State) (o : Out) → Follows w u → Refuses u o → Refuses w o
+shifted_refuses w u (Gave v t k) h g = writes_then w u t h.1 g
+shifted_refuses w u (Stopped c t k) h g = follows_then w u t h g
 shifted_refuses w u (Noted n o) h g = shifted_refuses w u o h g
 shifted_refuses w u (Looked name more) h g = λ n. shifted_refuses w u (more n) h (g n)
 shifted_refuses w u (Asked name xs more) h g = λ x. shifted_refuses w u (more x) h (g x)
@@ -78,12 +78,12 @@ choice_refuses true w x y h g = h
 choice_refuses false w x y h g = g
 
 step_refuses : (run : Run) (w : State) (k : ℕ) → ((j : ℕ) → Refuses w (run w j)) → Refuses w (step_then run w k)
-step_refuses run w zero h = same w
+step_refuses run w zero h = stays w
 step_refuses run w (suc k) h = h k
 
 unless_refuses : (o : Option Condition) (go : Run) (w : State) (k : ℕ) → Refuses w (go w k) → Refuses w (unless o go w k)
 unless_refuses None go w k h = h
-unless_refuses (Some c) go w k h = same w
+unless_refuses (Some c) go w k h = stays w
 
 -- ---- forms, and then what defines nothing
 
@@ -108,38 +108,39 @@ forms_refuse (f ∷ fs) vs go w k g =
 
 -- ---- the definition forms
 
-effect_refuses : (o : Option Condition) (cs : List of_calls.Change) (v : Val) (u w : State) (k : ℕ) → Refuses w (unless o (takes_effect cs v u) w k)
-effect_refuses o cs v u w k = unless_refuses o (takes_effect cs v u) w k (step_refuses (λ x j. Noted (changed x cs) (Gave v u j)) w k (λ j. tt))
+effect_refuses : (o : Option Condition) (cs : List of_calls.Change) (v : Val) (u w : State) (k : ℕ) → WritesMore w u
+    → Refuses w (unless o (takes_effect cs v u) w k)
+effect_refuses o cs v u w k h = unless_refuses o (takes_effect cs v u) w k (step_refuses (λ x j. Noted (took_effect x cs) (Gave v u j)) w k (λ j. h))
 
 method_refuses : (name : FunctionName) (m : MethodDefinition) (w : State) (k : ℕ) → Refuses w (define_method name m w k)
 method_refuses name m w k =
     unless_refuses (method_refusal name m None w) (forms_evaluated (map eql_form m.specializers) [] (method_made name m)) w k
     (forms_refuse (map eql_form m.specializers) [] (method_made name m) w k
-    (λ vs u j. effect_refuses (method_refusal name m (Some vs) u) (method_concerned name m vs u) (method (length u.generics.methods)) (with_defined_method name m vs u) u j))
+    (λ vs u j. effect_refuses (method_refusal name m (Some vs) u) (method_concerned name m vs u) (method (length u.generics.methods)) (with_defined_method name m vs u) u j (nothing_written u)))
 
 generic_refuses : (d : GenericDefinition) (w : State) (k : ℕ) → Refuses w (define_generic d w k)
 generic_refuses d w k =
     unless_refuses (generic_refusal d None w) (forms_evaluated (eql_forms d.methods) [] (generic_made d)) w k
     (forms_refuse (eql_forms d.methods) [] (generic_made d) w k
-    (λ vs u j. effect_refuses (generic_refusal d (Some vs) u) (generic_concerned d vs u) (generic (number u.generics d.name)) (with_defined_generic d vs u) u j))
+    (λ vs u j. effect_refuses (generic_refusal d (Some vs) u) (generic_concerned d vs u) (generic (number u.generics d.name)) (with_defined_generic d vs u) u j (nothing_written u)))
 
 class_refuses : (d : ClassDefinition) (w : State) (k : ℕ) → Refuses w (define_class d w k)
 class_refuses d w k =
     unless_refuses (class_refusal d (length (cells_needed d w)) w) (forms_evaluated (initforms (cells_needed d w)) [] (class_made d)) w k
     (forms_refuse (initforms (cells_needed d w)) [] (class_made d) w k
-    (λ vs u j. effect_refuses (class_refusal d (length vs) u) (class_concerned d vs u) (class (class_number d u)) (with_defined_class d vs u) u j))
+    (λ vs u j. effect_refuses (class_refusal d (length vs) u) (class_concerned d vs u) (class (class_number d u)) (with_defined_class d vs u) u j (nothing_written u)))
 
 removed_refuses : (v : Val) (r : Result (ℕ × ℕ) Condition) (w : State) (k : ℕ) → Refuses w (removed_if v r w k)
-removed_refuses v (Err c) w k = same w
-removed_refuses v (Ok p) w k = step_refuses (λ x j. Noted (changed x (concerned_by_removal p.0 p.1 w.generics)) (Gave v (with_removed p.0 p.1 w) j)) w k (λ j. tt)
+removed_refuses v (Err c) w k = stays w
+removed_refuses v (Ok p) w k = step_refuses (λ x j. Noted (took_effect x (concerned_by_removal p.0 p.1 w.generics)) (Gave v (with_removed p.0 p.1 w) j)) w k (λ j. nothing_written w)
 
 removal_refuses : (f m : Form) (w : State) (k : ℕ) → Refuses w (remove_method f m w k)
 removal_refuses f m w k =
     forms_refuse (Some f ∷ Some m ∷ []) [] values_removed w k (λ vs u j. removed_refuses (value_at vs 0) (removable (value_at vs 0) (value_at vs 1)) u j)
 
 changed_refuses : (c : Change) (r : Result (Metaobject × ℕ) Condition) (w : State) (k : ℕ) → Refuses w (changed_if c r w k)
-changed_refuses c (Err e) w k = same w
-changed_refuses c (Ok p) w k = step_refuses (λ x j. Gave (truth true) (with_change c p.0 p.1 w) j) w k (λ j. tt)
+changed_refuses c (Err e) w k = stays w
+changed_refuses c (Ok p) w k = step_refuses (λ x j. Gave (truth true) (with_change c p.0 p.1 w) j) w k (λ j. nothing_written w)
 
 change_refuses : (c : Change) (m d : Form) (w : State) (k : ℕ) → Refuses w (change_dependents c m d w k)
 change_refuses c m d w k =
@@ -148,19 +149,19 @@ change_refuses c m d w k =
 
 function_refuses : (name : FunctionName) (f : Function) (w : State) (k : ℕ) → Refuses w (define_function name f w k)
 function_refuses (Symbol name) f w k =
-    choice_refuses (is_some (generic_named w.generics (Symbol name))) w _ _ (same w)
+    choice_refuses (is_some (generic_named w.generics (Symbol name))) w _ _ (stays w)
     (choice_refuses (is_some (function_in w.functions name) || has_room w) w (step_then (function_defined name f) w k) _
-    (step_refuses (function_defined name f) w k (λ j. tt)) (same w))
+    (step_refuses (function_defined name f) w k (λ j. nothing_written w)) (stays w))
 function_refuses (Setf name) f w k =
-    choice_refuses (is_some (generic_named w.generics (Setf name))) w _ _ (same w)
+    choice_refuses (is_some (generic_named w.generics (Setf name))) w _ _ (stays w)
     (choice_refuses (is_some (function_in w.setters name) || has_room w) w (step_then (setter_defined name f) w k) _
-    (step_refuses (setter_defined name f) w k (λ j. tt)) (same w))
+    (step_refuses (setter_defined name f) w k (λ j. nothing_written w)) (stays w))
 
 combination_refuses : (d : CombinationDefinition) (w : State) (k : ℕ) → Refuses w (define_combination d w k)
 combination_refuses d w k =
-    choice_refuses (is_predefined (name_of d)) w _ _ (same w)
+    choice_refuses (is_predefined (name_of d)) w _ _ (stays w)
     (choice_refuses (combinations.has_room w.combinations (name_of d)) w (step_then (combination_defined d) w k) _
-    (step_refuses (combination_defined d) w k (λ j. tt)) (same w))
+    (step_refuses (combination_defined d) w k (λ j. nothing_written w)) (stays w))
 
 -- ---- variables
 
@@ -174,15 +175,15 @@ then_step_refuses w (Gave v u zero) go h g = h
 then_step_refuses w (Gave v u (suc k)) go h g = shifted_refuses w u (go v u k) h (g v u k)
 
 value_refuses : (name : Name) (o : Option Form) (w : State) (k : ℕ) → Refuses w (new_value name o w k)
-value_refuses name None w k = step_refuses (declared name) w k (λ j. choice_refuses (is_global w.globals name) w _ _ tt tt)
+value_refuses name None w k = step_refuses (declared name) w k (λ j. choice_refuses (is_global w.globals name) w _ _ (nothing_written w) (nothing_written w))
 value_refuses name (Some f) w k =
-    then_step_refuses w (evaluation (room_below w) f w k) (λ v. value_given name v) (evaluation_kept (room_below w) f w k) (λ v u j. tt)
+    then_step_refuses w (evaluation (room_below w) f w k) (λ v. value_given name v) (evaluation_kept (room_below w) f w k) (λ v u j. nothing_written u)
 
 variable_refuses : (d : VariableDefinition) (w : State) (k : ℕ) → Refuses w (variable_defined d w k)
 variable_refuses d w k =
     choice_refuses (admits w d.name) w _ (stopped TableLimit [] w k)
     (choice_refuses (keeps_value w d.definer d.name) w (step_then (defined_name d.name) w k) (new_value d.name d.form w k)
-    (step_refuses (defined_name d.name) w k (λ j. tt)) (value_refuses d.name d.form w k)) (same w)
+    (step_refuses (defined_name d.name) w k (λ j. nothing_written w)) (value_refuses d.name d.form w k)) (stays w)
 
 -- ---- top-level forms
 
@@ -196,28 +197,28 @@ performed_refuses (DefVar d) w k = variable_refuses d w k
 performed_refuses (RemoveMethod function m) w k = removal_refuses function m w k
 performed_refuses (AddDependent m d) w k = change_refuses Add m d w k
 performed_refuses (RemoveDependent m d) w k = change_refuses Remove m d w k
-performed_refuses InPackage w k = tt
+performed_refuses InPackage w k = nothing_written w
 performed_refuses (Expr f) w k = kept_refuses w (evaluation (room_of w) f w k) (evaluation_kept (room_of w) f w k)
 
 checked_refuses : (o : Option Top) (w : State) (k : ℕ) → Refuses w (checked o w k)
-checked_refuses None w k = same w
+checked_refuses None w k = stays w
 checked_refuses (Some top) w k = performed_refuses top w k
 
-step_refused : (d : Dat) (w : State) (k : ℕ) → Refuses w (step d w k)
+pub step_refused : (d : Dat) (w : State) (k : ℕ) → Refuses w (step d w k)
 step_refused d w k = checked_refuses (top_of d) w k
 
--- where it ends with a condition
-abbrev ends_refused : State → Option End → Type 0
+-- .. as it ends with the answers that came
+abbrev pub ends_refused : State → Option End → Type 0
 ends_refused w None = ⊤
-ends_refused w (Some (Given v u k)) = ⊤
-ends_refused w (Some (Signalled c u k)) = Same w u
+ends_refused w (Some (Given v u k)) = WritesMore w u
+ends_refused w (Some (Signalled c u k)) = Follows w u
 
 if_permitted : (w : State) (b : Bool) (o : Option End) → ends_refused w o → ends_refused w (if b then o else None)
 if_permitted w true o h = h
 if_permitted w false o h = tt
 
-answered_refused : (host : Host) (w : State) (o : Out) (xs : List ℤ) → Refuses w o → ends_refused w (answered_by host o xs)
-answered_refused host w (Gave v u k) [] h = tt
+pub answered_refused : (host : Host) (w : State) (o : Out) (xs : List ℤ) → Refuses w o → ends_refused w (answered_by host o xs)
+answered_refused host w (Gave v u k) [] h = h
 answered_refused host w (Gave v u k) (x ∷ xs) h = tt
 answered_refused host w (Stopped c u k) [] h = h
 answered_refused host w (Stopped c u k) (x ∷ xs) h = tt
@@ -233,5 +234,5 @@ pub defines_nothing : (host : Host) (d : Dat) (s : ℕ) (w u : State) (past past
     past' → DefinesNothing r w u
 defines_nothing host d s w u past past' (Value v) h = tt
 defines_nothing host d s w u past past' (a_condition number items) h =
-    subst (ends_refused w) h.5 (answered_refused host w (step d w s) h.2 (step_refused d w s))
+    (subst (ends_refused w) h.5 (answered_refused host w (step d w s) h.2 (step_refused d w s))).0
 defines_nothing host d s w u past past' (Storage k) h = tt

@@ -43,8 +43,8 @@ Silent w (Looked name more) = (n : Option ℕ) → Silent w (more n)
 Silent w (Asked name xs more) = (x : ℤ) → Silent w (more x)
 
 kept_silent : (w : State) (o : Out) → SameAfter w o → Silent w o
-kept_silent w (Gave v u k) h = ap (λ x. x.notices) h.5
-kept_silent w (Stopped c u k) h = ap (λ x. x.notices) h.5
+kept_silent w (Gave v u k) h = ap (λ x. x.notices) h.0.5
+kept_silent w (Stopped c u k) h = ap (λ x. x.notices) h.0.5
 kept_silent w (Noted n o) h = kept_silent w o h
 kept_silent w (Looked name more) h = λ n. kept_silent w (more n) (h n)
 kept_silent w (Asked name xs more) h = λ x. kept_silent w (more x) (h x)

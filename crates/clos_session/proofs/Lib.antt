@@ -1,5 +1,6 @@
 pub mod StepQuiet
-pub mod Asking
 pub mod Definitions
 pub mod Hearing
 pub mod Keeping
+pub mod Writing
+pub use Rattle.clos_definition_forms.proofs.clos_machine as clos_machine

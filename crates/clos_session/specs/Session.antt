@@ -1,7 +1,9 @@
 -- The replies of a session.
 use Rattle.std.specs.Prelude.{◌≡◌, ℕ, ℤ, ◌≤◌, List, ◌++◌, Some}
 use Rattle.lisp_data.specs.ValueView.{value_of}
+use Rattle.clos_definition_forms.specs.clos_world.Uses.{uses_of}
 use Rattle.clos_definition_forms.specs.clos_world.World.{State, seen}
+use Rattle.clos_definition_forms.specs.clos_world.clos_cache.Uses.{Uses}
 use Rattle.clos_definition_forms.specs.clos_machine.Machine.{leaves_by}
 use Rattle.clos_definition_forms.specs.clos_machine.clos_meaning.Host.{Host, answered_by}
 use Rattle.clos_definition_forms.specs.clos_machine.clos_meaning.Outcome.{Run, Given, Signalled}
@@ -20,14 +22,15 @@ state_of s = seen s.world
 abbrev pub answers_of : {N D : Type 0} → Session N D → List ℤ
 answers_of s = s.answers.items
 
--- both of them, and what each dependent has heard, by its place
+-- both of them, what each dependent has heard, by its place, and what is kept of calls, with the count of effective methods
 pub record Standing : Type 0 where
   pub state : State
   pub answers : List ℤ
   pub heard : List (List Notice)
+  pub uses : Uses
 
 abbrev pub standing_of : {N D : Type 0} → List (List Notice) → Session N D → Standing
-standing_of heard s = record { state = state_of s; answers = answers_of s; heard = heard }
+standing_of heard s = record { state = state_of s; answers = answers_of s; heard = heard; uses = uses_of s.world }
 
 -- how many effective methods were worked out in it
 abbrev pub built_of : {N D : Type 0} → Session N D → ℕ

@@ -2,7 +2,7 @@
 ghost use Rattle.std.specs.Prelude.{◌≡◌, [], min, IfOk, Some, option_map, slice_get, unwrap_or};
 ghost use Rattle.lisp_data.specs.DatumView.{datum_of};
 ghost use Rattle.clos_definition_forms.specs.clos_world.World.{seen};
-ghost use Rattle.clos_definition_forms.specs.clos_eval.Host.{AnswersBy};
+ghost use Rattle.clos_definition_forms.specs.clos_eval.Evaluation.{Performs};
 ghost use Rattle.clos_definition_forms.specs.clos_machine.Machine.{AnswersWith};
 ghost use Rattle.clos_session.specs.Step.{checked, step};
 ghost use Rattle.clos_definition_forms.specs.clos_world.Initial.{initial};
@@ -10,11 +10,9 @@ ghost use Rattle.clos_definition_forms.specs.clos_watch.Handed.{place_of};
 ghost use Rattle.clos_definition_forms.specs.Hearing.{Heard};
 ghost use Rattle.clos_session.specs.Definitions.{DefinesNothing};
 ghost use Rattle.clos_session.specs.Session.{answers_of, built_of, state_of, Replies};
-ghost use Rattle.clos_session.specs.Uses.{IsEvaluated, Keeps, session_uses};
+ghost use Rattle.clos_session.specs.Uses.{MakesUses, none_kept, session_uses};
+ghost use Rattle.clos_definition_forms.specs.clos_machine.clos_meaning.Output.{WritesMore};
 ghost use Rattle.clos_definition_forms.specs.clos_machine.Uses.{KeepsBy};
-ghost use Rattle.clos_definition_forms.specs.clos_world.Uses.{uses_of};
-ghost use Rattle.clos_forms.specs.Form.{Form};
-ghost use Rattle.clos_top.specs.declared.top.Top.TheVariants.{Expr};
 
 use clos_definition_forms::{
     Change, ConditionKind, Dependents, Limits, Natives, Notice, Stop, Values, World,
@@ -70,6 +68,7 @@ impl<N: Natives, D: Dependents> Session<N, D> {
     ) -> Result<Session<N, D>, AllocError>
         ensures state { IfOk result (λ s. state_of s ≡ initial limits (D.names dependents)) }
         ensures built { IfOk result (λ s. built_of s ≡ 0) }
+        ensures uses { IfOk result (λ s. session_uses s ≡ none_kept) }
         ensures answers { IfOk result (λ s. answers_of s ≡ []) }
         ensures host { IfOk result (λ s. N.host s.natives ≡ N.host natives) }
         ensures names { IfOk result (λ s. D.names s.dependents ≡ D.names dependents) }
@@ -89,8 +88,8 @@ impl<N: Natives, D: Dependents> Session<N, D> {
     /// What the dependent of this name heard, in order, if the session was handed one: what it had heard before, and then of
     /// each change of a class or a generic function that it was a dependent of.
     pub fn heard(&self, name: &Name) -> Option<&[Notice]>
-        ensures { option_map (λ r. r.now) result ≡ option_map (λ p. unwrap_or (slice_get (D.told self.now.dependents) p) [])
-            (place_of (state_of self.now).hearing.names name.now) }
+        ensures { option_map (λ r. r.now) result ≡ option_map (λ p. unwrap_or (slice_get (D.told self.now.dependents) p)
+            []) (place_of (state_of self.now).hearing.names name.now) }
     {
         match place_of(self.world.hearing.names.as_slice(), name) {
             Some(place) => Some(self.dependents.heard(place)),
@@ -140,14 +139,17 @@ impl<N: Natives, D: Dependents> Session<N, D> {
         &self.world
     }
 
-    /// Performs a top-level form with so many steps, which fall by those that it takes.
+    /// Performs a top-level form with so many steps, which fall by those that it takes. What was written before stays.
     pub fn perform(&mut self, datum: &Datum, steps: &mut u64) -> Result<Value, Stop>
-        ensures answers { AnswersWith (N.host self.old.natives) (step (datum_of datum.now)) (state_of self.old) steps.old
-            (answers_of self.old) result (state_of self.new) steps.new (answers_of self.new) }
-        ensures uses { IsEvaluated (datum_of datum.now) → KeepsBy (N.host self.old.natives) (step (datum_of datum.now)) (state_of self.old)
-            steps.old (answers_of self.old) (session_uses self.old) result steps.new (answers_of self.new) (session_uses self.new) }
-        ensures heard { Heard (D.told self.old.dependents) (state_of self.old) (D.told self.new.dependents) (state_of self.new) }
-        ensures kept { (N.host self.new.natives ≡ N.host self.old.natives) × (D.names self.new.dependents ≡ D.names self.old.dependents) }
+        ensures answers { AnswersWith (N.host self.old.natives) (step (datum_of datum.now)) (state_of self.old)
+            steps.old (answers_of self.old) result (state_of self.new) steps.new (answers_of self.new) }
+        ensures uses { KeepsBy (N.host self.old.natives) (step (datum_of datum.now)) (state_of self.old) steps.old
+            (answers_of self.old) (session_uses self.old) result steps.new (answers_of self.new) (session_uses self.new) }
+        ensures written { WritesMore (state_of self.old) (state_of self.new) }
+        ensures heard { Heard (D.told self.old.dependents) (state_of self.old) (D.told self.new.dependents)
+            (state_of self.new) }
+        ensures kept { (N.host self.new.natives ≡ N.host self.old.natives) ×
+            (D.names self.new.dependents ≡ D.names self.old.dependents) }
     {
         perform(
             self.alloc,
@@ -160,16 +162,20 @@ impl<N: Natives, D: Dependents> Session<N, D> {
         )
     }
 
-    /// Performs a top-level form (HyperSpec 3.1.2.1), and answers as its rules have it. A refused form defines nothing. A form
-    /// that is evaluated works an effective method out where a use finds none that is kept, and keeps it.
+    /// Performs a top-level form (HyperSpec 3.1.2.1), and answers as its rules have it. A refused form defines nothing. Each use
+    /// of a generic function works its effective method out where none is kept, and keeps it; a definition drops those of the
+    /// calls that it concerns, and no others.
     pub fn submit(&mut self, datum: &Datum) -> Reply
-        ensures reply { Replies (N.host self.old.natives) (step (datum_of datum.now)) (state_of self.old).limits.steps (state_of self.old)
-            (answers_of self.old) result (state_of self.new) (answers_of self.new) }
-        ensures uses { IsEvaluated (datum_of datum.now) → Keeps (N.host self.old.natives) (step (datum_of datum.now))
-            (state_of self.old).limits.steps (state_of self.old) (answers_of self.old) (session_uses self.old) result (answers_of self.new)
+        ensures reply { Replies (N.host self.old.natives) (step (datum_of datum.now)) (state_of self.old).limits.steps
+            (state_of self.old) (answers_of self.old) result (state_of self.new) (answers_of self.new) }
+        ensures uses { MakesUses (N.host self.old.natives) (step (datum_of datum.now)) (state_of self.old).limits.steps
+            (state_of self.old) (answers_of self.old) (session_uses self.old) result (answers_of self.new)
             (session_uses self.new) }
-        ensures heard { Heard (D.told self.old.dependents) (state_of self.old) (D.told self.new.dependents) (state_of self.new) }
-        ensures kept { (N.host self.new.natives ≡ N.host self.old.natives) × (D.names self.new.dependents ≡ D.names self.old.dependents) }
+        ensures written { WritesMore (state_of self.old) (state_of self.new) }
+        ensures heard { Heard (D.told self.old.dependents) (state_of self.old) (D.told self.new.dependents)
+            (state_of self.new) }
+        ensures kept { (N.host self.new.natives ≡ N.host self.old.natives) ×
+            (D.names self.new.dependents ≡ D.names self.old.dependents) }
         ensures refused { DefinesNothing result (state_of self.old) (state_of self.new) }
     {
         let limit = self.world.limits.steps;
@@ -180,13 +186,17 @@ impl<N: Natives, D: Dependents> Session<N, D> {
     /// take more, the reply is the condition STEP-LIMIT, and what it did before stays done. So with the steps that a
     /// `Reply::Storage` tells, a session in the same state comes to the state that was left there.
     pub fn submit_within(&mut self, datum: &Datum, steps: u64) -> Reply
-        ensures reply { Replies (N.host self.old.natives) (step (datum_of datum.now)) (min steps (state_of self.old).limits.steps)
-            (state_of self.old) (answers_of self.old) result (state_of self.new) (answers_of self.new) }
-        ensures uses { IsEvaluated (datum_of datum.now) → Keeps (N.host self.old.natives) (step (datum_of datum.now))
-            (min steps (state_of self.old).limits.steps) (state_of self.old) (answers_of self.old) (session_uses self.old) result
-            (answers_of self.new) (session_uses self.new) }
-        ensures heard { Heard (D.told self.old.dependents) (state_of self.old) (D.told self.new.dependents) (state_of self.new) }
-        ensures kept { (N.host self.new.natives ≡ N.host self.old.natives) × (D.names self.new.dependents ≡ D.names self.old.dependents) }
+        ensures reply { Replies (N.host self.old.natives) (step (datum_of datum.now))
+            (min steps (state_of self.old).limits.steps) (state_of self.old) (answers_of self.old) result
+            (state_of self.new) (answers_of self.new) }
+        ensures uses { MakesUses (N.host self.old.natives) (step (datum_of datum.now))
+            (min steps (state_of self.old).limits.steps) (state_of self.old) (answers_of self.old)
+            (session_uses self.old) result (answers_of self.new) (session_uses self.new) }
+        ensures written { WritesMore (state_of self.old) (state_of self.new) }
+        ensures heard { Heard (D.told self.old.dependents) (state_of self.old) (D.told self.new.dependents)
+            (state_of self.new) }
+        ensures kept { (N.host self.new.natives ≡ N.host self.old.natives) ×
+            (D.names self.new.dependents ≡ D.names self.old.dependents) }
         ensures refused { DefinesNothing result (state_of self.old) (state_of self.new) }
     {
         let budget = steps.min(self.world.limits.steps);
@@ -205,7 +215,7 @@ impl<N: Natives, D: Dependents> Session<N, D> {
 }
 
 /// Performs a top-level form with so many steps.
-#[tactic(auto, using(crate::proofs::Asking::asks_nothing))]
+#[tactic(auto, using(clos_definition_forms::proofs::Evaluated::performs_alone))]
 fn perform<N: Natives, D: Dependents>(
     alloc: Global,
     world: &mut World,
@@ -215,10 +225,8 @@ fn perform<N: Natives, D: Dependents>(
     datum: &Datum,
     steps: &mut u64,
 ) -> Result<Value, Stop>
-    ensures answers { AnswersBy (N.host natives.now) (step (datum_of datum.now)) world.old steps.old answers.old result world.new steps.new
-        answers.new }
-    ensures uses { IsEvaluated (datum_of datum.now) → KeepsBy (N.host natives.now) (step (datum_of datum.now)) (seen world.old) steps.old
-        answers.old.items (uses_of world.old) result steps.new answers.new.items (uses_of world.new) }
+    ensures performs { Performs (N.host natives.now) (step (datum_of datum.now)) world.old steps.old answers.old.items
+        result world.new steps.new answers.new.items }
     ensures heard { Heard (D.told dependents.old) (seen world.old) (D.told dependents.new) (seen world.new) }
     ensures names { D.names dependents.new ≡ D.names dependents.old }
 {
@@ -230,7 +238,7 @@ fn perform<N: Natives, D: Dependents>(
 }
 
 /// Performs a form that is checked.
-#[tactic(auto, using(crate::proofs::Asking::asks_nothing))]
+#[tactic(auto, using(clos_definition_forms::proofs::Evaluated::performs_alone))]
 fn perform_top<N: Natives, D: Dependents>(
     alloc: Global,
     world: &mut World,
@@ -240,9 +248,8 @@ fn perform_top<N: Natives, D: Dependents>(
     top: Top,
     steps: &mut u64,
 ) -> Result<Value, Stop>
-    ensures answers { AnswersBy (N.host natives.now) (checked (Some top)) world.old steps.old answers.old result world.new steps.new answers.new }
-    ensures uses { (f : Form) → top ≡ Expr f → KeepsBy (N.host natives.now) (checked (Some top)) (seen world.old) steps.old
-        answers.old.items (uses_of world.old) result steps.new answers.new.items (uses_of world.new) }
+    ensures performs { Performs (N.host natives.now) (checked (Some top)) world.old steps.old answers.old.items result
+        world.new steps.new answers.new.items }
     ensures heard { Heard (D.told dependents.old) (seen world.old) (D.told dependents.new) (seen world.new) }
     ensures names { D.names dependents.new ≡ D.names dependents.old }
 {

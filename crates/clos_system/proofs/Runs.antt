@@ -6,52 +6,67 @@ use Rattle.lisp_data.specs.Datum.{Dat}
 use Rattle.lisp_data.specs.ValueView.{value_of}
 use Rattle.lisp_data.specs.declared.value.Value.{Value}
 use Rattle.lisp_reader.specs.Answers.{Next}
-use Rattle.clos_session.specs.clos_world.World.{State}
 use Rattle.clos_session.specs.Session.{Standing}
 use Rattle.clos_session.specs.clos_definition_forms.Hearing.{Heard, since}
 use Rattle.clos_session.specs.clos_watch.Watching.{heard_after}
 use Rattle.clos_session.specs.clos_machine.Machine.{AnswersWith}
+use Rattle.clos_session.specs.clos_machine.Uses.{KeepsBy, MadeSome}
+use Rattle.clos_session.specs.clos_machine.clos_meaning.Uses.{notes_by}
+use Rattle.clos_session.specs.clos_world.clos_cache.Uses.{Uses}
+use Rattle.clos_session.proofs.clos_machine.Uses.{same_answers}
 use Rattle.clos_session.specs.clos_machine.clos_meaning.Host.{Host}
 use Rattle.clos_session.specs.clos_machine.clos_meaning.Outcome.{Given, Signalled}
 use Rattle.clos_session.specs.Step.{step}
-use Rattle.clos_system.specs.Transcript.{Ran, performs, cuts, told_for, counted_for, standing_after, ends_line, Stands, Performed, Performs, FailsAfter, Faults, RunFaults, SourceFails}
+use Rattle.clos_system.specs.Transcript.{Ran, performs, cuts, told_for, counted_for, standing_after, uses_after, ends_line, Stands, Performed, Performs, FailsAfter, Faults, RunFaults, SourceFails}
 use Rattle.clos_session.specs.clos_world.declared.condition.Stop.{Stop}
 use Rattle.clos_session.specs.clos_world.declared.condition.Stop.TheVariants.{Refused, Storage}
 use Rattle.clos_system.specs.declared.transcript.Summary.{Summary}
 use Rattle.clos_system.specs.declared.transcript.RunFault.{RunFault}
 use Rattle.clos_system.specs.declared.transcript.RunFault.TheVariants.{Read, TooLong, Reader, Write, Memory}
 
--- with these answers after those that there were, and what was heard
-comes_to : (host : Host) (echo : Bool) (text : List ℕ) (start w w' : Standing) (used : List ℤ) (x : State) (at : ℕ) (out : List ℕ)
-    (n : Summary) → w'.state ≡ x → w'.answers ≡ w.answers ++ used → Heard w.heard w.state w'.heard w'.state
-    → Ran host echo text start (standing_after w used x) at out n → Ran host echo text start w' at out n
-comes_to host echo text start w w' used x at out n e h k r =
-    subst (λ l. Ran host echo text start (record { state = w'.state; answers = w'.answers; heard = l }) at out n) (sym k)
+-- with these answers after those that there were, what was heard, and what is kept
+comes_to : (host : Host) (echo : Bool) (text : List ℕ) (start w w' : Standing) (used : List ℤ) (u : Uses) (at : ℕ) (out : List ℕ) (n : Summary)
+    → w'.answers ≡ w.answers ++ used → Heard w.heard w.state w'.heard w'.state → w'.uses ≡ u
+    → Ran host echo text start (standing_after w used w'.state u) at out n → Ran host echo text start w' at out n
+comes_to host echo text start w w' used u at out n h k q r =
+    subst (λ x. Ran host echo text start (record { state = w'.state; answers = w'.answers; heard = w'.heard; uses = x }) at out n) (sym q)
+    (subst (λ l. Ran host echo text start (record { state = w'.state; answers = w'.answers; heard = l; uses = u }) at out n) (sym k)
     (subst (λ past. Ran host echo text start (record {
       state = w'.state;
       answers = past;
       heard = heard_after w.state.hearing.watching (since w.state w'.state) w.heard;
-    }) at out n) (sym h)
-    (subst (λ y. Ran host echo text start (standing_after w used y) at out n) (sym e) r))
+      uses = u;
+    }) at out n) (sym h) r))
+
+-- what is kept, with the answers that came
+with_answers : (host : Host) (d : Dat) (w w' : Standing) (xs used : List ℤ) → w'.answers ≡ w.answers ++ xs → w'.answers ≡ w.answers ++ used
+    → w'.uses ≡ uses_after host d w xs → w'.uses ≡ uses_after host d w used
+with_answers host d w w' xs used e h q = q ∙ ap (uses_after host d w) (same_answers w.answers xs used (sym e ∙ h))
 
 -- the run goes on by a form
 pub ran_on : (host : Host) (echo : Bool) (text : List ℕ) (start w : Standing) (at : ℕ) (out : List ℕ) (n : Summary) (d : Dat) (next : ℕ)
     (answer : Result Value Stop) (w' : Standing) (left : ℕ)
     → Ran host echo text start w at out n → Next (drop at text) d (drop next text) → AnswersWith host (step d) w.state w.state.limits.steps
     w.answers answer w'.state left w'.answers
+    → KeepsBy host (step d) w.state w.state.limits.steps w.answers w.uses answer left w'.answers w'.uses
     → Heard w.heard w.state w'.heard w'.state
     → Ran host echo text start w' next (told_for echo w.state w'.state answer (w.state.limits.steps - left) out) (counted_for answer n)
-ran_on host echo text start w at out n d next (Ok v) w' left r h a k =
-    comes_to host echo text start w w' a.0 w'.state next _ _ refl a.1 k (performs w at out n d next a.0 (Given (value_of v) w'.state left)
-    r h a.2)
-ran_on host echo text start w at out n d next (Err (Refused c)) w' left r h a k =
-    comes_to host echo text start w w' a.0 w'.state next _ _ refl a.1 k (performs w at out n d next a.0 (Signalled c w'.state left) r h a.2)
-ran_on host echo text start w at out n d next (Err Storage) w' left r h a k =
+ran_on host echo text start w at out n d next (Ok v) w' left r h a b k =
+    comes_to host echo text start w w' a.0 (uses_after host d w a.0) next _ _ a.1 k (with_answers host d w w' b.0 a.0 b.1 a.1 b.2)
+    (performs w at out n d next a.0 (Given (value_of v) w'.state left) r h a.2)
+ran_on host echo text start w at out n d next (Err (Refused c)) w' left r h a b k =
+    comes_to host echo text start w w' a.0 (uses_after host d w a.0) next _ _ a.1 k (with_answers host d w w' b.0 a.0 b.1 a.1 b.2)
+    (performs w at out n d next a.0 (Signalled c w'.state left) r h a.2)
+ran_on host echo text start w at out n d next (Err Storage) w' left r h a b k =
     let taken : w.state.limits.steps - left ≡ a.2 = omega (arith, a.3) in
+    let steps : b.2 ≡ a.2 = omega (arith, a.3, b.3) in
+    let made : MadeSome (notes_by host (step d w.state a.2) a.0) w.uses w'.uses =
+    subst (λ xs. MadeSome (notes_by host (step d w.state a.2) xs) w.uses w'.uses) (same_answers w.answers b.0 a.0 (sym b.1 ∙ a.1))
+    (subst (λ j. MadeSome (notes_by host (step d w.state j) b.0) w.uses w'.uses) steps b.4) in
     subst (λ j. Ran host echo text start w' next (told_for echo w.state w'.state (Err Storage) j out) (counted_for (Err Storage) n))
     (sym taken)
-    (comes_to host echo text start w w' a.0 w'.state next _ _ refl a.1 k (cuts w at out n d next a.2 a.0 w'.state r h
-    (omega (arith, a.3)) a.4))
+    (comes_to host echo text start w w' a.0 w'.uses next _ _ a.1 k refl (cuts w at out n d next a.2 a.0 w'.state w'.uses r h
+    (omega (arith, a.3)) a.4 made))
 
 -- nothing was written
 pub nothing_more : (out xs : List ℕ) → length xs ≡ 0 → ends_line (out ++ xs) ≡ ends_line out
@@ -96,10 +111,12 @@ pub stands_on : (host now next_host : Host) (echo : Bool) (text : List ℕ) (sta
 stands_on host now next_host echo text start w w' a b c at next n n' fresh fresh' d s q h lt le p x y z =
     let answers : AnswersWith host (step d) w.state w.state.limits.steps w.answers p.answer w'.state p.left w'.answers =
     subst (λ o. AnswersWith o (step d) w.state w.state.limits.steps w.answers p.answer w'.state p.left w'.answers) s.stays p.answers in
+    let uses : KeepsBy host (step d) w.state w.state.limits.steps w.answers w.uses p.answer p.left w'.answers w'.uses =
+    subst (λ o. KeepsBy o (step d) w.state w.state.limits.steps w.answers w.uses p.answer p.left w'.answers w'.uses) s.stays p.uses in
     let more : Ran host echo text start w' next (s.come.out ++ p.piece) n' =
     subst (λ m. Ran host echo text start w' next (s.come.out ++ p.piece) m) (sym p.counts)
     (subst (λ o. Ran host echo text start w' next o (counted_for p.answer n)) (sym (p.tells s.come.out s.line))
-    (ran_on host echo text start w at s.come.out n d next p.answer w' p.left s.come.ran h answers p.heard)) in
+    (ran_on host echo text start w at s.come.out n d next p.answer w' p.left s.come.ran h answers uses p.heard)) in
     record {
       stays = q ∙ s.stays;
       come = record { out = s.come.out ++ p.piece; ran = more; appends = appends_more a b c s.come.out p.piece s.come.appends p.appends };
@@ -118,7 +135,8 @@ module _ (host now : Host) (echo : Bool) (text : List ℕ) (start w w' : Standin
       (counted_for p.answer n)
   ran_after s h p =
       ran_on host echo text start w at s.come.out n d next p.answer w' p.left s.come.ran h
-      (subst (λ o. AnswersWith o (step d) w.state w.state.limits.steps w.answers p.answer w'.state p.left w'.answers) s.stays p.answers) p.heard
+      (subst (λ o. AnswersWith o (step d) w.state w.state.limits.steps w.answers p.answer w'.state p.left w'.answers) s.stays p.answers)
+      (subst (λ o. KeepsBy o (step d) w.state w.state.limits.steps w.answers w.uses p.answer p.left w'.answers w'.uses) s.stays p.uses) p.heard
 
   pub fails_after : (e : RunFault) → Stands host now echo text start w a b at n fresh → Next (drop at text) d (drop next text)
       → FailsAfter now d w w' e → Faults host echo text start w' a c e

@@ -18,6 +18,9 @@ use Rattle.clos_session.specs.clos_watch.Watching.{heard_after}
 use Rattle.clos_session.specs.clos_machine.clos_meaning.Host.{Host, answered_by}
 use Rattle.clos_session.specs.clos_machine.clos_meaning.Outcome.{End, Given, Signalled}
 use Rattle.clos_session.specs.clos_machine.Machine.{AnswersWith, leaves_by}
+use Rattle.clos_session.specs.clos_machine.Uses.{KeepsBy, MadeSome}
+use Rattle.clos_session.specs.clos_machine.clos_meaning.Uses.{after_notes, notes_by}
+use Rattle.clos_session.specs.clos_world.clos_cache.Uses.{Uses}
 use Rattle.clos_session.specs.Step.{step}
 use Rattle.clos_session.specs.clos_world.declared.condition.Condition.{Condition}
 use Rattle.clos_session.specs.clos_world.declared.condition.Stop.{Stop}
@@ -64,13 +67,18 @@ abbrev pub state_after : End → State
 state_after (Given v w s) = w
 state_after (Signalled c w s) = w
 
--- .. with what the host's functions answered until then, and what its dependents heard
-abbrev pub standing_after : Standing → List ℤ → State → Standing
-standing_after w used w' = record {
+-- .. with what the host's functions answered until then, what its dependents heard, and what is kept of calls
+abbrev pub standing_after : Standing → List ℤ → State → Uses → Standing
+standing_after w used w' u = record {
   state = w';
   answers = w.answers ++ used;
   heard = heard_after w.state.hearing.watching (since w.state w') w.heard;
+  uses = u;
 }
+
+-- what is kept after a form: what the uses and the changes make of it that its meaning notes
+abbrev pub uses_after : Host → Dat → Standing → List ℤ → Uses
+uses_after host d w used = after_notes (notes_by host (step d w.state w.state.limits.steps) used) w.uses
 
 -- one more form, and one more condition where it ended with one
 abbrev pub counted : End → Summary → Summary
@@ -85,18 +93,19 @@ counted_cut n = record n { forms = n.forms + 1; storages = n.storages + 1 }
 abbrev pub none_yet : Summary
 none_yet = record { forms = 0; conditions = 0; storages = 0 }
 
--- A run of a text from a state has come to an offset: the state there with what the host's functions answered, what is written, and
--- the counts.
+-- A run of a text from a state has come to an offset: the state there with what the host's functions answered and what is kept of calls, what
+-- is written, and the counts. Where memory was refused in a form, what is kept is what some first ones of its uses make of it.
 pub data Ran (host : Host) (echo : Bool) (text : List ℕ) (start : Standing) : Standing → ℕ → List ℕ → Summary → Type 0 where
   begins : Ran host echo text start start 0 [] none_yet
   performs : (w : Standing) (at : ℕ) (out : List ℕ) (n : Summary) (d : Dat) (next : ℕ) (used : List ℤ) (e : End) → Ran host echo text start
       w at out n
       → Next (drop at text) d (drop next text) → answered_by host (step d w.state w.state.limits.steps) used ≡ Some e
-      → Ran host echo text start (standing_after w used (state_after e)) next (told echo w.state e out) (counted e n)
-  cuts : (w : Standing) (at : ℕ) (out : List ℕ) (n : Summary) (d : Dat) (next : ℕ) (k : ℕ) (used : List ℤ) (w' : State)
+      → Ran host echo text start (standing_after w used (state_after e) (uses_after host d w used)) next (told echo w.state e out) (counted e n)
+  cuts : (w : Standing) (at : ℕ) (out : List ℕ) (n : Summary) (d : Dat) (next : ℕ) (k : ℕ) (used : List ℤ) (w' : State) (u : Uses)
       → Ran host echo text start w at out n
       → Next (drop at text) d (drop next text) → k ≤ w.state.limits.steps → leaves_by host (step d w.state k) used w' 0
-      → Ran host echo text start (standing_after w used w') next (told_cut w.state w' k out) (counted_cut n)
+      → MadeSome (notes_by host (step d w.state k) used) w.uses u
+      → Ran host echo text start (standing_after w used w' u) next (told_cut w.state w' k out) (counted_cut n)
 
 -- what is told of a form that was answered so, after so many steps
 abbrev pub told_for : Bool → State → State → Result Value Stop → ℕ → List ℕ → List ℕ
@@ -148,6 +157,7 @@ pub record Performs (host : Host) (echo : Bool) (d : Dat) (w w' : Standing) (old
   pub answer : Result Value Stop
   pub left : ℕ
   pub answers : AnswersWith host (step d) w.state w.state.limits.steps w.answers answer w'.state left w'.answers
+  pub uses : KeepsBy host (step d) w.state w.state.limits.steps w.answers w.uses answer left w'.answers w'.uses
   pub heard : Heard w.heard w.state w'.heard w'.state
   pub counts : n' ≡ counted_for answer n
   pub piece : List ℕ
@@ -161,6 +171,7 @@ pub record Performed (host : Host) (d : Dat) (w w' : Standing) : Type 0 where
   pub answer : Result Value Stop
   pub left : ℕ
   pub answers : AnswersWith host (step d) w.state w.state.limits.steps w.answers answer w'.state left w'.answers
+  pub uses : KeepsBy host (step d) w.state w.state.limits.steps w.answers w.uses answer left w'.answers w'.uses
   pub heard : Heard w.heard w.state w'.heard w'.state
 
 -- .. and then memory or the writer failed.

@@ -1,5 +1,5 @@
 //! The state of a session that begins, and what values are in it.
-ghost use Rattle.std.specs.Prelude.{◌≡◌, IfOk, option_map};
+ghost use Rattle.std.specs.Prelude.{◌≡◌, [], IfOk, option_map};
 ghost use Rattle.lisp_data.specs.ValueView.{value_of};
 ghost use Rattle.lisp_data.specs.PrintView.{called};
 ghost use Rattle.clos_forms.specs.OperatorView.{called_of};
@@ -27,6 +27,7 @@ impl World {
     pub fn new(alloc: Global, limits: Limits, dependents: Vec<Name>) -> Result<World, AllocError>
         ensures seen { IfOk result (λ r. seen r ≡ initial limits dependents.items) }
         ensures meter { IfOk result (λ r. r.meter ≡ 0) }
+        ensures cache { IfOk result (λ r. r.cache ≡ []) }
     {
         let objects = Objects::new(alloc, limits.classes, limits.instances, limits.cells)?;
         let generics = Generics::new(alloc, limits.generics, limits.methods)?;

@@ -1,9 +1,11 @@
-use Rattle.std.proofs.Common.{arith, subst, sym, ◌∙◌}
+use Rattle.std.proofs.Common.{[], ◌∷◌, arith, subst, sym, ◌∙◌}
 use Rattle.std.proofs.Math.Logic.{∥∥₁_map}
 use Rattle.clos_machine.specs.clos_world.Kept.{AreNow}
 use Rattle.clos_machine.specs.clos_world.clos_cache.Cache.{Drops, of_combination}
 use Rattle.clos_machine.specs.clos_world.World.{seen}
+use Rattle.clos_machine.specs.clos_world.clos_comb.Table.{name_of}
 use Rattle.clos_machine.proofs.clos_meaning.clos_world.Drops.{combination_stays}
+use Rattle.clos_definition_forms.proofs.Concerned.{left_in}
 use Rattle.clos_definition_forms.proofs.Quiet.{define_combination_quiet}
 use Rattle.clos_definition_forms.proofs.combination.define_combination.Goals as goal
 
@@ -20,3 +22,9 @@ invariant_of-world-in-Ok c = record {
       (subst (λ n. Drops (of_combination n) c.args.world.now.cache c.drop_combination.new.self)
       (c.in-Ok-Ok.ensures' ∙ c.name_of-name.ensures) c.drop_combination.ensures)));
 }
+
+pub returns-in-Ok-clause-uses : goal.returns-in-Ok-clause-uses
+returns-in-Ok-clause-uses c =
+    left_in c.args.world.now (of_combination (name_of c.args.definition) ∷ []) c.drop_combination.new.self
+    (subst (λ n. Drops (of_combination n) c.args.world.now.cache c.drop_combination.new.self) (c.in-Ok-Ok.ensures' ∙ c.name_of-name.ensures)
+    c.drop_combination.ensures)

@@ -1,8 +1,20 @@
 use Rattle.std.proofs.Common.{refl}
 use Rattle.clos_machine.specs.clos_world.World.{seen}
+use Rattle.clos_definition_forms.proofs.Defining.{generic_evaluated, generic_refused}
 use Rattle.clos_definition_forms.proofs.Hearing.{unheard}
 use Rattle.clos_definition_forms.proofs.definition.defgeneric.Goals as goal
+
+pub returns-in-Err-clause-performs : goal.returns-in-Err-clause-performs
+returns-in-Err-clause-performs g c =
+    generic_refused (g.N.Natives.host c.args.natives.now) c.args.definition c.args.world.now c.args.steps.now c.args.answers.now.items c.in-Err.stop
+    c.in-Err.ensures
 
 pub returns-in-Err-clause-heard : goal.returns-in-Err-clause-heard
 returns-in-Err-clause-heard g c =
     let told = g.D.Dependents.told c.args.dependents.now in unheard told told (seen c.args.world.now) (seen c.args.world.now) refl refl
+
+pub returns-in-Ok-clause-performs : goal.returns-in-Ok-clause-performs
+returns-in-Ok-clause-performs g c =
+    let done = c.define_checked_generic.new in
+    generic_evaluated (g.N.Natives.host c.args.natives.now) c.args.definition c.args.world.now c.args.steps.now c.args.answers.now.items
+    done.answers.items done.world done.steps c.define_checked_generic.result c.in-Ok.ensures c.define_checked_generic.ensures.performs

@@ -1,25 +1,43 @@
 use Rattle.std.proofs.Common.{refl, ◌∙◌}
 use Rattle.clos_machine.specs.clos_world.World.{seen}
-use Rattle.clos_definition.specs.Class.{initforms}
-use Rattle.clos_definition_forms.proofs.Defining.{class_forms_go_on}
+use Rattle.clos_definition.specs.Class.{class_concerned, initforms}
+use Rattle.clos_definition_forms.specs.Definition.{class_made}
+use Rattle.clos_definition_forms.proofs.Evaluated.{forms_go_on, forms_not_begun, forms_stop, performs_noting}
 use Rattle.clos_definition_forms.proofs.Hearing.{heard_with_values, unheard, unheard_before}
+use Rattle.clos_definition_forms.proofs.Quiet.{class_made_quiet}
 use Rattle.clos_definition_forms.proofs.definition.define_checked_class.Goals as goal
 
-pub returns-clause-answers : goal.returns-clause-answers
-returns-clause-answers g c =
+pub returns-in_default-clause-performs : goal.returns-in_default-clause-performs
+returns-in_default-clause-performs g c =
+    let d = c.args.definition.now in
+    forms_not_begun (g.N.Natives.host c.args.natives.now) (initforms c.args.cells.now) (class_made d) (class_made_quiet d) c.args.world.now c.args.steps.now
+    c.args.answers.now.items
+
+pub returns-in-Err-clause-performs : goal.returns-in-Err-clause-performs
+returns-in-Err-clause-performs g c =
+    let d = c.args.definition.now in
+    forms_stop (g.N.Natives.host c.args.natives.now) (initforms c.args.cells.now) (class_made d) (class_made_quiet d) c.args.world.now c.args.steps.now
+    c.args.answers.now.items c.deref.result.now (c.deref.ensures.value ∙ c.in-Ok.ensures) c.evaluate_forms.new.world c.evaluate_forms.new.steps
+    c.evaluate_forms.new.answers.items c.in-Err.stop c.in-Err.ensures.stop
+
+pub returns-clause-performs : goal.returns-clause-performs
+returns-clause-performs g c =
+    let host = g.N.Natives.host c.args.natives.now in
+    let d = c.args.definition.now in
     let evaluated = c.evaluate_forms.new in
-    class_forms_go_on (g.N.Natives.host c.args.natives.now) c.args.definition.now (seen c.args.world.now) (seen evaluated.world)
-    c.args.steps.now
-    c.args.answers.now.items evaluated.answers.items c.deref.result.now (initforms c.args.cells.now) evaluated.steps
-    c.in-Ok-evaluate_forms.values.items
-    c.make_checked_class.result (seen c.make_checked_class.new.world) c.make_checked_class.new.steps
-    (c.deref.ensures.value ∙ c.in-Ok.ensures) c.in-Ok-evaluate_forms.ensures.values c.make_checked_class.ensures.answers
+    let made = c.make_checked_class.new in
+    let values = c.in-Ok-evaluate_forms.values.items in
+    forms_go_on host (initforms c.args.cells.now) (class_made d) (class_made_quiet d) c.args.world.now c.args.steps.now c.args.answers.now.items
+    c.deref.result.now (c.deref.ensures.value ∙ c.in-Ok.ensures) evaluated.world evaluated.steps evaluated.answers.items values c.make_checked_class.result
+    made.world made.steps c.in-Ok-evaluate_forms.ensures.values
+    (performs_noting host (class_made d values) evaluated.world made.world evaluated.steps made.steps evaluated.answers.items
+    (class_concerned d values (seen evaluated.world)) c.make_checked_class.result c.make_checked_class.ensures.answers c.make_checked_class.ensures.uses)
 
 pub returns-clause-heard : goal.returns-clause-heard
 returns-clause-heard g c =
     let evaluated = c.evaluate_forms.new in
     heard_with_values (g.D.Dependents.told c.args.dependents.now) (g.D.Dependents.told c.make_checked_class.new.dependents)
-    (g.N.Natives.host c.args.natives.now) c.deref.result.now (seen c.args.world.now) (seen evaluated.world) (seen c.make_checked_class.new.world)
+    (g.N.Natives.host c.args.natives.now) c.deref.result.now c.args.world.now evaluated.world c.make_checked_class.new.world
     c.args.steps.now evaluated.steps c.args.answers.now.items evaluated.answers.items c.in-Ok-evaluate_forms.values.items
     c.in-Ok-evaluate_forms.ensures.values c.make_checked_class.ensures.heard
 
@@ -27,7 +45,7 @@ pub returns-in-Err-clause-heard : goal.returns-in-Err-clause-heard
 returns-in-Err-clause-heard g c =
     let evaluated = c.evaluate_forms.new in
     let told = g.D.Dependents.told c.args.dependents.now in
-    unheard_before told told (g.N.Natives.host c.args.natives.now) c.deref.result.now (seen c.args.world.now) (seen evaluated.world)
+    unheard_before told told (g.N.Natives.host c.args.natives.now) c.deref.result.now c.args.world.now evaluated.world
     c.args.steps.now evaluated.steps c.args.answers.now.items evaluated.answers.items c.in-Err.stop refl c.in-Err.ensures.stop
 
 pub returns-in_default-clause-heard : goal.returns-in_default-clause-heard

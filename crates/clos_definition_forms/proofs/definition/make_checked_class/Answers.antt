@@ -1,6 +1,8 @@
-use Rattle.std.proofs.Common.{◌≡◌, None, ap, arith, length, refl, subst, sym}
+use Rattle.std.proofs.Common.{◌≡◌, ◌∷◌, ◌∙◌, None, ap, arith, length, refl, subst, sym}
+use Rattle.clos_machine.specs.clos_world.Uses.{uses_of}
 use Rattle.clos_machine.specs.clos_world.World.{seen}
-use Rattle.clos_definition.specs.Class.{class_refusal}
+use Rattle.clos_definition.specs.Class.{class_concerned, class_concerned_by, class_refusal, lists_concerned}
+use Rattle.clos_definition_forms.proofs.Concerned.{uses_as}
 use Rattle.clos_definition_forms.proofs.Defining.{class_is_made}
 use Rattle.clos_definition_forms.proofs.Hearing.{heard_at, unheard}
 use Rattle.clos_definition_forms.proofs.definition.make_checked_class.Goals as goal
@@ -27,3 +29,14 @@ pub returns-in-Err-clause-heard : goal.returns-in-Err-clause-heard
 returns-in-Err-clause-heard g c =
     let told = g.D.Dependents.told c.args.dependents.now in
     unheard told told (seen c.args.world.now) (seen c.prepare_class.new.world) refl (ap (λ x. x.hearing.notices) c.in-Err.ensures.same)
+
+pub returns-in-Ok-clause-uses : goal.returns-in-Ok-clause-uses
+returns-in-Ok-clause-uses g c =
+    let d = c.args.definition.now in
+    let values = c.args.values.items in
+    let w = c.args.world.now in
+    let v = c.prepare_class.new.world in
+    uses_as (class_concerned_by d values c.in-Ok.accessors (seen v)) (class_concerned d values (seen w)) w v c.make_prepared_class.result
+    (uses_of c.make_prepared_class.new.world) c.in-Ok.ensures.same c.in-Ok.ensures.kept
+    (ap (class_concerned_by d values c.in-Ok.accessors) c.in-Ok.ensures.same ∙ ap (λ l. lists_concerned d values (seen w) ∷ l) c.in-Ok.ensures.concerned)
+    c.make_prepared_class.ensures.uses

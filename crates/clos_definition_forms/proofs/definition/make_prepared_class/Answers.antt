@@ -1,12 +1,15 @@
-use Rattle.std.proofs.Common.{◌≡◌, ◌≤◌, ◌∙◌, ◌-◌, ℕ, suc, None, arith, [], ◌++◌, append_assoc, ap, length, refl, sym, subst}
+use Rattle.std.proofs.Common.{◌≡◌, ◌≤◌, ◌∙◌, ◌-◌, ℕ, suc, None, arith, List, [], ◌∷◌, ◌++◌, append_assoc, ap, length, refl, sym, subst}
 use Rattle.clos_watch.specs.Watching.{times_told}
+use Rattle.clos_machine.specs.clos_world.clos_hierarchy.Table.{changed}
 use Rattle.clos_machine.specs.clos_world.World.{State, seen}
+use Rattle.clos_machine.specs.clos_world.clos_cache.Cache.{DropsAll, of_classes}
 use Rattle.lisp_data.specs.Value.{class}
 use Rattle.lisp_data.specs.declared.value.Value.TheVariants.{Class}
 use Rattle.clos_definition.specs.Class.{class_concerned_by, class_notices, class_refusal, noting, with_class}
-use Rattle.clos_definition.specs.Effect.{of_changes, possible_notices, with_effect}
+use Rattle.clos_definition.specs.Effect.{concerned_by, of_changes, possible_notices, with_effect}
 use Rattle.clos_definition.proofs.Notices.{more_fit}
 use Rattle.clos_definition.proofs.clos_world.Heard.{notices_kept}
+use Rattle.clos_definition_forms.proofs.Concerned.{effect_dropped, uses_same}
 use Rattle.clos_definition_forms.proofs.Defining.{effect_is_made, effect_not_made}
 use Rattle.clos_definition_forms.proofs.Hearing.{enough, heard_then, unheard, within}
 use Rattle.clos_definition_forms.proofs.definition.make_prepared_class.Goals as goal
@@ -102,3 +105,19 @@ returns-clause-answers g c =
     (seen c.make_class.new.world) c.args.steps.now (c.args.steps.now - 1) steps
     (c.in-Ok-make_class.ensures.ok
     ∙ ap (λ (x : State). with_class d c.args.values.items (with_effect c.args.accessors (noting (class_notices d x) x))) c.prepare_to_tell.ensures.seen)
+
+pub returns-in_default-make_class-clause-uses : goal.returns-in_default-make_class-clause-uses
+returns-in_default-make_class-clause-uses g c =
+    uses_same c.prepare_to_tell.new.world c.make_class.new.world c.in_default-make_class.ensures.same c.make_class.ensures.meter ∙ c.prepare_to_tell.ensures.kept
+
+pub returns-clause-uses : goal.returns-clause-uses
+returns-clause-uses g c =
+    let mid = c.prepare_to_tell.new.world in
+    let u = c.make_class.new.world in
+    let d = c.args.definition.now in
+    let values = c.args.values.items in
+    let left : DropsAll (class_concerned_by d values c.args.accessors (seen mid)) mid.cache u.cache =
+    subst (λ (l : List ℕ). DropsAll (of_classes l ∷ concerned_by c.args.accessors (seen mid).generics) mid.cache u.cache)
+    (ap (λ (x : State). changed (seen mid).classes.table.classes x.classes.table.classes) c.in-Ok-make_class.ensures.ok) c.in-Ok-make_class.ensures.left in
+    effect_dropped c.args.world.now mid u (class_concerned_by d values c.args.accessors) c.prepare_to_tell.ensures.seen c.prepare_to_tell.ensures.kept left
+    c.make_class.ensures.meter

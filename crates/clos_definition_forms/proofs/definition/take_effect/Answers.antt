@@ -1,9 +1,10 @@
 use Rattle.std.proofs.Common.{◌≡◌, ◌≤◌, ◌∙◌, ℕ, [], ap, length, refl, sym, subst}
 use Rattle.clos_watch.specs.Watching.{times_told}
 use Rattle.clos_machine.specs.clos_world.World.{State, seen}
-use Rattle.clos_definition.specs.Effect.{of_changes, possible_notices}
+use Rattle.clos_definition.specs.Effect.{concerned_by, of_changes, possible_notices}
 use Rattle.clos_definition.proofs.Notices.{changes_fit}
 use Rattle.clos_definition.proofs.clos_world.Heard.{notices_kept}
+use Rattle.clos_definition_forms.proofs.Concerned.{effect_dropped}
 use Rattle.clos_definition_forms.proofs.Hearing.{enough, heard_then, unheard, within}
 use Rattle.clos_definition_forms.proofs.definition.take_effect.Goals as goal
 
@@ -63,3 +64,8 @@ returns-clause-heard g c =
     heard_then w mid u [] new c.len-from.result same (ap (λ x. x.hearing.notices) made) (ap (λ x. x.hearing.watching) made) counted
     (g.D.Dependents.told c.args.dependents.now) (g.D.Dependents.told c.prepare_to_tell.new.dependents) (g.D.Dependents.told c.tell.new.dependents)
     c.prepare_to_tell.ensures.told c.tell.ensures.told
+
+pub returns-clause-uses : goal.returns-clause-uses
+returns-clause-uses g c =
+    effect_dropped c.args.world.now c.prepare_to_tell.new.world c.make.new.world (λ x. concerned_by c.args.effect x.generics) c.prepare_to_tell.ensures.seen
+    c.prepare_to_tell.ensures.kept c.make.ensures.left c.make.ensures.meter

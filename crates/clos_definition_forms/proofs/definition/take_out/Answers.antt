@@ -2,9 +2,10 @@ use Rattle.std.proofs.Common.{◌≡◌, ◌≤◌, ◌∙◌, ℕ, [], ◌∷�
 use Rattle.clos_watch.specs.Watching.{times_told}
 use Rattle.clos_machine.specs.clos_world.World.{seen}
 use Rattle.clos_watch.specs.declared.notice.Notice.TheVariants.{MethodRemoved}
-use Rattle.clos_definition.specs.Removal.{removal_notices}
+use Rattle.clos_definition.specs.Removal.{concerned_by_removal, removal_notices}
 use Rattle.clos_definition.proofs.Notices.{removal_fits}
 use Rattle.clos_definition.proofs.clos_world.Heard.{notices_kept}
+use Rattle.clos_definition_forms.proofs.Concerned.{effect_dropped}
 use Rattle.clos_definition_forms.proofs.Hearing.{enough, heard_then, unheard, within}
 use Rattle.clos_definition_forms.proofs.definition.take_out.Goals as goal
 
@@ -57,3 +58,9 @@ returns-clause-heard g c =
     heard_then w mid u [] new c.len-from.result same (ap (λ x. x.hearing.notices) made) (ap (λ x. x.hearing.watching) made) counted
     (g.D.Dependents.told c.args.dependents.now) (g.D.Dependents.told c.prepare_to_tell.new.dependents) (g.D.Dependents.told c.tell.new.dependents)
     c.prepare_to_tell.ensures.told c.tell.ensures.told
+
+pub returns-clause-uses : goal.returns-clause-uses
+returns-clause-uses g c =
+    effect_dropped c.args.world.now c.prepare_to_tell.new.world c.remove.new.world
+    (λ x. concerned_by_removal c.args.generic.0 c.args.method.0 x.generics) c.prepare_to_tell.ensures.seen c.prepare_to_tell.ensures.kept
+    c.remove.ensures.left c.remove.ensures.meter

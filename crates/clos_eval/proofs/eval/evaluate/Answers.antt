@@ -8,26 +8,21 @@ use Rattle.clos_machine.specs.declared.machine.Doing.TheVariants.{Start, Act, In
 use Rattle.clos_machine.specs.declared.machine.Doing.TheVariants as doing
 use Rattle.clos_machine.proofs.clos_meaning.Quiet.{evaluation_quiet}
 use Rattle.clos_machine.proofs.Runs.{quiet_answered}
-use Rattle.clos_machine.proofs.Uses.{turns_by}
-use Rattle.clos_eval.proofs.Looping.{Did, begun, did, finished, finished_after, finished_keeping, gave, goes_on, nothing_kept, stops, stops_keeping, turned, went}
+use Rattle.clos_machine.proofs.Uses.{nothing_kept, turns_by}
+use Rattle.clos_eval.proofs.Looping.{Did, begun, did, finished, finished_after, gave, goes_on, stops, turned, went}
 use Rattle.clos_eval.proofs.eval.evaluate.Goals as goal
 use Rattle.clos_eval.proofs.eval.evaluate.Goals.{in-Start, in-Collect, in-Act, in-Invoke, in-Perform, in-Turn, in-Native, in-Give+in-Some}
 
-pub returns-in_default-clause-answer : goal.returns-in_default-clause-answer
-returns-in_default-clause-answer g c =
-    let host = g.N.Natives.host c.args.natives.now in (
-      [],
-      sym (append-nil c.args.answers.now.items),
-      0,
-      omega arith,
-      quiet_answered host (evaluation c.args.room c.args.form (seen c.args.world.now) 0) (seen c.args.world.now) 0
-          (evaluation_quiet c.args.room (known []) c.args.form (seen c.args.world.now)),
-    )
-
-pub returns-in_default-clause-uses : goal.returns-in_default-clause-uses
-returns-in_default-clause-uses g c =
-    nothing_kept (g.N.Natives.host c.args.natives.now) (evaluation c.args.room c.args.form) (seen c.args.world.now) c.args.steps.now
-    c.args.answers.now.items (uses_of c.args.world.now)
+pub returns-in_default-clause-performs : goal.returns-in_default-clause-performs
+returns-in_default-clause-performs g c =
+    let host = g.N.Natives.host c.args.natives.now in
+    let run = evaluation c.args.room c.args.form in
+    let w = seen c.args.world.now in
+    let s = c.args.steps.now in
+    let past = c.args.answers.now.items in record {
+      answer = ([], sym (append-nil past), 0, omega arith, quiet_answered host (run w 0) w 0 (evaluation_quiet c.args.room (known []) c.args.form w));
+      uses = nothing_kept host run w s past (uses_of c.args.world.now);
+    }
 
 -- what the handler of each did, and that the loop goes on from there
 pub loop-doing-preserved : goal.loop-doing-preserved
@@ -72,8 +67,8 @@ loop-doing-preserved g c =
     c.loop-doing.invariant c.match-doing.came c.match-doing.machine c.match-doing.world c.match-doing.steps c.match-doing.answers.items t c.in-Ok-came.next c.in-Ok-came.is
 
 -- the same, and that it ends there
-pub returns-in-Err : goal.returns-in-Err
-returns-in-Err g c =
+pub returns-in-Err-clause-performs : goal.returns-in-Err-clause-performs
+returns-in-Err-clause-performs g c =
     let host = g.N.Natives.host c.args.natives.now in
     let m = c.loop-doing.machine in
     let d = c.loop-doing.doing in
@@ -110,33 +105,22 @@ returns-in-Err g c =
           (ap (λ v. v.items) x.answers-is)
           (gave m (seen world) s x.in-Give.value x.in-Some.level x.pop.new.self x.in-Some.ensures x.give.result x.give.new.machine x.give.ensures.leads)
     ] in
-    record {
-      answer = stops host (evaluation c.args.room c.args.form) c.args.world.now c.args.steps.now c.args.answers.now.items m d world s past
-          c.loop-doing.invariant c.match-doing.came c.match-doing.machine c.match-doing.world c.match-doing.steps c.match-doing.answers.items t c.in-Err.stop c.in-Err.is;
-      taken = tt;
-      uses = stops_keeping host (evaluation c.args.room c.args.form) c.args.world.now c.args.steps.now c.args.answers.now.items m d world s past
-          c.loop-doing.invariant c.match-doing.came c.match-doing.machine c.match-doing.world c.match-doing.steps c.match-doing.answers.items t c.in-Err.stop c.in-Err.is;
-    }
+    stops host (evaluation c.args.room c.args.form) c.args.world.now c.args.steps.now c.args.answers.now.items m d world s past
+    c.loop-doing.invariant c.match-doing.came c.match-doing.machine c.match-doing.world c.match-doing.steps c.match-doing.answers.items t c.in-Err.stop c.in-Err.is
 
 pub loop-doing-init : goal.loop-doing-init
 loop-doing-init g c =
     begun (g.N.Natives.host c.args.natives.now) c.args.form c.args.room c.new-levels.result c.of_function-context.result c.new-3.result
     c.args.world.now c.args.steps.now c.args.answers.now.items (search rules) (search rules) (search rules)
 
-pub returns-in-None-clause-answer : goal.returns-in-None-clause-answer
-returns-in-None-clause-answer g c =
-    finished (g.N.Natives.host c.args.natives.now) (evaluation c.args.room c.args.form) c.args.world.now c.args.steps.now
-    c.args.answers.now.items c.loop-doing.machine c.loop-doing.doing c.loop-doing.world c.loop-doing.steps c.loop-doing.answers.items
-    c.loop-doing.invariant c.in-Give.value c.in-Give.is c.in-None.ensures.0 refl
-
-pub returns-in-None-clause-taken : goal.returns-in-None-clause-taken
-returns-in-None-clause-taken g c =
-    finished_after (g.N.Natives.host c.args.natives.now) (evaluation c.args.room c.args.form) c.args.world.now c.args.steps.now
-    c.args.answers.now.items c.loop-doing.machine c.loop-doing.doing c.loop-doing.world c.loop-doing.steps c.loop-doing.answers.items
-    c.loop-doing.invariant c.in-Give.value c.in-Give.is c.in-None.ensures.0 refl
-
-pub returns-in-None-clause-uses : goal.returns-in-None-clause-uses
-returns-in-None-clause-uses g c =
-    finished_keeping (g.N.Natives.host c.args.natives.now) (evaluation c.args.room c.args.form) c.args.world.now c.args.steps.now
-    c.args.answers.now.items c.loop-doing.machine c.loop-doing.doing c.loop-doing.world c.loop-doing.steps c.loop-doing.answers.items
-    c.loop-doing.invariant c.in-Give.value c.in-Give.is c.in-None.ensures.0
+pub returns-in-None : goal.returns-in-None
+returns-in-None g c =
+    let host = g.N.Natives.host c.args.natives.now in
+    let run = evaluation c.args.room c.args.form in
+    let past = c.args.answers.now.items in
+    let all = c.loop-doing in record {
+      performs = finished host run c.args.world.now c.args.steps.now past all.machine all.doing all.world all.steps all.answers.items all.invariant
+          c.in-Give.value c.in-Give.is c.in-None.ensures.0 refl;
+      taken = finished_after host run c.args.world.now c.args.steps.now past all.machine all.doing all.world all.steps all.answers.items all.invariant
+          c.in-Give.value c.in-Give.is c.in-None.ensures.0 refl;
+    }

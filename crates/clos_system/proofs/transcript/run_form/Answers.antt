@@ -2,7 +2,9 @@ use Rattle.std.proofs.Common.{◌≡◌, ◌-◌, ◌++◌, ◌∙◌, ap, lengt
 use Rattle.lisp_data.specs.DatumView.{datum_of}
 use Rattle.clos_session.specs.Session.{answers_of, state_of}
 use Rattle.clos_session.specs.Step.{step}
+use Rattle.clos_session.specs.Uses.{session_uses}
 use Rattle.clos_session.specs.clos_machine.Machine.{AnswersWith}
+use Rattle.clos_session.specs.clos_machine.Uses.{KeepsBy}
 use Rattle.clos_session.specs.clos_world.World.{State}
 use Rattle.clos_system.specs.Transcript.{ends_line, told_for}
 use Rattle.clos_system.proofs.transcript.run_form.Goals as goal
@@ -18,6 +20,10 @@ returns-in_default-clause-fails g c =
           subst (λ s. AnswersWith (g.N.Natives.host old.natives) (step (datum_of c.args.datum)) (state_of old) s (answers_of old)
           c.perform-answer.result (state_of new.self) new.steps (answers_of new.self))
           (ap (λ (w : State). w.limits.steps) c.world.ensures) c.perform-answer.ensures.answers;
+      uses =
+          subst (λ s. KeepsBy (g.N.Natives.host old.natives) (step (datum_of c.args.datum)) (state_of old) s (answers_of old) (session_uses old)
+          c.perform-answer.result new.steps (answers_of new.self) (session_uses new.self))
+          (ap (λ (w : State). w.limits.steps) c.world.ensures) c.perform-answer.ensures.uses;
       heard = c.perform-answer.ensures.heard;
     }
 
@@ -32,6 +38,10 @@ returns-then-is_err-clause-fails g c =
           subst (λ s. AnswersWith (g.N.Natives.host old.natives) (step (datum_of c.args.datum)) (state_of old) s (answers_of old)
           c.perform-answer.result (state_of new.self) new.steps (answers_of new.self))
           (ap (λ (w : State). w.limits.steps) c.world.ensures) c.perform-answer.ensures.answers;
+      uses =
+          subst (λ s. KeepsBy (g.N.Natives.host old.natives) (step (datum_of c.args.datum)) (state_of old) s (answers_of old) (session_uses old)
+          c.perform-answer.result new.steps (answers_of new.self) (session_uses new.self))
+          (ap (λ (w : State). w.limits.steps) c.world.ensures) c.perform-answer.ensures.uses;
       heard = c.perform-answer.ensures.heard;
     }
 
@@ -48,6 +58,10 @@ returns-clause-performs g c =
           subst (λ s. AnswersWith (g.N.Natives.host old.natives) (step (datum_of c.args.datum)) (state_of old) s (answers_of old)
           c.perform-answer.result (state_of new.self) new.steps (answers_of new.self))
           (ap (λ (w : State). w.limits.steps) c.world.ensures) c.perform-answer.ensures.answers;
+      uses =
+          subst (λ s. KeepsBy (g.N.Natives.host old.natives) (step (datum_of c.args.datum)) (state_of old) s (answers_of old) (session_uses old)
+          c.perform-answer.result new.steps (answers_of new.self) (session_uses new.self))
+          (ap (λ (w : State). w.limits.steps) c.world.ensures) c.perform-answer.ensures.uses;
       heard = c.perform-answer.ensures.heard;
       counts = c.counted-counts.ensures.counts;
       piece = c.in-Ok.piece.items;

@@ -4,7 +4,7 @@ use Rattle.clos_definition_forms.specs.clos_machine.Machine.{AnswersWith}
 use Rattle.clos_definition_forms.specs.clos_world.declared.condition.Stop.TheVariants.{Refused}
 use Rattle.clos_definition_forms.specs.clos_machine.Uses.{KeepsBy}
 use Rattle.clos_session.specs.Session.{Replies, answers_of, state_of}
-use Rattle.clos_session.specs.Uses.{Keeps, session_uses}
+use Rattle.clos_session.specs.Uses.{MakesUses, session_uses}
 use Rattle.clos_session.specs.Step.{step}
 use Rattle.clos_session.specs.declared.session.Reply.TheVariants.{Value, Condition, Storage}
 use Rattle.clos_session.proofs.Definitions.{defines_nothing}
@@ -59,31 +59,31 @@ returns-in-Err-Storage-clause-reply g c =
     (answers_of old) (answers_of new) c.in-Err-Storage.field-0 c.in-Err-Storage.field-0-is c.in-Err-Storage.ensures.answers)
 
 pub returns-in-Ok-clause-uses : goal.returns-in-Ok-clause-uses
-returns-in-Ok-clause-uses g c = λ x.
+returns-in-Ok-clause-uses g c =
     let old = c.args.self.now in
     let new = c.perform.new.self in
     let e : c.min-budget.result ≡ min c.args.steps old.world.limits.steps = omega (arith, c.min-budget.ensures) in
-    subst (λ s. Keeps (g.N.Natives.host old.natives) (step (datum_of c.args.datum.now)) s (state_of old) (answers_of old) (session_uses old)
-    (Value c.in-Ok.value) (answers_of new) (session_uses new)) e (c.in-Ok.ensures.uses x)
+    subst (λ s. MakesUses (g.N.Natives.host old.natives) (step (datum_of c.args.datum.now)) s (state_of old) (answers_of old) (session_uses old)
+    (Value c.in-Ok.value) (answers_of new) (session_uses new)) e c.in-Ok.ensures.uses
 
 pub returns-in-Err-Refused-clause-uses : goal.returns-in-Err-Refused-clause-uses
-returns-in-Err-Refused-clause-uses g c = λ x.
+returns-in-Err-Refused-clause-uses g c =
     let old = c.args.self.now in
     let new = c.perform.new.self in
     let e : c.min-budget.result ≡ min c.args.steps old.world.limits.steps = omega (arith, c.min-budget.ensures) in
     let h : KeepsBy (g.N.Natives.host old.natives) (step (datum_of c.args.datum.now)) (state_of old) c.min-budget.result (answers_of old) (session_uses old)
     (Err (Refused c.in-Err-Refused.condition)) c.perform.new.steps (answers_of new) (session_uses new) =
-    rw c.in-Err-Refused.field-0-is at (c.in-Err-Refused.ensures.uses x) in
-    subst (λ s. Keeps (g.N.Natives.host old.natives) (step (datum_of c.args.datum.now)) s (state_of old) (answers_of old) (session_uses old)
+    rw c.in-Err-Refused.field-0-is at c.in-Err-Refused.ensures.uses in
+    subst (λ s. MakesUses (g.N.Natives.host old.natives) (step (datum_of c.args.datum.now)) s (state_of old) (answers_of old) (session_uses old)
     (Condition c.number.result c.in-Err-Refused.condition.items) (answers_of new) (session_uses new)) e h
 
 pub returns-in-Err-Storage-clause-uses : goal.returns-in-Err-Storage-clause-uses
-returns-in-Err-Storage-clause-uses g c = λ x.
+returns-in-Err-Storage-clause-uses g c =
     let old = c.args.self.now in
     let new = c.perform.new.self in
     let e : c.min-budget.result ≡ min c.args.steps old.world.limits.steps = omega (arith, c.min-budget.ensures) in
-    subst (λ s. Keeps (g.N.Natives.host old.natives) (step (datum_of c.args.datum.now)) s (state_of old) (answers_of old) (session_uses old)
+    subst (λ s. MakesUses (g.N.Natives.host old.natives) (step (datum_of c.args.datum.now)) s (state_of old) (answers_of old) (session_uses old)
     (Storage (c.min-budget.result - c.perform.new.steps)) (answers_of new) (session_uses new)) e
     (kept_stored (g.N.Natives.host old.natives) (step (datum_of c.args.datum.now)) (state_of old) c.min-budget.result c.perform.new.steps
     (answers_of old) (answers_of new) (session_uses old) (session_uses new) c.in-Err-Storage.field-0 c.in-Err-Storage.field-0-is
-    (c.in-Err-Storage.ensures.uses x))
+    c.in-Err-Storage.ensures.uses)
