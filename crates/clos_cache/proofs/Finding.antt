@@ -1,5 +1,6 @@
 -- What is found by the index and what is found in the list are one.
-use Rattle.std.proofs.Common.{◌≡◌, ℕ, suc, Bool, true, false, cond, List, [], ◌∷◌, Option, Some, None, option_map, refl, ap, subst, ◌∙◌, sym, true≢false, IsSome}
+use Rattle.std.proofs.Common.{◌≡◌, ℕ, zero, suc, Bool, true, false, cond, List, [], ◌∷◌, Option, Some, None, option_map, refl, ap, subst, ◌∙◌, sym, true≢false, IsSome}
+use Rattle.std.specs.List.{slice_get}
 use Rattle.std.specs.Map.{lookup}
 use Rattle.slab.specs.Slab.{Slab, get}
 use Rattle.clos_cache.specs.Cache.{Kept, found}
@@ -37,3 +38,17 @@ module _ {T : Type 0} where
       → IsSome (get entries p)
   there_at es entries test p there h =
       let a = looked_up test es p h in subst (λ q. IsSome (get entries q)) a.is (there a.place a.entry a.there)
+
+  key_first : (e : Key × ℕ) (x : Option (Entry T)) (rest : List (Key × Kept T)) (es : List (Key × ℕ)) (i : ℕ) → IsSome x
+      → ((j : ℕ) → option_map (λ k. k.0) (slice_get rest j) ≡ option_map (λ f. f.0) (slice_get es j))
+      → option_map (λ k. k.0) (slice_get (with_entry e.0 x rest) i) ≡ option_map (λ f. f.0) (slice_get (e ∷ es) i)
+  key_first e (Some x) rest es zero h r = refl
+  key_first e (Some x) rest es (suc i) h r = r i
+  key_first e None rest es i h r = absurd (true≢false (sym h))
+
+  -- the key at a place of all that is kept is the one at that place of the index
+  pub key_at : (es : List (Key × ℕ)) (entries : Slab (Entry T)) (i : ℕ) → AreThere es entries
+      → option_map (λ k. k.0) (slice_get (kept_in es entries) i) ≡ option_map (λ f. f.0) (slice_get es i)
+  key_at [] entries i there = refl
+  key_at (e ∷ es) entries i there = key_first e (get entries e.1) (kept_in es entries) es i (there 0 e refl)
+      (λ j. key_at es entries j (λ k f h. there (suc k) f h))

@@ -1,5 +1,5 @@
 //! Outcomes that are kept, by their keys.
-ghost use Rattle.std.specs.Prelude.{◌≡◌, ◌<◌, [], cond, None, Some, IsOk, IsSome, OnErr, OnOk, option_map};
+ghost use Rattle.std.specs.Prelude.{◌≡◌, ◌<◌, [], cond, None, Some, IsOk, IsSome, OnErr, OnOk, option_copied, option_map, slice_get};
 ghost use Rattle.std.specs.Map.{lookup};
 ghost use Rattle.slab.specs.Slab.{Updates, get, slab_len};
 ghost use Rattle.indexmap.specs.IndexMap.{insert_entry, spare};
@@ -70,6 +70,17 @@ impl<T> Cache<T> {
                 None => None,
                 Some(entry) => Some(&entry.outcome),
             },
+        }
+    }
+
+    /// The key at a place of all that are kept, which stand in no order that means anything.
+    #[tactic(auto, using(crate::proofs::Finding::key_at))]
+    pub fn key(&self, place: usize) -> Option<&Key>
+        ensures { option_copied result ≡ option_map (λ k. k.0) (slice_get self.now place) }
+    {
+        match self.index.get_index(place) {
+            Some((key, _)) => Some(key),
+            None => None,
         }
     }
 

@@ -103,8 +103,8 @@ fn call_matched(
 ) -> Result<Doing, Stop>
     requires { combined_of found.value.outcome ≡ effective world.now.combinations world.now.generics.table id.0
         found.value.methods }
-    ensures leads { (f : Function) → Some f ≡ slice_get (seen world.now).generics.functions id.0 → Leads
-        (here machine.old (λ ev env. matched ev arguments id.0 f found.value.methods)) (seen world.now) result
+    ensures leads { (f : Function) → Some f ≡ slice_get (seen world.now).generics.functions id.0
+        → Leads (here machine.old (λ ev env. matched ev arguments id.0 f found.value.methods)) (seen world.now) result
         machine.new }
     ensures small { Grows call_growth machine.old.levels result machine.new }
 {
@@ -123,9 +123,12 @@ fn run_combined(
     found: Rc<EffectiveMethod>,
     arguments: Arguments,
 ) -> Result<Doing, Stop>
-    ensures leads { (f : Function) → Some f ≡ slice_get (seen world.now).generics.functions id.0 → Leads
-        (here machine.old (λ ev env. combined_run ev (in_call (record { generic = id.0; methods = found.value.methods })
-        arguments) f (combined_of found.value.outcome))) (seen world.now) result machine.new }
+    ensures leads { (f : Function) → Some f ≡ slice_get (seen world.now).generics.functions id.0
+        → Leads (here machine.old (λ ev env. combined_run ev (in_call (record {
+          generic = id.0;
+          methods =
+              found.value.methods;
+        }) arguments) f (combined_of found.value.outcome))) (seen world.now) result machine.new }
     ensures small { Grows call_growth machine.old.levels result machine.new }
 {
     match &found.outcome {
@@ -169,8 +172,8 @@ fn refuse_function(
     kind: ConditionKind,
     group: Option<Name>,
 ) -> Stop
-    ensures { (f : Function) → Some f ≡ slice_get (seen world.now).generics.functions id.0 → TellsCondition
-        (about_function kind f group) result }
+    ensures { (f : Function) → Some f ≡ slice_get (seen world.now).generics.functions id.0
+        → TellsCondition (about_function kind f group) result }
 {
     match about_function(alloc, world, id, kind, group) {
         Ok(condition) => Stop::Refused(condition),

@@ -12,7 +12,7 @@ ghost use Rattle.clos_class.specs.SlotsView.{defaults, direct_slots, says_nothin
 ghost use Rattle.clos_class.specs.Table.{cells_to_make, classes_with, initial, is_unambiguous, list_with, number, refusal, with_definition, with_row};
 
 use crate::definition::has_shared_slots;
-use crate::direct::ClassSlots;
+use crate::direct::{ClassSlots, DirectSlot};
 use crate::effective::Effective;
 use crate::effective_slots::EffectiveSlot;
 use crate::keep::{keep, keep_first, kept_at};
@@ -160,6 +160,26 @@ impl Classes {
         ensures { result.now ≡ self.now.table }
     {
         &self.table
+    }
+
+    /// The direct slots of a class, in written order (HyperSpec 7.5.3).
+    pub fn direct_slots(&self, class: ClassId) -> &[DirectSlot]
+        ensures { result.now ≡ direct_slots self.now.slots class.0 }
+    {
+        match self.rows.get(class.0 as usize) {
+            Some(said) => said.slots.as_slice(),
+            None => &[],
+        }
+    }
+
+    /// The default initargs that a class itself gives, in written order (HyperSpec 7.1.3).
+    pub fn direct_defaults(&self, class: ClassId) -> &[DefaultInitarg]
+        ensures { result.now ≡ defaults self.now.slots class.0 }
+    {
+        match self.rows.get(class.0 as usize) {
+            Some(said) => said.defaults.as_slice(),
+            None => &[],
+        }
     }
 
     /// What a class has by its class precedence list, if it has one (AMOP 5.4). Who goes on with it while classes are

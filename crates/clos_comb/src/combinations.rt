@@ -1,5 +1,5 @@
 //! The method combinations of a session (HyperSpec 7.6.6.4, 7.7 `define-method-combination`).
-ghost use Rattle.std.specs.Prelude.{◌≡◌, ◌+◌, true, IfOk, IsOk, OnOk, OnErr, None, Some, if◌then◌else◌, map, min, option_copied, option_map};
+ghost use Rattle.std.specs.Prelude.{◌≡◌, ◌+◌, true, IfOk, IsOk, OnOk, OnErr, None, Some, if◌then◌else◌, map, min, option_copied, option_map, slice_get};
 ghost use Rattle.std.specs.List.{find};
 ghost use Rattle.clos_generic.specs.TableView.{function_of};
 ghost use Rattle.clos_groups.specs.clos_combination.declared.combination.CombinationDefinition.TheVariants.{Short, Long};
@@ -93,6 +93,17 @@ impl Combinations {
         ensures { option_map (λ d. definition_of d.now) result ≡ lookup (same_name name.now) self.now.defined }
     {
         self.defined.get(name)
+    }
+
+    /// The name at a place of the program's combinations, in order of first definition.
+    #[tactic(auto, using(crate::proofs::Tables::name_at))]
+    pub fn name(&self, place: usize) -> Option<&Name>
+        ensures { option_copied result ≡ option_map (λ d. d.0) (slice_get self.now.defined place) }
+    {
+        match self.defined.get_index(place) {
+            Some((name, _)) => Some(name),
+            None => None,
+        }
     }
 
     /// Whether the system has a combination of this name, which can't be defined again.

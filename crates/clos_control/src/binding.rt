@@ -77,9 +77,10 @@ fn bind_in_order(
     mut plan: Plan,
     forms: &Forms,
 ) -> Result<Doing, Stop>
-    ensures leads { (run : Run) → ((t : ℕ) → in_order (meaning machine.old.room) machine.old.context outer plan
-        forms.now (at machine.old (seen world.now)) t ≡ run (at machine.old (seen world.now)) t) → Leads
-        (inside machine.old run) (seen world.now) result machine.new }
+    ensures leads { (run : Run)
+        → ((t : ℕ) → in_order (meaning machine.old.room) machine.old.context outer plan forms.now (at machine.old (seen
+        world.now)) t ≡ run (at machine.old (seen world.now)) t)
+        → Leads (inside machine.old run) (seen world.now) result machine.new }
     ensures small { Grows value_weight machine.old.levels result machine.new }
 {
     match bind_unset(alloc, world, &mut machine.locals, &mut plan) {
@@ -187,9 +188,10 @@ fn set_aside(
     mut plan: Plan,
     forms: &Forms,
 ) -> Result<Doing, Stop>
-    ensures leads { (run : Run) → ((t : ℕ) → aside (meaning machine.old.room) machine.old.context outer plan forms.now
-        locals (at machine.old (seen world.now)) t ≡ run (at machine.old (seen world.now)) t) → Leads
-        (inside machine.old run) (seen world.now) result machine.new }
+    ensures leads { (run : Run)
+        → ((t : ℕ) → aside (meaning machine.old.room) machine.old.context outer plan forms.now locals (at machine.old
+        (seen world.now)) t ≡ run (at machine.old (seen world.now)) t)
+        → Leads (inside machine.old run) (seen world.now) result machine.new }
     ensures small { Grows value_weight machine.old.levels result machine.new }
 {
     let next = put_unset_aside(&mut locals, &mut plan)?;
@@ -235,9 +237,10 @@ fn bind_together(
     locals: Locals,
     forms: &Forms,
 ) -> Result<Doing, Stop>
-    ensures leads { (run : Run) → ((t : ℕ) → together (meaning machine.old.room) machine.old.context outer locals
-        forms.now (at machine.old (seen world.now)) t ≡ run (at machine.old (seen world.now)) t) → Leads
-        (inside machine.old run) (seen world.now) result machine.new }
+    ensures leads { (run : Run)
+        → ((t : ℕ) → together (meaning machine.old.room) machine.old.context outer locals forms.now (at machine.old
+        (seen world.now)) t ≡ run (at machine.old (seen world.now)) t)
+        → Leads (inside machine.old run) (seen world.now) result machine.new }
     ensures small { Grows value_weight machine.old.levels result machine.new }
 {
     if locals.any_global(world) {
@@ -253,9 +256,9 @@ pub fn run_beside(
     locals: Locals,
     forms: &Forms,
 ) -> Result<Doing, Stop>
-    ensures leads { (run : Run) (w : State) → ((t : ℕ) → within (meaning machine.old.room) machine.old.context outer
-        forms.now (list nil) (bound_as (locals ++ machine.old.locals) w) t ≡ run (at machine.old w) t) → Leads
-        (inside machine.old run) w result machine.new }
+    ensures leads { (run : Run) (w : State)
+        → ((t : ℕ) → within (meaning machine.old.room) machine.old.context outer forms.now (list nil) (bound_as (locals
+        ++ machine.old.locals) w) t ≡ run (at machine.old w) t) → Leads (inside machine.old run) w result machine.new }
     ensures small { Grows value_weight machine.old.levels result machine.new }
 {
     machine.locals.append(locals)?;

@@ -38,8 +38,9 @@ pub fn read_name(
 /// A name that is no variable with a value is read.
 #[tactic(auto, using(clos_machine::proofs::Turns::stopped_through))]
 fn read_place(alloc: Global, machine: &mut Machine, name: &Name) -> Result<Doing, Stop>
-    ensures leads { (w : State) → None ≡ found_value (at machine.old w) name.now → Leads
-        (here machine.old (λ ev env w. name_read ev env name.now (place_denoted w name.now) w)) w result machine.new }
+    ensures leads { (w : State) → None ≡ found_value (at machine.old w) name.now
+        → Leads (here machine.old (λ ev env w. name_read ev env name.now (place_denoted w name.now) w)) w result
+        machine.new }
     ensures small { Grows act_weight machine.old.levels result machine.new }
 {
     match place_denoted(alloc, machine, name)? {

@@ -1,6 +1,6 @@
 //! A session's table of classes (HyperSpec 4.3).
 ghost use Rattle.std.specs.Prelude.{◌≡◌, ◌<◌, ◌↔◌, ℕ, None, false, length, map, true, IfOk, IfErr, IfSome, IsNone, IsTrue, OnOk, OnErr, option_map, option_copied, slice_get};
-ghost use Rattle.clos_hierarchy.specs.Classes.{named, number_of, with_class, listing, broken, list_in};
+ghost use Rattle.clos_hierarchy.specs.Classes.{named, names_above, number_of, with_class, listing, broken, list_in};
 ghost use Rattle.clos_precedence.specs.Precedence.{has};
 ghost use Rattle.clos_hierarchy.specs.Initial.{initial, is_standard, class_of_class};
 ghost use Rattle.clos_precedence.specs.PrecedenceView.{numbers};
@@ -150,6 +150,14 @@ impl Hierarchy {
         ensures { option_copied result ≡ slice_get self.now.classes.names class.0 }
     {
         self.definitions.name(class)
+    }
+
+    /// The names of the direct superclasses of a class, some of which may not be defined yet, in the order of its definition
+    /// (HyperSpec 4.3.5.1).
+    pub fn superclasses(&self, class: ClassId) -> &[Name]
+        ensures { result.now ≡ names_above self.now.classes class.0 }
+    {
+        self.definitions.above(class)
     }
 
     /// The class precedence list of a class (HyperSpec 4.3.5), if all its superclasses are defined.

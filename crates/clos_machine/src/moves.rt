@@ -53,10 +53,10 @@ pub fn set_apart(alloc: Global, machine: &mut Machine, context: Context) -> Resu
 
 /// Evaluates this next, and then does what the frame does with its value.
 pub fn begin(machine: &mut Machine, next: Form, frame: Frame) -> Result<Doing, Stop>
-    ensures leads { (run : Run) (w : State) → below machine.old.context frame ≡ machine.old.context →
-        ((t : ℕ) → then_do (meaning machine.old.room machine.old.context next (at machine.old w) t)
-        (after (meaning machine.old.room) machine.old.context frame) ≡ run (at machine.old w) t) → Leads
-        (inside machine.old run) w result machine.new }
+    ensures leads { (run : Run) (w : State) → below machine.old.context frame ≡ machine.old.context
+        → ((t : ℕ) → then_do (meaning machine.old.room machine.old.context next (at machine.old w) t) (after (meaning
+        machine.old.room) machine.old.context frame) ≡ run (at machine.old w) t)
+        → Leads (inside machine.old run) w result machine.new }
     ensures small { Grows (weight_of frame) machine.old.levels result machine.new }
 {
     let room = machine.room;
@@ -83,11 +83,11 @@ pub fn begin_under(
     frame: Frame,
     outer: Frame,
 ) -> Result<Doing, Stop>
-    ensures leads { (run : Run) (w : State) → below machine.old.context frame ≡ machine.old.context → below
-        machine.old.context outer ≡ machine.old.context → ((t : ℕ) → then_do
-        (then_do (meaning machine.old.room machine.old.context next (at machine.old w) t)
-        (after (meaning machine.old.room) machine.old.context frame)) (after (meaning machine.old.room)
-        machine.old.context outer) ≡ run (at machine.old w) t) → Leads (inside machine.old run) w result machine.new }
+    ensures leads { (run : Run) (w : State) → below machine.old.context frame ≡ machine.old.context
+        → below machine.old.context outer ≡ machine.old.context
+        → ((t : ℕ) → then_do (then_do (meaning machine.old.room machine.old.context next (at machine.old w) t) (after
+        (meaning machine.old.room) machine.old.context frame)) (after (meaning machine.old.room) machine.old.context
+        outer) ≡ run (at machine.old w) t) → Leads (inside machine.old run) w result machine.new }
     ensures small { Grows (weight_of frame + weight_of outer) machine.old.levels result machine.new }
 {
     let room = machine.room;
@@ -105,10 +105,10 @@ pub fn act_under(
     values: Values,
     frame: Frame,
 ) -> Result<Doing, Stop>
-    ensures leads { (run : Run) (w : State) → below machine.old.context frame ≡ machine.old.context →
-        ((t : ℕ) → then_do (acted (meaning machine.old.room) machine.old.context action values (at machine.old w) t)
-        (after (meaning machine.old.room) machine.old.context frame) ≡ run (at machine.old w) t) → Leads
-        (inside machine.old run) w result machine.new }
+    ensures leads { (run : Run) (w : State) → below machine.old.context frame ≡ machine.old.context
+        → ((t : ℕ) → then_do (acted (meaning machine.old.room) machine.old.context action values (at machine.old w) t)
+        (after (meaning machine.old.room) machine.old.context frame) ≡ run (at machine.old w) t)
+        → Leads (inside machine.old run) w result machine.new }
     ensures small { Grows (weight_of frame + action_weight action) machine.old.levels result machine.new }
 {
     let room = machine.room;
@@ -125,10 +125,10 @@ pub fn invoke_under(
     arguments: Values,
     frame: Frame,
 ) -> Result<Doing, Stop>
-    ensures leads { (run : Run) (w : State) → below machine.old.context frame ≡ machine.old.context →
-        ((t : ℕ) → then_do (invoked (meaning machine.old.room) function arguments (at machine.old w) t)
-        (after (meaning machine.old.room) machine.old.context frame) ≡ run (at machine.old w) t) → Leads
-        (inside machine.old run) w result machine.new }
+    ensures leads { (run : Run) (w : State) → below machine.old.context frame ≡ machine.old.context
+        → ((t : ℕ) → then_do (invoked (meaning machine.old.room) function arguments (at machine.old w) t) (after
+        (meaning machine.old.room) machine.old.context frame) ≡ run (at machine.old w) t)
+        → Leads (inside machine.old run) w result machine.new }
     ensures small { Grows (weight_of frame + invoke_weight) machine.old.levels result machine.new }
 {
     let room = machine.room;

@@ -1,9 +1,10 @@
 -- Lists of names.
-use Rattle.std.proofs.Common.{◌≡◌, ℕ, List, [], ◌∷◌, Bool, true, false, ◌||◌, map, refl, ap}
-use Rattle.std.specs.Prelude.{is_some, Option, Some, None, not, ◌&&◌, if◌then◌else◌}
+use Rattle.std.proofs.Common.{◌≡◌, ℕ, zero, suc, List, [], ◌∷◌, Bool, true, false, ◌||◌, map, refl, ap}
+use Rattle.std.specs.Prelude.{is_some, option_map, slice_get, Option, Some, None, not, ◌&&◌, if◌then◌else◌}
+use Rattle.std.specs.Borrow.{Bor}
 use Rattle.std.specs.List.{list_any}
 use Rattle.std.specs.Str.{bytes_eq}
-use Rattle.clos_names.specs.Special.{entry_of, special_of, specials, special_operators}
+use Rattle.clos_names.specs.Special.{entry_of, special_of, specials, special_operators, told}
 use Rattle.clos_names.specs.Names.{is_one_of}
 use Rattle.lisp_data.specs.Name.{Name}
 use Rattle.clos_names.specs.declared.special.Special.{Special}
@@ -27,3 +28,9 @@ unless_keyword false x r h = h
 
 pub special_is_one : (name : Name) → is_some (special_of name) ≡ is_one_of special_operators name
 special_is_one name = unless_keyword name.keyword (entry_of specials name.text) _ (has_entry specials name.text)
+
+-- the name at a place of a table
+pub name_at : (es : List (Bor (List ℕ) × Special)) (i : ℕ) → option_map (λ (e : Bor (List ℕ) × Special). e.0.now) (slice_get es i) ≡ slice_get (map (λ (e : List ℕ × Special). e.0) (map told es)) i
+name_at [] i = refl
+name_at (e ∷ es) zero = refl
+name_at (e ∷ es) (suc i) = name_at es i

@@ -9,7 +9,7 @@ mod special;
 pub use called_name::CalledName;
 pub use callee::{Callee, ClassFunction, Output, SlotFunction};
 pub use names::{
-    is_among, is_closed_function, is_definition, is_function, is_system_function, is_the,
-    names_constant,
+    definition_names, function_names, is_among, is_closed_function, is_definition, is_function,
+    is_system_function, is_the, names_constant, system_function_names,
 };
-pub use special::{Special, is_special_operator};
+pub use special::{Special, is_special_operator, special_operator_name};

@@ -44,6 +44,27 @@ const SYSTEM_FUNCTIONS: [&str; 9] = [
     "NO-NEXT-METHOD",
 ];
 
+/// The names of the forms that stand at the top level alone.
+pub fn definition_names() -> &'static [&'static str]
+    ensures { map (λ t. t.now) result.now ≡ definitions }
+{
+    &DEFINITIONS
+}
+
+/// The names of the functions of the language.
+pub fn function_names() -> &'static [&'static str]
+    ensures { map (λ t. t.now) result.now ≡ functions }
+{
+    &FUNCTIONS
+}
+
+/// The names of the generic functions of the system (HyperSpec 7.7).
+pub fn system_function_names() -> &'static [&'static str]
+    ensures { map (λ t. t.now) result.now ≡ system_functions }
+{
+    &SYSTEM_FUNCTIONS
+}
+
 /// Whether a name is one of these, and no keyword.
 #[tactic(auto, using(crate::proofs::Lists::any_of_map))]
 pub fn is_among(texts: &[&str], name: &Name) -> bool

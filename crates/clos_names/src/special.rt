@@ -1,5 +1,5 @@
 //! The special operators and macros of the language, by their names (HyperSpec 3.1.2.1.2.1, 3.1.2.1.2.2).
-ghost use Rattle.std.specs.Prelude.{◌≡◌, Some, is_some, map};
+ghost use Rattle.std.specs.Prelude.{◌≡◌, Some, is_some, map, option_map, slice_get};
 ghost use Rattle.clos_names.specs.Names.{is_one_of};
 ghost use Rattle.clos_names.specs.Special.{entry_of, special_of, special_operators, told};
 
@@ -67,11 +67,29 @@ impl Special {
     }
 }
 
+/// The name at a place of the special operators and macros.
+pub fn special_operator_name(place: usize) -> Option<&'static str>
+    ensures { option_map (λ t. t.now) result ≡ slice_get special_operators place }
+{
+    name_at(&NAMES, place)
+}
+
 /// Whether the name is a special operator's or a macro's.
 pub fn is_special_operator(name: &Name) -> bool
     ensures { result ≡ is_one_of special_operators name.now }
 {
     Special::named(name).is_some()
+}
+
+/// The name at a place of a table.
+#[tactic(auto, using(crate::proofs::Lists::name_at))]
+fn name_at(table: &[(&'static str, Special)], place: usize) -> Option<&'static str>
+    ensures { option_map (λ t. t.now) result ≡ slice_get (map (λ e. e.0) (map told table.now)) place }
+{
+    match table.get(place) {
+        Some(entry) => Some(entry.0),
+        None => None,
+    }
 }
 
 /// The operator of these characters in a table.

@@ -1,7 +1,8 @@
 -- The tables of global variables and of functions as their contracts see them.
-use Rattle.std.proofs.Common.{◌≡◌, List, [], ◌∷◌, true, false, Option, Some, None, map, refl, ap, sym, ◌∙◌, true≢false}
+use Rattle.std.proofs.Common.{◌≡◌, ℕ, zero, suc, List, [], ◌∷◌, true, false, Option, Some, None, map, refl, ap, sym, ◌∙◌, true≢false}
 use Rattle.std.specs.Borrow.{Bor}
 use Rattle.std.specs.Prelude.{option_copied, option_map, is_some, if◌then◌else◌}
+use Rattle.std.specs.List.{slice_get}
 use Rattle.std.specs.Map.{lookup}
 use Rattle.std.proofs.lemmas.Map.Made.{lookup-map_values}
 use Rattle.lisp_data.specs.Name.{Name, same_name}
@@ -30,6 +31,11 @@ no_global es name e h = true≢false (sym h ∙ sym (is_found es name None (sym 
 
 pub value_found : (es : List (Name × Option Value)) (name : Name) → if_bound (option_map (option_map value_of) (lookup (same_name name) es)) ≡ global_value (map global_of es) name
 value_found es name = ap if_bound (sym (lookup-map_values (option_map value_of) (same_name name) es))
+
+pub name_at : (es : List (Name × Option Value)) (i : ℕ) → option_map (λ g. g.0) (slice_get (map global_of es) i) ≡ option_map (λ e. e.0) (slice_get es i)
+name_at [] i = refl
+name_at (e ∷ es) zero = refl
+name_at (e ∷ es) (suc i) = name_at es i
 
 pub set_of_map : (es : List (Name × Option Value)) (name : Name) (value : Option Value)
     → map global_of (insert_entry same_name es name value) ≡ with_global name (option_map value_of value) (map global_of es)

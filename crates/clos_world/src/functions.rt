@@ -1,5 +1,5 @@
 //! Functions that `defun` defines (HyperSpec 5.3 `defun`).
-ghost use Rattle.std.specs.Prelude.{◌≡◌, [], OnOk, OnErr, option_copied, length};
+ghost use Rattle.std.specs.Prelude.{◌≡◌, [], OnOk, OnErr, option_copied, option_map, length, slice_get};
 ghost use Rattle.clos_world.specs.Functions.{function_in, with_function};
 
 use clos_forms::Forms;
@@ -52,6 +52,16 @@ impl Functions {
         ensures { option_copied result ≡ function_in self.now name.now }
     {
         self.named.get(name)
+    }
+
+    /// The name at a place, in order of definition.
+    pub fn name(&self, place: usize) -> Option<&Name>
+        ensures { option_copied result ≡ option_map (λ f. f.0) (slice_get self.now place) }
+    {
+        match self.named.get_index(place) {
+            Some((name, _)) => Some(name),
+            None => None,
+        }
     }
 
     /// How many they are.

@@ -1,5 +1,5 @@
 //! Global variables (HyperSpec 3.1.2.1.1, 5.3 `defvar`).
-ghost use Rattle.std.specs.Prelude.{◌≡◌, [], OnOk, OnErr, IsOk, map, option_map, length, true, None, Some};
+ghost use Rattle.std.specs.Prelude.{◌≡◌, [], OnOk, OnErr, IsOk, map, option_copied, option_map, length, slice_get, true, None, Some};
 ghost use Rattle.lisp_data.specs.ValueView.{value_of};
 ghost use Rattle.clos_world.specs.Globals.{global_value, is_global, with_global};
 
@@ -55,6 +55,17 @@ impl Globals {
     {
         match self.values.get(name) {
             Some(value) => value.as_ref(),
+            None => None,
+        }
+    }
+
+    /// The name at a place, in order of definition.
+    #[tactic(auto, using(crate::proofs::Variables::name_at))]
+    pub fn name(&self, place: usize) -> Option<&Name>
+        ensures { option_copied result ≡ option_map (λ g. g.0) (slice_get self.now place) }
+    {
+        match self.values.get_index(place) {
+            Some((name, _)) => Some(name),
             None => None,
         }
     }
