@@ -1,3 +1,4 @@
 pub mod Sums
 pub mod Lines
 pub mod Following
+pub use Rattle.clos_system.proofs as system_proofs

@@ -2,3 +2,4 @@ pub mod Lines
 pub mod Notices
 pub mod Program
 pub mod Dependents
+pub use Rattle.clos_system.specs as clos_system

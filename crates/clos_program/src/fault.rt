@@ -21,7 +21,7 @@ pub enum Fault<'a> {
 
 impl<'a> Fault<'a> {
     /// The fault of a run over the file of this name.
-    pub(crate) fn of_run(name: &'a str, fault: &RunFault) -> Fault<'a> {
+    pub fn of_run(name: &'a str, fault: &RunFault) -> Fault<'a> {
         match fault {
             RunFault::Read => Fault::Read(name),
             RunFault::TooLong => Fault::TooLong(name),
@@ -36,16 +36,10 @@ impl<'a> Fault<'a> {
 impl fmt::Display for Fault<'_> {
     fn fmt<W: fmt::Write>(&self, f: &mut fmt::Formatter<W>) -> fmt::Result {
         match self {
-            Fault::Read(name) => {
-                write_name(f, name)?;
-                f.write_str(": read fault")
-            }
-            Fault::TooLong(name) => {
-                write_name(f, name)?;
-                f.write_str(": too long")
-            }
+            Fault::Read(name) => write!(f, "{}: read fault", FileName(name)),
+            Fault::TooLong(name) => write!(f, "{}: too long", FileName(name)),
             Fault::Reader(name, fault) => {
-                write_name(f, name)?;
+                write!(f, "{}", FileName(name))?;
                 write_reader_fault(f, *fault)
             }
             Fault::Write => f.write_str("write fault"),
@@ -54,12 +48,17 @@ impl fmt::Display for Fault<'_> {
     }
 }
 
-/// A file's name with a `?` for each control character, so that the line of a fault stays one line.
-fn write_name<W: fmt::Write>(f: &mut fmt::Formatter<W>, name: &str) -> fmt::Result {
-    for c in name.chars() {
-        f.write_char(if c.is_control() { '?' } else { c })?;
+/// A file's name as it is told: with a `?` for each control character, so that its line stays one line.
+#[derive(Clone, Copy, Debug)]
+pub struct FileName<'a>(pub &'a str);
+
+impl fmt::Display for FileName<'_> {
+    fn fmt<W: fmt::Write>(&self, f: &mut fmt::Formatter<W>) -> fmt::Result {
+        for c in self.0.chars() {
+            f.write_char(if c.is_control() { '?' } else { c })?;
+        }
+        Ok(())
     }
-    Ok(())
 }
 
 fn write_reader_fault<W: fmt::Write>(f: &mut fmt::Formatter<W>, fault: ReadFault) -> fmt::Result {

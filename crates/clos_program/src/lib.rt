@@ -8,13 +8,16 @@ mod notices;
 mod output;
 mod running;
 
+pub use clos_command_line::Settings;
 pub use clos_system::{
-    Callback, Dependent, Handed, Limits, Native, Notice, Recorder, Relation, Session,
+    Callback, Dependent, Dependents, Handed, Limits, Native, Natives, Notice, Performed, Recorder,
+    Relation, RunFault, Session, Stop, Summary, read_source, run_form,
 };
 pub use dependents::{KindNumber, kind_number};
-pub use fault::{Fault, report};
+pub use fault::{Fault, FileName, report};
 pub use natives::{affine, low};
 pub use output::Output;
 pub use running::{
-    STATUS_CONDITION, STATUS_DONE, STATUS_FAULT, STATUS_USAGE, limits, program, reads_input,
+    STATUS_CONDITION, STATUS_DONE, STATUS_FAULT, STATUS_USAGE, finish, is_input, limits, program,
+    reads_input, tell_notices,
 };

@@ -32,7 +32,7 @@ pub const STATUS_FAULT: u8 = 3;
 const INPUT_NAME: &str = "-";
 
 /// Whether this name stands for standard input.
-fn is_input(name: &str) -> bool
+pub fn is_input(name: &str) -> bool
     ensures { result ≡ is_input name.now }
 {
     name == "-"
@@ -161,7 +161,11 @@ fn run_all<'a, N: Natives, D: Dependents, R: Files, I: Read, O: Write>(
 }
 
 /// Flushes the output, tells a fault in one line on `errors`, and gives the exit status.
-fn finish<O: Write, E: Write>(ran: Result<bool, Fault<'_>>, output: &mut O, errors: &mut E) -> u8
+pub fn finish<O: Write, E: Write>(
+    ran: Result<bool, Fault<'_>>,
+    output: &mut O,
+    errors: &mut E,
+) -> u8
     ensures keeps { Keeps (O.contents output.old) (O.contents output.new) }
     ensures status { MatchResult ran.entry (λ told. (result ≡ status_of told) ⊎ (result ≡ fault_status)) (λ _. result ≡ fault_status) }
 {
@@ -183,7 +187,7 @@ fn finish<O: Write, E: Write>(ran: Result<bool, Fault<'_>>, output: &mut O, erro
 
 /// What a run told, once what AUDIT and SECOND heard is written after it, where it is asked for and the run ended without a
 /// fault.
-fn tell_notices<'a, N: Natives, D: Dependents, W: Write>(
+pub fn tell_notices<'a, N: Natives, D: Dependents, W: Write>(
     alloc: Global,
     session: &Session<N, D>,
     notices: bool,

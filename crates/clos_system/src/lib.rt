@@ -5,6 +5,6 @@ mod transcript;
 
 pub use clos_session::{
     Callback, ConditionKind, Dependent, Dependents, Handed, Limits, Listener, Native, Natives,
-    Notice, Recorder, Relation, Reply, Session, Values, print_notice,
+    Notice, Recorder, Relation, Reply, Session, Stop, Values, World, print_notice,
 };
-pub use transcript::{RunFault, Summary, run};
+pub use transcript::{Performed, RunFault, Summary, read_source, run, run_form};

@@ -28,6 +28,30 @@ pub struct Summary {
     pub storages: u64,
 }
 
+/// What comes of a form of a run.
+pub struct Performed {
+    /// How the forms ended so far, with this one.
+    pub summary: Summary,
+    /// Whether a line has ended.
+    pub fresh: bool,
+    /// The form.
+    pub form: Datum,
+    /// Its value, or why it stopped.
+    pub answer: Result<Value, Stop>,
+}
+
+// By hand: what drops it does not ask what the form was, nor how it ended.
+impl Drop for Performed {
+    fn drop(self) {
+        let Performed {
+            summary: _,
+            fresh: _,
+            form: _,
+            answer: _,
+        } = self;
+    }
+}
+
 /// Why a run ended before its text did.
 #[derive(Debug, Drop, Error)]
 pub enum RunFault {
@@ -71,7 +95,7 @@ pub fn run<N: Natives, D: Dependents, R: Read, W: Write>(
 }
 
 /// The bytes of a source, of which there are not too many.
-fn read_source<R: Read>(alloc: Global, reader: &mut R) -> Result<Vec<u8>, RunFault>
+pub fn read_source<R: Read>(alloc: Global, reader: &mut R) -> Result<Vec<u8>, RunFault>
     ensures whole { IfOk result (λ s. (length s.items ≤ 16_777_216) × IfSome (R.remaining reader.old) (λ text. s.items ≡ text)) }
     ensures fails { IfErr result (SourceFails (R.remaining reader.old)) }
 {
@@ -127,9 +151,9 @@ fn run_text<N: Natives, D: Dependents, W: Write>(
             Ok(Some(found)) => {
                 let (datum, next) = found;
                 match run_form(alloc, session, datum, writer, echo, fresh, summary) {
-                    Ok(told) => {
-                        summary = told.0;
-                        fresh = told.1;
+                    Ok(performed) => {
+                        summary = performed.summary;
+                        fresh = performed.fresh;
                         at = next;
                     }
                     Err(fault) => return Err(fault),
@@ -141,8 +165,9 @@ fn run_text<N: Natives, D: Dependents, W: Write>(
     }
 }
 
-/// Performs a form and writes what is told of it. Answers the counts with it, and whether a line has ended.
-fn run_form<N: Natives, D: Dependents, W: Write>(
+/// The step of a run: performs a form, which follows so many others, and writes what is told of it, where `fresh` says whether
+/// a line has ended.
+pub fn run_form<N: Natives, D: Dependents, W: Write>(
     alloc: Global,
     session: &mut Session<N, D>,
     datum: Datum,
@@ -150,14 +175,14 @@ fn run_form<N: Natives, D: Dependents, W: Write>(
     echo: bool,
     fresh: bool,
     summary: Summary,
-) -> Result<(Summary, bool), RunFault>
+) -> Result<Performed, RunFault>
     requires forms { summary.forms + 1 < 2 ^ 64 }
     requires conditions { summary.conditions ≤ summary.forms }
     requires storages { summary.storages ≤ summary.forms }
     ensures performs { IfOk result (λ r. Performs (N.host session.old.natives) echo (datum_of datum)
         (standing_of (D.told session.old.dependents) session.old) (standing_of (D.told session.new.dependents) session.new)
-        (W.contents writer.old) (W.contents writer.new) summary r.0 fresh r.1) }
-    ensures few { IfOk result (λ r. (r.0.conditions ≤ r.0.forms) × (r.0.storages ≤ r.0.forms) × (r.0.forms ≡ summary.forms + 1)) }
+        (W.contents writer.old) (W.contents writer.new) summary r.summary fresh r.fresh) }
+    ensures few { IfOk result (λ r. (r.summary.conditions ≤ r.summary.forms) × (r.summary.storages ≤ r.summary.forms) × (r.summary.forms ≡ summary.forms + 1)) }
     ensures fails { IfErr result (FailsAfter (N.host session.old.natives) (datum_of datum) (standing_of (D.told session.old.dependents) session.old)
         (standing_of (D.told session.new.dependents) session.new)) }
     ensures host { N.host session.new.natives ≡ N.host session.old.natives }
@@ -169,14 +194,19 @@ fn run_form<N: Natives, D: Dependents, W: Write>(
     let counts = counted(summary, &answer);
     let world = session.world();
     let taken = limit.saturating_sub(left);
-    let Ok(piece) = tell(alloc, world, from, answer, taken, echo, fresh) else {
+    let Ok(piece) = tell(alloc, world, from, &answer, taken, echo, fresh) else {
         return Err(RunFault::Memory);
     };
     if writer.write_all(piece.as_slice()).is_err() {
         return Err(RunFault::Write);
     }
     let line = ends_line(fresh, piece.as_slice());
-    Ok((counts, line))
+    Ok(Performed {
+        summary: counts,
+        fresh: line,
+        form: datum,
+        answer,
+    })
 }
 
 /// The counts with one more form, which ended so.
@@ -228,24 +258,24 @@ fn tell(
     alloc: Global,
     world: &World,
     from: usize,
-    answer: Result<Value, Stop>,
+    answer: &Result<Value, Stop>,
     taken: u64,
     echo: bool,
     fresh: bool,
 ) -> Result<Vec<u8>, AllocError>
     ensures { IfOk result (λ r. (out : List ℕ) (w : State) → fresh ≡ ends_line out → from ≡ length w.written
-        → out ++ r.items ≡ told_for echo w (seen world.now) answer taken out) }
+        → out ++ r.items ≡ told_for echo w (seen world.now) answer.now taken out) }
 {
     let piece = written_since(alloc, world, from)?;
     match answer {
         Ok(value) => {
             if echo {
-                tell_value(alloc, piece, world, &value, fresh)
+                tell_value(alloc, piece, world, value, fresh)
             } else {
                 Ok(piece)
             }
         }
-        Err(Stop::Refused(condition)) => tell_refused(alloc, piece, world, &condition, fresh),
+        Err(Stop::Refused(condition)) => tell_refused(alloc, piece, world, condition, fresh),
         Err(Stop::Storage) => tell_storage(piece, taken, fresh),
     }
 }

@@ -25,7 +25,7 @@ loop-found-preserved g c =
     (g.N.Natives.host c.run_form.new.session.natives) c.args.echo c.args.text.now
     (standing_of (g.D.Dependents.told c.args.session.now.dependents) c.args.session.now) (standing_of (g.D.Dependents.told c.loop-found.session.dependents) c.loop-found.session) (standing_of (g.D.Dependents.told c.run_form.new.session.dependents) c.run_form.new.session)
     (g.W.Write.contents c.args.writer.now) (g.W.Write.contents c.loop-found.writer) (g.W.Write.contents c.run_form.new.writer)
-    c.loop-found.at c.in-Ok-Some.found.1 c.loop-found.summary c.in-Ok.told.0 c.loop-found.fresh c.in-Ok.told.1 (datum_of c.in-Ok-Some.found.0)
+    c.loop-found.at c.in-Ok-Some.found.1 c.loop-found.summary c.in-Ok.performed.summary c.loop-found.fresh c.in-Ok.performed.fresh (datum_of c.in-Ok-Some.found.0)
     c.loop-found.invariant c.in-Ok.ensures.host h.1 lt h.0 c.in-Ok.ensures.performs c.in-Ok.ensures.few.0 c.in-Ok.ensures.few.1
     c.in-Ok.ensures.few.2
 

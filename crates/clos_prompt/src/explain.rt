@@ -1,0 +1,82 @@
+//! Conditions and faults of reading are explained where they come up.
+ghost use Rattle.std.specs.Io.KnownBytes.{Keeps};
+
+use crate::place::{Place, push_place};
+use clos_explain::{World, explanation};
+use clos_program::{Fault, FileName, Stop};
+use lisp_data::{Datum, Value};
+use std::alloc::{AllocError, Global};
+use std::io::Write;
+
+/// A text with a place, in a file if one is named.
+#[derive(Clone, Copy)]
+pub(crate) struct Source<'a> {
+    pub(crate) file: Option<&'a str>,
+    pub(crate) place: Place,
+}
+
+impl Source<'_> {
+    /// The same at another place.
+    pub(crate) fn at(self, place: Place) -> Self {
+        Source {
+            file: self.file,
+            place,
+        }
+    }
+}
+
+/// A text after where it stands.
+fn placed(alloc: Global, source: Source<'_>, text: &[u8]) -> Result<Vec<u8>, AllocError> {
+    let mut line = Vec::new(alloc);
+    if let Some(name) = source.file {
+        let shown = format!(in alloc; "{}:", FileName(name))?;
+        line.extend_from_slice(shown.as_bytes())?;
+    }
+    push_place(&mut line, source.place)?;
+    line.extend_from_slice(b": ")?;
+    line.extend_from_slice(text)?;
+    Ok(line)
+}
+
+/// Writes an explanation after all that was written. What can't be written on `errors` is lost.
+pub(crate) fn tell<W: Write, E: Write>(
+    alloc: Global,
+    source: Source<'_>,
+    text: &[u8],
+    output: &mut W,
+    errors: &mut E,
+) -> Result<(), Fault<'static>>
+    ensures { Keeps (W.contents output.old) (W.contents output.new) }
+{
+    if output.flush().is_err() {
+        return Err(Fault::Write);
+    }
+    let Ok(line) = placed(alloc, source, text) else {
+        return Err(Fault::Memory);
+    };
+    let _ = errors.write_all(line.as_slice());
+    let _ = errors.flush();
+    Ok(())
+}
+
+/// Explains the condition of a form, if it ended with one.
+#[tactic(auto, using(crate::proofs::Going::nothing_written))]
+pub(crate) fn explain<W: Write, E: Write>(
+    alloc: Global,
+    world: &World,
+    form: &Datum,
+    answer: &Result<Value, Stop>,
+    source: Source<'_>,
+    output: &mut W,
+    errors: &mut E,
+) -> Result<(), Fault<'static>>
+    ensures { Keeps (W.contents output.old) (W.contents output.new) }
+{
+    let Err(Stop::Refused(condition)) = answer else {
+        return Ok(());
+    };
+    let Ok(text) = explanation(alloc, world, form, condition) else {
+        return Err(Fault::Memory);
+    };
+    tell(alloc, source, text.as_slice(), output, errors)
+}
