@@ -1,4 +1,4 @@
-//! Tests of the program: what no clause says of its words, texts and statuses.
+//! Tests of the programs: what no clause says of their words, texts and statuses.
 #![tactic(auto)]
 
 #[cfg(test)]
@@ -6,6 +6,14 @@ mod command_line;
 #[cfg(test)]
 mod dependents;
 #[cfg(test)]
+mod explanations;
+#[cfg(test)]
+mod failing;
+#[cfg(test)]
 mod natives;
 #[cfg(test)]
 mod program;
+#[cfg(test)]
+mod prompt;
+#[cfg(test)]
+mod shown;

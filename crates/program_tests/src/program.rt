@@ -1,4 +1,5 @@
 //! What no clause says: the texts and statuses of the program, and the examples of the repository.
+use crate::failing::{Broken, Forgetful, Tiring};
 use clos_command_line::settings;
 use clos_program::{Output, Session, limits, program};
 use std::alloc::Global;
@@ -6,60 +7,6 @@ use std::fs::{self, Files};
 use std::io::{self, Read, Write};
 use std::process::Abort;
 use std::test::Fail;
-
-/// Every read and every write fails.
-#[derive(Drop)]
-struct Broken;
-
-impl Read for Broken {
-    fn read(&mut self, _buf: &mut [u8]) -> io::Result<usize> {
-        Err(io::Error::from(io::ErrorKind::Other))
-    }
-}
-
-impl Write for Broken {
-    fn write(&mut self, _buf: &[u8]) -> io::Result<usize> {
-        Err(io::Error::from(io::ErrorKind::Other))
-    }
-
-    fn flush(&mut self) -> io::Result<()> {
-        Err(io::Error::from(io::ErrorKind::Other))
-    }
-}
-
-/// What is written is lost when it is flushed.
-#[derive(Drop)]
-struct Forgetful;
-
-impl Write for Forgetful {
-    fn write(&mut self, buf: &[u8]) -> io::Result<usize> {
-        Ok(buf.len())
-    }
-
-    fn flush(&mut self) -> io::Result<()> {
-        Err(io::Error::from(io::ErrorKind::Other))
-    }
-}
-
-/// So many writes succeed, and then none.
-#[derive(Drop)]
-struct Tiring {
-    writes: u64,
-}
-
-impl Write for Tiring {
-    fn write(&mut self, buf: &[u8]) -> io::Result<usize> {
-        if self.writes == 0 {
-            return Err(io::Error::from(io::ErrorKind::Other));
-        }
-        self.writes -= 1;
-        Ok(buf.len())
-    }
-
-    fn flush(&mut self) -> io::Result<()> {
-        Ok(())
-    }
-}
 
 /// Blanks without end.
 #[derive(Drop)]

@@ -1,0 +1,328 @@
+//! How conditions are explained: the mistakes that newcomers make.
+use crate::prompt::{status, status_within};
+use clos_command_line::settings;
+use clos_program::{Limits, Output, Session, limits, program};
+use clos_prompt::run_explained;
+use std::process::Abort;
+use std::test::Fail;
+
+/// Mistakes, and how each is explained.
+const MISTAKES: [(&str, &str); 56] = [
+    (
+        "(defun f (x) x)\n(f)\n",
+        "2:1: PROGRAM-ERROR: F takes 1 argument, and is called with 0\n",
+    ),
+    (
+        "(defun f (x &optional y) x)\n(f 1 2 3)\n",
+        "2:1: PROGRAM-ERROR: F takes 1 to 2 arguments, and is called with 3\n",
+    ),
+    (
+        "(defun f (x &rest y) x)\n(f)\n",
+        "2:1: PROGRAM-ERROR: F takes 1 argument or more, and is called with 0\n",
+    ),
+    (
+        "(defgeneric g (a b))\n(list 1 (g 1))\n",
+        "2:1: PROGRAM-ERROR: G takes 2 arguments, and is called with 1\n",
+    ),
+    (
+        "(let (x 1) x)\n",
+        "1:1: PROGRAM-ERROR: the form (LET ..) is malformed\n",
+    ),
+    (
+        "(progn 1 (when t (if)))\n",
+        "1:1: PROGRAM-ERROR: the form (IF ..) is malformed\n",
+    ),
+    ("((1 2))\n", "1:1: PROGRAM-ERROR: the form is malformed\n"),
+    (
+        "(setq 5 1)\n",
+        "1:1: PROGRAM-ERROR: the form (SETQ ..) is malformed\n",
+    ),
+    (
+        "(defclass c)\n",
+        "1:1: PROGRAM-ERROR: the form (DEFCLASS ..) is malformed, or what it would define is the language's\n",
+    ),
+    (
+        "(defclass c () ((x :initfrom 1)))\n",
+        "1:1: PROGRAM-ERROR: the form (DEFCLASS ..) is malformed, or what it would define is the language's\n",
+    ),
+    (
+        "(defmethod m ((x integer string)) x)\n",
+        "1:1: PROGRAM-ERROR: the form (DEFMETHOD ..) is malformed, or what it would define is the language's\n",
+    ),
+    (
+        "(defun car (x) x)\n",
+        "1:1: PROGRAM-ERROR: the form (DEFUN ..) is malformed, or what it would define is the language's\n",
+    ),
+    (
+        "(defgeneric g (x &key y))\n(defmethod g ((x integer) &key y) y)\n(g 1 :z 2)\n",
+        "3:1: PROGRAM-ERROR: a name may not be defined so, or a call has arguments that its function does not take\n",
+    ),
+    (
+        "x\n",
+        "1:1: UNBOUND-VARIABLE: no variable here is called X\n",
+    ),
+    (
+        "(defvar *count* 0)\n(print *cuont*)\n",
+        "2:1: UNBOUND-VARIABLE: no variable here is called *CUONT*; is it *COUNT*?\n",
+    ),
+    (
+        "(defclass a () ())\n(make-instance a)\n",
+        "2:1: UNBOUND-VARIABLE: no variable here is called A; the class is written 'A\n",
+    ),
+    (
+        "(defmethod speak ((x integer)) 1)\n(print speak)\n",
+        "2:1: UNBOUND-VARIABLE: no variable here is called SPEAK; the generic function is written #'SPEAK\n",
+    ),
+    (
+        "(pritn 1)\n",
+        "1:1: UNDEFINED-FUNCTION: no function is called PRITN; is it PRINT?\n",
+    ),
+    (
+        "(defmethod area ((x integer)) x)\n(aera 2)\n",
+        "2:1: UNDEFINED-FUNCTION: no function is called AERA; is it AREA?\n",
+    ),
+    (
+        "(defun half (x) (floor x 2))\n(haf 4)\n",
+        "2:1: UNDEFINED-FUNCTION: no function is called HAF; is it HALF?\n",
+    ),
+    (
+        "(wehn 1)\n",
+        "1:1: UNDEFINED-FUNCTION: no function is called WEHN; is it WHEN?\n",
+    ),
+    (
+        "(setf (color 1) 2)\n",
+        "1:1: UNDEFINED-FUNCTION: no function is called (SETF COLOR)\n",
+    ),
+    (
+        "(format 5)\n",
+        "1:1: UNDEFINED-FUNCTION: no function is called FORMAT\n",
+    ),
+    (
+        "(+ 1 \"2\")\n",
+        "1:1: TYPE-ERROR: \"2\", of class STRING, is of a wrong type here\n",
+    ),
+    (
+        "(* 9223372036854775807 2)\n",
+        "1:1: INTEGER-RANGE: integers are from -9223372036854775808 to 9223372036854775807\n",
+    ),
+    ("(floor 1 0)\n", "1:1: DIVISION-BY-ZERO: the divisor is 0\n"),
+    (
+        "(defclass account () ())\n(make-instance 'acount)\n",
+        "2:1: UNDEFINED-CLASS: no class is called ACOUNT; is it ACCOUNT?\n",
+    ),
+    (
+        "(defmethod area ((s sqare)) 1)\n",
+        "1:1: UNDEFINED-CLASS: no class is called SQARE\n",
+    ),
+    (
+        "(defclass num (integer) ())\n",
+        "1:1: INVALID-SUPERCLASS: NUM can't be below INTEGER, which the system defines: superclasses are STANDARD-OBJECT and classes of defclass\n",
+    ),
+    (
+        "(defclass a () ())\n(defclass b (a) ())\n(defclass c (a b) ())\n",
+        "3:1: INCONSISTENT-PRECEDENCE: the classes above C can't stand in one order\n  the circle          A before B, by C\n                      B before A, by B\n",
+    ),
+    (
+        "(defclass a () ())\n(defclass b (standard-object a) ())\n",
+        "2:1: INCONSISTENT-PRECEDENCE: the classes above B can't stand in one order\n  the circle          A before STANDARD-OBJECT, by A\n                      STANDARD-OBJECT before A, by B\n",
+    ),
+    (
+        "(defclass a (b) ())\n(defclass b (c) ())\n(defclass c (d a) ())\n",
+        "3:1: SUPERCLASS-CYCLE: C would be above itself\n  the circle          C above B above A above C\n",
+    ),
+    (
+        "(defclass dog (pet animal) ())\n(defclass pet (thing) ())\n(make-instance 'dog)\n",
+        "3:1: INCOMPLETE-CLASS: a class above DOG is not defined\n  not defined         ANIMAL\n                      THING\n",
+    ),
+    (
+        "(defgeneric g (a b))\n(defmethod g ((a integer)) a)\n",
+        "2:1: LAMBDA-LIST-CONGRUENCE: the lambda lists of G and of a method of it are not congruent\n  arguments           2 required\n  of the method       1 required\n  methods             none\n",
+    ),
+    (
+        "(defmethod g ((a integer) b &key c) a)\n(defgeneric g (a))\n",
+        "2:1: LAMBDA-LIST-CONGRUENCE: the lambda lists of G and of a method of it are not congruent\n  arguments           2 required, &key\n  of its defgeneric   1 required\n  methods             #<METHOD G (INTEGER T)>\n",
+    ),
+    (
+        "(defgeneric g (x) (:method-combination appned))\n",
+        "1:1: UNDEFINED-COMBINATION: no method combination is called APPNED; is it APPEND?\n",
+    ),
+    (
+        "(defclass dog () ())\n(defmethod speak ((d dog)) 1)\n(speak 'dog)\n",
+        "3:1: NO-APPLICABLE-METHOD: no method of SPEAK fits (SYMBOL)\n  methods             #<METHOD SPEAK (DOG)>\n",
+    ),
+    (
+        "(defmethod speak :around ((x integer)) (call-next-method))\n(speak 1)\n",
+        "2:1: REQUIRED-GROUP-EMPTY: methods of SPEAK fit, but none of the group PRIMARY, which the method combination STANDARD requires\n  methods             #<METHOD SPEAK :AROUND (INTEGER)>\n",
+    ),
+    (
+        "(defmethod speak :befor ((x integer)) 1)\n(speak 1)\n",
+        "2:1: INVALID-METHOD: the method combination STANDARD has no group for the qualifiers of #<METHOD SPEAK :BEFOR (INTEGER)>\n",
+    ),
+    (
+        "(define-method-combination all () ((all *)) `(call-method ,(first all)))\n(defgeneric h (x) (:method-combination all))\n(defmethod h :a ((x integer)) x)\n(defmethod h :b ((x integer)) x)\n(h 1)\n",
+        "5:1: AMBIGUOUS-METHODS: neither comes before the other, of one group and with the same specializers: #<METHOD H :A (INTEGER)> and #<METHOD H :B (INTEGER)>\n",
+    ),
+    (
+        "(define-method-combination wrong () ((all *)) `(list ,all))\n(defgeneric h (x) (:method-combination wrong))\n(defmethod h ((x integer)) x)\n(h 1)\n",
+        "4:1: BAD-EXPANSION: the method combination WRONG makes no effective method of H: its arguments don't fit, its template goes wrong, or what it makes is no form\n",
+    ),
+    (
+        "(define-method-combination big () ((all *)) (let* ((a (list 1 1 1 1 1 1 1 1)) (a (append a a)) (a (append a a)) (a (append a a)) (a (append a a)) (a (append a a)) (a (append a a)) (a (append a a)) (a (append a a)) (a (append a a)) (a (append a a)) (a (append a a)) (a (append a a)) (a (append a a)) (a (append a a))) 0))\n(defgeneric e (x) (:method-combination big))\n(defmethod e (x) x)\n(e 1)\n",
+        "4:1: EXPANSION-LIMIT: the method combination BIG makes too large an effective method of E: more than 65536 conses, or lists that nest too deep\n",
+    ),
+    (
+        "(defmethod f ((x integer)) (call-next-method))\n(f 1)\n",
+        "2:1: NO-NEXT-METHOD: no method follows #<METHOD F (INTEGER)> in this call; next-method-p tells whether one does\n",
+    ),
+    (
+        "(defmethod f ((x integer)) (call-next-method \"a\"))\n(defmethod f ((x string)) 2)\n(defmethod f (x) 3)\n(f 1)\n",
+        "4:1: NEXT-ARGUMENTS: in #<METHOD F (INTEGER)> call-next-method has arguments that other methods fit, or in another order\n",
+    ),
+    (
+        "(defmethod f ((x integer)) x)\n(find-method #'f '() '(string))\n",
+        "2:1: NO-SUCH-METHOD: F has no method with these qualifiers and specializers\n  methods             #<METHOD F (INTEGER)>\n",
+    ),
+    (
+        "(defclass p () ((x :initarg :x :accessor px)))\n(px (make-instance 'p))\n",
+        "2:1: UNBOUND-SLOT: the slot X of #<P 1> has no value; it is filled by :X\n",
+    ),
+    (
+        "(defclass p () ((name :initarg :name)))\n(slot-value (make-instance 'p) 'nmae)\n",
+        "2:1: MISSING-SLOT: #<P 1> has no slot NMAE; is it NAME?\n  slots               NAME\n",
+    ),
+    (
+        "(defclass p () ((balance :initarg :balance)))\n(make-instance 'p :balence 1)\n",
+        "2:1: INVALID-INITARG: :BALENCE fills no slot of P, and no method takes it; is it :BALANCE?\n  initargs of slots   :BALANCE\n",
+    ),
+    (
+        "(defclass p () ())\n(make-instance 'p :x 1)\n",
+        "2:1: INVALID-INITARG: :X fills no slot of P, and no method takes it\n  initargs of slots   none\n",
+    ),
+    (
+        "(native-call 'afine 1 2)\n",
+        "1:1: UNKNOWN-NATIVE: the host has stored no function AFINE\n",
+    ),
+    (
+        "(defclass c () ())\n(add-dependent (find-class 'c) 'audti)\n",
+        "2:1: UNKNOWN-DEPENDENT: the session was handed no dependent AUDTI\n  dependents          none\n",
+    ),
+    (
+        "(eq \"a\" \"a\")\n",
+        "1:1: UNSUPPORTED: this is left out of the language, as docs/LANGUAGE.md tells under UNSUPPORTED\n",
+    ),
+    (
+        "(defun again () (again))\n(again)\n",
+        "2:1: DEPTH-LIMIT: a form stands deeper than the 1000 levels that forms may nest here; --depth N sets another limit, up to 4000\n",
+    ),
+    (
+        "(dotimes (i 1000000) i)\n",
+        "1:1: STEP-LIMIT: no step is left of the 1000000 that a form may take here; --steps N sets another limit\n",
+    ),
+    (
+        "(defvar *e* \"\u{e9}\")\n(list *e*) (foo)\n",
+        "2:12: UNDEFINED-FUNCTION: no function is called FOO\n",
+    ),
+    (
+        "(progn\n  1\n  (foo))\n",
+        "1:1: UNDEFINED-FUNCTION: no function is called FOO\n",
+    ),
+];
+
+#[test]
+fn explains_mistakes(rt: HostRuntime) -> Result<(), Fail> {
+    for (input, wanted) in MISTAKES.iter() {
+        let mut output = Vec::new(rt.alloc());
+        let mut errors = Vec::new(rt.alloc());
+        let got = status(&rt, &mut input.as_bytes(), &mut output, &mut errors)?;
+        let text = str::from_utf8(errors.as_slice()).unwrap_or("?");
+        assert_eq!(rt; text, *wanted, "the explanation of {input}");
+        assert_eq!(rt; got, 1, "the status of {input}");
+    }
+    Ok(())
+}
+
+#[test]
+fn tells_which_tables_are_full(rt: HostRuntime) -> Result<(), Fail> {
+    let limits = Limits {
+        globals: 0,
+        ..Limits::default()
+    };
+    let mut output = Vec::new(rt.alloc());
+    let mut errors = Vec::new(rt.alloc());
+    let mut input: &[u8] = b"(defvar *x* 1)\n";
+    let got = status_within(&rt, limits, &mut input, &mut output, &mut errors)?;
+    let text = str::from_utf8(errors.as_slice()).unwrap_or("?");
+    assert_eq!(rt; got, 1);
+    assert!(rt;
+        text.starts_with("1:1: TABLE-LIMIT: a table of the session is full\n"),
+        "{text}"
+    );
+    assert!(rt;
+        text.contains("\n                      0 global variables\n"),
+        "{text}"
+    );
+    Ok(())
+}
+
+/// Texts whose faults of reading are explained, and how.
+const FAULTS: [(&str, &str); 4] = [
+    (
+        "(f)\n(g",
+        "-:1:1: UNDEFINED-FUNCTION: no function is called F\n-:2:1: the input ends inside of what begins here\nclos: -: reader fault 1 at 4\n",
+    ),
+    (
+        "1\n (list 2\n  #q)",
+        "-:3:3: a # that begins nothing, in what begins at 2:2\nclos: -: reader fault 5 at 13\n",
+    ),
+    (
+        ")",
+        "-:1:1: a closing parenthesis too many\nclos: -: reader fault 2 at 0\n",
+    ),
+    (
+        "\"\u{e9}\" \u{e9}",
+        "-:1:5: a token that can't be read\nclos: -: reader fault 3 at 5\n",
+    ),
+];
+
+/// What is run with explanations has the output and the status of what is run without.
+#[test]
+fn explains_runs(rt: HostRuntime) -> Result<(), Fail> {
+    let alloc = rt.alloc();
+    for (input, wanted) in FAULTS.iter() {
+        let words = ["clos", "--echo", "--notices"];
+        let settings = settings(alloc, &words)?;
+        let mut first = Session::new(alloc, limits(&settings), Vec::new(alloc), Vec::new(alloc))?;
+        let mut second = Session::new(alloc, limits(&settings), Vec::new(alloc), Vec::new(alloc))?;
+        let mut plain = Vec::new(alloc);
+        let mut explained = Vec::new(alloc);
+        let mut faults = Vec::new(alloc);
+        let mut errors = Vec::new(alloc);
+        let status = program(
+            &rt,
+            alloc,
+            &mut first,
+            &settings,
+            &mut input.as_bytes(),
+            &mut Output::new(&mut plain),
+            &mut faults,
+        );
+        let got = run_explained(
+            &rt,
+            alloc,
+            &mut second,
+            &settings,
+            &mut input.as_bytes(),
+            &mut Output::new(&mut explained),
+            &mut errors,
+        );
+        let text = str::from_utf8(errors.as_slice()).unwrap_or("?");
+        assert_eq!(rt; text, *wanted, "the explanations of {input}");
+        assert_eq!(rt;
+            explained.as_slice(),
+            plain.as_slice(),
+            "the output of {input}"
+        );
+        assert_eq!(rt; got, status, "the status of {input}");
+    }
+    Ok(())
+}
