@@ -79,6 +79,20 @@ fn push_parts(pieces: &mut Vec<Piece>, parts: &Forms) -> Result<(), AllocError> 
     Ok(())
 }
 
+/// Adds the parts of a clause, which has no operator of its own, and its end.
+fn push_clause(pieces: &mut Vec<Piece>, parts: &Forms) -> Result<(), AllocError> {
+    match parts.split_first() {
+        None => {
+            pieces.push(Piece::Close)?;
+            Ok(())
+        }
+        Some((test, others)) => {
+            pieces.push(Piece::Form(test.copy()?))?;
+            push_parts(pieces, others)
+        }
+    }
+}
+
 /// Adds a method that is called or comes next, for one that is made the next of these forms, and gives the others.
 fn push_called<'a>(
     pieces: &mut Vec<Piece>,
@@ -138,6 +152,10 @@ fn begin(
         Operator::CallMethod(called, next) => {
             page.text("(CALL-METHOD")?;
             push_call_method(pieces, *called, next, form.parts())
+        }
+        Operator::Clause => {
+            page.text("(")?;
+            push_clause(pieces, form.parts())
         }
         operator => match plain_name(operator) {
             Some(name) => {

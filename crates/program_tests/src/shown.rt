@@ -13,7 +13,7 @@ const DEFINED: &str = "(defclass animal () ((name :initarg :name :reader name-of
 (defmethod speak :around ((a dog) (n (eql 3)) &key) n)
 (defmethod (setf tag) (new (a dog)) new)
 (define-method-combination wrap () ((all *))
-  `(progn (if (equal 'a :k) 1) (let ((x 1)) x) (call-method (make-method (list 7)) (,(first all) (make-method \"x\")))))
+  `(progn (cond ((equal 'a :k) 1) (t 2)) (let ((x 1)) x) (call-method (make-method (list 7)) (,(first all) (make-method \"x\")))))
 (defgeneric wrapped (x) (:method-combination wrap))
 (defmethod wrapped (x) x)
 (defvar *rex* (make-instance 'dog))
@@ -30,7 +30,7 @@ const SHOWN: [(&str, &str); 24] = [
     ),
     (
         ",methods (wrapped 1)\n",
-        "clos> #<GENERIC-FUNCTION WRAPPED>\n  classes             INTEGER\n  methods that fit    #<METHOD WRAPPED (T)>\n  effective method    (PROGN (IF (EQUAL 'A :K) 1) (LET ..) (CALL-METHOD (MAKE-METHOD (LIST 7)) (#<METHOD WRAPPED (T)> (MAKE-METHOD \"x\"))))\nclos> \n",
+        "clos> #<GENERIC-FUNCTION WRAPPED>\n  classes             INTEGER\n  methods that fit    #<METHOD WRAPPED (T)>\n  effective method    (PROGN (COND ((EQUAL 'A :K) 1) (T 2)) (LET ..) (CALL-METHOD (MAKE-METHOD (LIST 7)) (#<METHOD WRAPPED (T)> (MAKE-METHOD \"x\"))))\nclos> \n",
     ),
     (
         ",class dog\n",
