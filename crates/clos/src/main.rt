@@ -19,6 +19,7 @@ fn tell_waiting(rt: &HostRuntime) {
 
 impl Program for Clos {
     fn run<O: Write>(
+        &self,
         rt: &HostRuntime,
         settings: &Settings<'_>,
         session: &mut ProcessSession,
@@ -41,7 +42,7 @@ impl Program for Clos {
 
 fn main(rt: HostRuntime) -> ExitCode {
     ExitCode::from(match words(&rt) {
-        Ok(words) => run_words::<Clos>(&rt, words.as_slice()),
+        Ok(words) => run_words(&rt, &Clos, words.as_slice()),
         Err(status) => status,
     })
 }

@@ -1,6 +1,8 @@
 //! The explanation of a condition: its name, a sentence, and what there is in the place of what was asked for.
-use crate::{calls, classes, combinations, congruence, functions, limits, slots};
+use crate::pointed::pointed;
+use crate::{classes, combinations, congruence, functions, limits, slots};
 use clos_look::{Condition, ConditionKind, Page, World};
+use clos_program_error::{explain_malformed, taken_name, wrong_call};
 use clos_top::parse_top;
 use lisp_data::{Datum, Name, Value};
 use std::alloc::{AllocError, Global};
@@ -38,22 +40,26 @@ fn wrong_type(page: &mut Page, world: &World, value: &Value) -> Result<(), Alloc
     page.text(", is of a wrong type here")
 }
 
-/// Tells whether the form by itself is refused, or what its parts meet where they are evaluated.
+/// Tells whether the form by itself is refused, or what its parts meet where they are evaluated. Answers where that stands in it.
 fn program_error(
     alloc: Global,
     page: &mut Page,
     world: &World,
     form: &Datum,
-) -> Result<(), AllocError> {
+) -> Result<Vec<usize>, AllocError> {
     if parse_top(alloc, form).is_err() {
-        return calls::malformed(alloc, page, world, form);
+        return explain_malformed(alloc, page, world, form);
     }
-    if calls::wrong_count(alloc, page, world, form)? {
-        return Ok(());
+    if let Some(path) = taken_name(alloc, page, world, form)? {
+        return Ok(path);
+    }
+    if let Some(path) = wrong_call(alloc, page, world, form)? {
+        return Ok(path);
     }
     page.text(
         "a name may not be defined so, or a call has arguments that its function does not take",
-    )
+    )?;
+    Ok(Vec::new(alloc))
 }
 
 /// What a condition of this kind is for, which is about these: the first, the second, and all but the first.
@@ -68,7 +74,7 @@ fn explain(
     rest: &[Value],
 ) -> Result<(), AllocError> {
     match kind {
-        ConditionKind::ProgramError => program_error(alloc, page, world, form),
+        ConditionKind::ProgramError => Ok(()),
         ConditionKind::UnboundVariable => functions::unbound_variable(alloc, page, world, first),
         ConditionKind::UndefinedFunction => functions::undefined_function(
             alloc, page, world, first,
@@ -126,6 +132,15 @@ fn explain(
     }
 }
 
+/// An explanation of a condition.
+#[derive(Drop)]
+pub struct Explained {
+    pub text: Vec<u8>,
+    /// Where the part of the form stands that it is about: the place of the element of the form that this stands in, the place of an
+    /// element of that, and so on, or no places if it is the form.
+    pub path: Vec<usize>,
+}
+
 /// The explanation of a condition that a form ended with, by the tables as they stand then: the name of the condition, why it came,
 /// and where they tell it what there is instead, as the nearest names, the methods of a function or the slots of an instance.
 pub fn explanation(
@@ -133,7 +148,7 @@ pub fn explanation(
     world: &World,
     form: &Datum,
     condition: &Condition,
-) -> Result<Vec<u8>, AllocError> {
+) -> Result<Explained, AllocError> {
     let none = Value::Int(0);
     let items = condition.items.as_slice();
     let first = items.first().unwrap_or(&none);
@@ -142,17 +157,25 @@ pub fn explanation(
     let mut page = Page::new(alloc);
     page.text(condition.kind.name())?;
     page.text(": ")?;
-    explain(
-        alloc,
-        &mut page,
-        world,
-        condition.kind,
-        form,
-        first,
-        second,
-        rest,
-    )?;
-    page.end()
+    let path = if let ConditionKind::ProgramError = condition.kind {
+        program_error(alloc, &mut page, world, form)?
+    } else {
+        explain(
+            alloc,
+            &mut page,
+            world,
+            condition.kind,
+            form,
+            first,
+            second,
+            rest,
+        )?;
+        pointed(alloc, condition.kind, form, first)?
+    };
+    Ok(Explained {
+        text: page.end()?,
+        path,
+    })
 }
 
 /// What is told of a name that no class has.

@@ -1,10 +1,10 @@
 pub mod Same
 pub mod Lists
 pub mod OnArguments
-pub mod OnOrder
 pub mod OnFits
 pub mod Ahead
 pub mod Ranks
+pub mod ByRanks
 pub mod Before
 pub mod Placed
 pub mod InOrder

@@ -14,6 +14,7 @@ use Rattle.clos_method.specs.Arguments.{Argument}
 use Rattle.clos_method.specs.Laws.{IsMember}
 use Rattle.clos_method.specs.Order.{decided, is_before, is_more_specific, stands_before}
 use Rattle.clos_method.specs.Specializer.{same_specializer}
+use Rattle.clos_method.specs.inner.Ranks.{place_in, rank_in}
 use Rattle.clos_method.specs.SpecializerLaws.{same_specializer-Decides}
 
 -- ---- ranks of numbers
@@ -145,6 +146,17 @@ pub rank_at : Option Argument → Option Specializer → ℕ
 rank_at None s = 0
 rank_at (Some a) None = 0
 rank_at (Some a) (Some s) = rank a.list s
+
+-- the same as the code has it
+same_place : (l : List ℕ) (c : ℕ) → place l c ≡ place_in l c
+unfolding place
+same_place [] c = refl
+same_place (x ∷ l) c = ap (λ n. if x == c then 0 else suc n) (same_place l c)
+
+pub rank_told : (a : Argument) (s : Specializer) → rank_at (Some a) (Some s) ≡ rank_in a.list s
+unfolding rank_at rank
+rank_told a (on_eql v) = refl
+rank_told a (on_class c) = ap suc (same_place a.list c)
 
 -- there is a specializer where there is an argument, which it fits
 abbrev pub FitsAt : Option Argument → Option Specializer → Type 0

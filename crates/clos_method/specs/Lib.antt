@@ -1,3 +1,4 @@
+pub mod inner
 pub mod Specializer
 pub mod Qualifiers
 pub mod SpecializerLaws

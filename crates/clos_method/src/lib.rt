@@ -12,6 +12,7 @@ pub mod origin;
 pub mod qualifiers;
 pub mod shape;
 pub mod specializer;
+mod specificity;
 pub mod system;
 
 pub use applicable::{has_eql, is_applicable};

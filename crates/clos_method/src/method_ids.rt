@@ -34,6 +34,13 @@ impl MethodIds {
         }
     }
 
+    /// These methods.
+    pub(crate) fn of(ids: Vec<MethodId>) -> MethodIds
+        ensures { result ≡ method_numbers ids.items }
+    {
+        MethodIds { ids }
+    }
+
     /// How many they are.
     pub fn len(&self) -> usize
         ensures { result ≡ length self.now }

@@ -43,9 +43,9 @@ fn words_of(rt: &HostRuntime) -> io::Result<Vec<String>> {
 }
 
 /// Runs a program by these words, and gives the exit status.
-pub fn run_words<P: Program>(rt: &HostRuntime, words: &[String]) -> u8 {
+pub fn run_words<P: Program>(rt: &HostRuntime, program: &P, words: &[String]) -> u8 {
     match clos_command_line::settings(rt.alloc(), words) {
-        Ok(settings) => run::<P>(rt, &settings),
+        Ok(settings) => run(rt, program, &settings),
         Err(error) => show(rt, &error),
     }
 }

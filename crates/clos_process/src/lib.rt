@@ -7,6 +7,8 @@ mod outputs;
 mod session;
 
 pub use arguments::{run_words, words};
-pub use clos_program::{Fault, Output, STATUS_DONE, STATUS_FAULT, Settings, program, reads_input};
+pub use clos_program::{
+    Fault, Output, STATUS_DONE, STATUS_FAULT, STATUS_USAGE, Settings, program, reads_input,
+};
 pub use outputs::fail;
 pub use session::{ProcessSession, Program};

@@ -14,6 +14,7 @@ pub type ProcessSession = Session<Vec<Native>, Vec<(Name, Box<dyn Dependent>)>>;
 pub trait Program {
     /// Does what the settings ask for, writes to this output, and gives the exit status.
     fn run<O: Write>(
+        &self,
         rt: &HostRuntime,
         settings: &Settings<'_>,
         session: &mut ProcessSession,
@@ -25,6 +26,7 @@ pub trait Program {
 /// are stored, and which is handed the dependents `audit` and `second`.
 pub(crate) fn run_session<P: Program, O: Write>(
     rt: &HostRuntime,
+    program: &P,
     settings: &Settings<'_>,
     output: &mut O,
 ) -> Result<u8, AllocError> {
@@ -51,5 +53,5 @@ pub(crate) fn run_session<P: Program, O: Write>(
     dependents.push((Name::fixed(&"AUDIT"), audit))?;
     dependents.push((Name::fixed(&"SECOND"), second))?;
     let mut session = Session::new(alloc, limits(settings), natives, dependents)?;
-    Ok(P::run(rt, settings, &mut session, output))
+    Ok(program.run(rt, settings, &mut session, output))
 }

@@ -1,9 +1,10 @@
 -- How a session at a prompt goes on from line to line.
-use Rattle.std.proofs.Common.{◌≡◌, ◌≢◌, ◌∙◌, ℕ, ◌<◌, List, [], ◌∷◌, ◌++◌, Option, Some, None, Result, Ok, Err, true, false, length, take, drop, refl, sym, subst}
+use Rattle.std.proofs.Common.{◌≡◌, ◌≢◌, ◌∙◌, ℕ, ◌<◌, Bool, List, [], ◌∷◌, ◌++◌, Option, Some, None, Result, Ok, Err, true, false, length, take, drop, refl, sym, subst}
 use Rattle.std.specs.Prelude.{IfErr, IfSome}
 use Rattle.std.specs.Io.BufRead.{take_through}
 use Rattle.std.specs.Io.KnownBytes.{Appends, Keeps}
 use Rattle.std.proofs.KnownBytes.{Appends-nil, Appends-trans, Keeps-refl}
+use Rattle.lisp_data.specs.Datum.{Dat}
 use Rattle.lisp_reader.specs.Answers.{Gives, a_fault}
 use Rattle.lisp_tokens.specs.Fault.{Kind, end_inside, OnFault, stray_close, bad_token, bad_dot, bad_hash, too_deep, not_text}
 use Rattle.lisp_tokens.specs.declared.fault.ReadFault.{ReadFault}
@@ -12,15 +13,19 @@ use Rattle.clos_program.specs.clos_system.Transcript as Transcript
 use Rattle.clos_program.specs.clos_system.Transcript.{FailsAfter, Performed, Performs, Ran, begins, none_yet}
 use Rattle.clos_program.specs.clos_system.clos_session.Session.{Standing}
 use Rattle.clos_program.specs.clos_system.clos_session.clos_machine.clos_meaning.Host.{Host}
+use Rattle.clos_program.specs.clos_system.declared.transcript.RunFault.{RunFault}
+use Rattle.clos_program.specs.clos_system.declared.transcript.RunFault.TheVariants as Run
 use Rattle.clos_program.specs.clos_system.declared.transcript.Summary.{Summary}
+use Rattle.clos_prompt.specs.Command.{Asks}
 use Rattle.clos_prompt.specs.Fault.{fault_text}
 use Rattle.clos_prompt.specs.Forms.{Leaves}
 use Rattle.clos_prompt.specs.Place.{place_after}
-use Rattle.clos_prompt.specs.Prompt.{Answers, Breaks, Comes, Ends, GoesOn, Prompted, answers, closes, commands, gives_up, opens, performs, begins as first}
+use Rattle.clos_prompt.specs.Prompt as Prompt
+use Rattle.clos_prompt.specs.Prompt.{Answers, Begun, Breaks, Comes, Ends, GoesOn, Prompted, answers, closes, commands, gives_up, of_arguments, of_forms, opens, performs, begins as first}
 use Rattle.clos_prompt.specs.Waiting.{Waiting, at_first, cleared, exit_status, farewell, given_up, left_open, passed, prompt_of, takes_command}
 use Rattle.clos_prompt.specs.declared.forms.Left.{Left}
 use Rattle.clos_prompt.specs.declared.forms.Left.TheVariants.{Nothing, Open, Unread}
-use Rattle.clos_prompt.specs.inner.Loop.{AnswerWritten, Stands, StopsIn, TakesLine}
+use Rattle.clos_prompt.specs.inner.Loop.{AnswerWritten, Stands, TakesLine}
 use Rattle.clos_prompt.proofs.Lines.{all_came, comes_on, next_one, one_taken}
 
 -- nothing was written
@@ -74,8 +79,8 @@ unread_left_told p r text n left fault k a b is after some written =
     (t.0, t.1, λ at l. t.2 at (subst (Leaves text at) is l))
 
 -- no form of a text was performed
-pub none_ran : (host : Host) (w : Standing) (p : Waiting) (line : List ℕ) → StopsIn host w w p line
-none_ran host w p line = (0, [], none_yet, begins)
+pub none_ran : (host : Host) (w : Standing) (p : Waiting) (line : List ℕ) → Begun host w p line w
+none_ran host w p line = of_forms w 0 [] none_yet begins
 
 -- a line was answered that is no command
 pub answered : (host : Host) (w w' : Standing) (p p' : Waiting) (line text : List ℕ) (a b c : Option (List ℕ)) (at : ℕ) (n : Summary) (left : Left)
@@ -91,14 +96,58 @@ answered host w w' p p' line text a b c at n left other e come l g = (
 
 -- .. or its forms were performed, and then memory or the writer failed
 pub stops_at : (host : Host) (w w' : Standing) (p : Waiting) (line text : List ℕ) → text ≡ p.pending ++ line
-    → ((at : ℕ) × (out : List ℕ) × (n : Summary) × Ran host true text w w' at out n) → StopsIn host w w' p line
-stops_at host w w' p line text e r = (r.0, r.1, r.2, subst (λ t. Ran host true t w w' r.0 r.1 r.2) e r.3)
+    → ((at : ℕ) × (out : List ℕ) × (n : Summary) × Ran host true text w w' at out n) → Begun host w p line w'
+stops_at host w w' p line text e r = of_forms w' r.0 r.1 r.2 (subst (λ t. Ran host true t w w' r.0 r.1 r.2) e r.3)
 
 -- a command was answered
 pub commanded : (host : Host) (w : Standing) (p p' : Waiting) (line page : List ℕ) (a b : Option (List ℕ)) → takes_command p line ≡ true
     → Appends a b page → p' ≡ passed p line → AnswerWritten host w w p line a b p'
 commanded host w p p' line page a b is written after =
     (page, written, subst (λ x. Answers host w p line w x page) (sym after) (commands page is))
+
+-- .. whose arguments were evaluated, and what is told of that was written, and then a page
+pub asked : (host : Host) (d : Dat) (w w' : Standing) (p p' : Waiting) (line : List ℕ) (a b c : Option (List ℕ)) (n : Summary) (fresh : Bool)
+    → takes_command p line ≡ true → Asks line d → Performs host false d w w' a b none_yet n true fresh
+    → ((page : List ℕ) × Appends b c page) → p' ≡ cleared p line n → AnswerWritten host w w' p line a c p'
+asked host d w w' p p' line a b c n fresh is asks done shown after = (
+  done.piece ++ shown.0,
+  Appends-trans a b c done.piece shown.0 done.appends shown.1,
+  subst (λ x. Answers host w p line w' x (done.piece ++ shown.0)) (sym after) (Prompt.asks d w' done.piece shown.0 n fresh is asks alone),
+)
+  where
+    alone : Performs host false d w w' (Some []) (Some done.piece) none_yet n true fresh
+    alone = record {
+      answer = done.answer;
+      left = done.left;
+      answers = done.answers;
+      uses = done.uses;
+      heard = done.heard;
+      counts = done.counts;
+      piece = done.piece;
+      appends = refl;
+      tells = done.tells;
+      line = done.line;
+    }
+
+-- .. or after the evaluation memory or the writer failed
+pub asked_for : (host : Host) (d : Dat) (w w' : Standing) (p : Waiting) (line : List ℕ) (a b : Option (List ℕ)) (n : Summary) (fresh : Bool)
+    → takes_command p line ≡ true → Asks line d → Performs host false d w w' a b none_yet n true fresh → Begun host w p line w'
+asked_for host d w w' p line a b n fresh is asks done = of_arguments d w' is asks (record {
+  answer = done.answer;
+  left = done.left;
+  answers = done.answers;
+  uses = done.uses;
+  heard = done.heard;
+})
+
+-- .. also where it was not told
+pub failed_in : (host : Host) (d : Dat) (w w' : Standing) (p : Waiting) (line : List ℕ) (e : RunFault) → takes_command p line ≡ true
+    → Asks line d → FailsAfter host d w w' e → Begun host w p line w'
+failed_in host d w w' p line Run.Write is asks done = of_arguments d w' is asks done
+failed_in host d w w' p line Run.Memory is asks done = of_arguments d w' is asks done
+failed_in host d w w' p line Run.Read is asks done = absurd done
+failed_in host d w w' p line Run.TooLong is asks done = absurd done
+failed_in host d w w' p line (Run.Reader fault) is asks done = absurd done
 
 -- ---- the loop over the lines
 
@@ -137,7 +186,7 @@ module _ (host now : Host) (known left : Option (List ℕ)) (start w : Standing)
   }
 
   -- it broke in the next line
-  breaks_at : (w' : Standing) (line : List ℕ) → IfSome left (λ text. line ≡ take_through 10 text) → StopsIn host w w' p line
+  breaks_at : (w' : Standing) (line : List ℕ) → IfSome left (λ text. line ≡ take_through 10 text) → Begun host w p line w'
       → Breaks host known start w'
   breaks_at w' line next r = record {
     left = left;
@@ -149,17 +198,14 @@ module _ (host now : Host) (known left : Option (List ℕ)) (start w : Standing)
     prompted = s.prompted;
     line = line;
     next = next;
-    at = r.0;
-    more = r.1;
-    counts = r.2;
-    ran = r.3;
+    begun = r;
   }
 
   pub breaks_in : (left' : Option (List ℕ)) (w' : Standing) (line text : List ℕ) → TakesLine left left' line → text ≡ line
-      → StopsIn now w w' p text → Breaks host known start w'
+      → Begun now w p text w' → Breaks host known start w'
   breaks_in left' w' line text takes e r =
       breaks_at w' line (one_taken left left' line takes)
-      (subst (λ l. StopsIn host w w' p l) e (subst (λ o. StopsIn o w w' p text) s.stays r))
+      (subst (λ l. Begun host w p l w') e (subst (λ o. Begun o w p text w') s.stays r))
 
   -- .. or before it
   pub breaks : Breaks host known start w

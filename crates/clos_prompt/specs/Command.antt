@@ -1,7 +1,11 @@
 -- Commands: lines that begin with a comma. No form of Common Lisp does; here ,x would be read as (unquote x), which a line
 -- writes out.
-use Rattle.std.specs.Prelude.{ℕ, ◌==◌, ◌||◌, not, Bool, false, List, [], ◌∷◌, take, drop}
+use Rattle.std.specs.Prelude.{◌≡◌, ℕ, ◌==◌, ◌||◌, not, Bool, true, false, List, [], ◌∷◌, codes, take, drop}
 use Rattle.std.specs.List.{prefix_len}
+use Rattle.std.specs.Str.{bytes_eq}
+use Rattle.lisp_data.specs.Datum.{Dat, Dats, cons, list, symbol}
+use Rattle.lisp_data.specs.Name.{Name}
+use Rattle.lisp_reader.specs.Answers.{Next}
 
 -- space, tab, newline, return, page
 abbrev pub is_blank : ℕ → Bool
@@ -21,6 +25,27 @@ abbrev pub begins_with_comma : List ℕ → Bool
 begins_with_comma [] = false
 begins_with_comma (b ∷ bytes) = b == 44
 
+-- .. and what follows it
+abbrev pub after_word : List ℕ → List ℕ
+after_word line = drop (prefix_len is_in_word (without_blanks line)) (without_blanks line)
+
 -- a line is a command if its first word begins with a comma
 abbrev pub is_command : List ℕ → Bool
 is_command line = begins_with_comma (first_word line)
+
+-- the command that shows the methods that fit the arguments of a call
+abbrev pub asks_methods : List ℕ → Bool
+asks_methods line = bytes_eq (first_word line) (codes ",methods")
+
+-- the form whose value are the values of some arguments
+abbrev pub form_of_arguments : Dats → Dat
+form_of_arguments arguments = list (cons (symbol (record { text = codes "LIST"; keyword = false })) arguments)
+
+-- the command asks for the value of a form: it is `,methods`, a call of a name follows, and the form is that of its arguments
+pub record Asks (line : List ℕ) (form : Dat) : Type 0 where
+  pub methods : asks_methods line ≡ true
+  pub operator : Name
+  pub arguments : Dats
+  pub rest : List ℕ
+  pub call : Next (after_word line) (list (cons (symbol operator) arguments)) rest
+  pub is : form ≡ form_of_arguments arguments

@@ -1,6 +1,7 @@
 pub mod inner
 pub mod Place
 pub mod Command
+pub mod Request
 pub mod Fault
 pub mod Waiting
 pub mod WaitingView

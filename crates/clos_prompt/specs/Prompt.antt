@@ -1,14 +1,16 @@
 -- A session at a prompt: lines come, and each is answered.
-use Rattle.std.specs.Prelude.{◌≡◌, ◌≢◌, ◌⊎◌, ℕ, ◌==◌, true, false, List, [], ◌∷◌, ◌++◌, Option, Some, None, IfSome, ⊤, take, drop, if◌then◌else◌}
+use Rattle.std.specs.Prelude.{◌≡◌, ◌≢◌, ◌⊎◌, ℕ, ◌==◌, true, false, List, [], ◌∷◌, ◌++◌, Bool, Option, Some, None, IfSome, ⊤, take, drop, if◌then◌else◌}
 use Rattle.std.specs.Io.BufRead.{take_through}
 use Rattle.std.specs.Io.KnownBytes.{Appends}
 use Rattle.lisp_reader.specs.Answers.{Gives, nothing_left, a_fault}
 use Rattle.lisp_tokens.specs.Fault.{Kind, end_inside}
-use Rattle.clos_program.specs.clos_system.Transcript.{Ran}
+use Rattle.lisp_data.specs.Datum.{Dat}
+use Rattle.clos_program.specs.clos_system.Transcript.{Performed, Performs, Ran, none_yet}
 use Rattle.clos_program.specs.clos_system.clos_session.Session.{Standing}
 use Rattle.clos_program.specs.clos_system.clos_session.clos_machine.clos_meaning.Host.{Host}
 use Rattle.clos_program.specs.clos_system.declared.transcript.Summary.{Summary}
 use Rattle.clos_program.specs.Program.{fault_status}
+use Rattle.clos_prompt.specs.Command.{Asks}
 use Rattle.clos_prompt.specs.Fault.{fault_text}
 use Rattle.clos_prompt.specs.Place.{place_after}
 use Rattle.clos_prompt.specs.Waiting.{Waiting, at_first, cleared, exit_status, farewell, given_up, left_open, passed, prompt_of, takes_command}
@@ -24,10 +26,13 @@ pub data GoesOn (p : Waiting) (text : List ℕ) (n : Summary) (at : ℕ) : Waiti
       → GoesOn p text n at (given_up p text n) (fault_text kind (place_after p.place (take k text)))
 
 -- What a line comes to where a session stands so and its prompt waits so: where the session stands then, how the prompt waits, and
--- what is written. A command shows a page, and changes nothing. Any other line goes on with what is open: the forms of that text are performed in
--- order, and told as a run with echo tells them.
+-- what is written. A command shows a page, and changes nothing; but one that asks for the value of a form has this one form performed,
+-- told as a run without echo tells it, and then shows a page. Any other line goes on with what is open: the forms of that text are
+-- performed in order, and told as a run with echo tells them.
 pub data Answers (host : Host) (w : Standing) (p : Waiting) (line : List ℕ) : Standing → Waiting → List ℕ → Type 0 where
   commands : (page : List ℕ) → takes_command p line ≡ true → Answers host w p line w (passed p line) page
+  asks : (d : Dat) (w' : Standing) (out page : List ℕ) (n : Summary) (fresh : Bool) → takes_command p line ≡ true → Asks line d
+      → Performs host false d w w' (Some []) (Some out) none_yet n true fresh → Answers host w p line w' (cleared p line n) (out ++ page)
   performs : (w' : Standing) (at : ℕ) (out : List ℕ) (n : Summary) (p' : Waiting) (piece : List ℕ) → takes_command p line ≡ false
       → Ran host true (p.pending ++ line) w w' at out n → GoesOn p (p.pending ++ line) n at p' piece
       → Answers host w p line w' p' (out ++ piece)
@@ -68,8 +73,13 @@ Comes None left lines = ⊤
 Comes (Some text) None lines = ⊥
 Comes (Some text) (Some left) lines = lines_of text ≡ lines ++ lines_of left
 
--- It came so far, and then the input or the writer failed, or memory ran out: the first lines were answered, and the session stands
--- after a whole number of the forms that the next one makes with what is open.
+-- What the next line has come to where a session stands so and its prompt waits so: where the session stands after a whole number of
+-- the forms that the line makes with what is open, or after the form of the arguments that it asks by.
+pub data Begun (host : Host) (w : Standing) (p : Waiting) (line : List ℕ) : Standing → Type 0 where
+  of_forms : (w' : Standing) (at : ℕ) (out : List ℕ) (n : Summary) → Ran host true (p.pending ++ line) w w' at out n → Begun host w p line w'
+  of_arguments : (d : Dat) (w' : Standing) → takes_command p line ≡ true → Asks line d → Performed host d w w' → Begun host w p line w'
+
+-- It came so far, and then the input or the writer failed, or memory ran out: the first lines were answered, and the next one has begun.
 pub record Breaks (host : Host) (known : Option (List ℕ)) (start end : Standing) : Type 0 where
   pub left : Option (List ℕ)
   pub lines : List (List ℕ)
@@ -80,10 +90,7 @@ pub record Breaks (host : Host) (known : Option (List ℕ)) (start end : Standin
   pub prompted : Prompted host start lines standing waiting out
   pub line : List ℕ
   pub next : IfSome left (λ text. line ≡ take_through 10 text)
-  pub at : ℕ
-  pub more : List ℕ
-  pub counts : Summary
-  pub ran : Ran host true (waiting.pending ++ line) standing end at more counts
+  pub begun : Begun host standing waiting line end
 
 -- What a session at a prompt comes to, with its exit status.
 abbrev pub RunsPrompt : Host → Option (List ℕ) → Standing → Standing → Option (List ℕ) → Option (List ℕ) → ℕ → Type 0

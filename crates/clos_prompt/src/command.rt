@@ -1,20 +1,25 @@
 //! Commands: lines that begin with a comma. No form of Common Lisp does; here `,x` would be read as `(unquote x)`, which a line
 //! writes out.
-ghost use Rattle.std.specs.Prelude.{◌≡◌, ◌≤◌, length};
+ghost use Rattle.std.specs.Prelude.{◌≡◌, ◌≤◌, ℕ, List, length, true, IfOk, IfSome};
 ghost use Rattle.std.specs.List.{prefix_len};
-ghost use Rattle.clos_prompt.specs.Command.{first_word, is_blank, is_command, is_in_word};
+ghost use Rattle.lisp_data.specs.Datum.{cons, list, symbol};
+ghost use Rattle.lisp_data.specs.DatumView.{datum_of};
+ghost use Rattle.lisp_data.specs.Name.{Name};
+ghost use Rattle.lisp_reader.specs.Answers.{Next};
+ghost use Rattle.clos_prompt.specs.Command.{after_word, asks_methods, first_word, form_of_arguments, is_blank, is_command, is_in_word};
+ghost use Rattle.clos_prompt.specs.Request.{Wants};
 
-use clos_explain::{World, cache_page, class_page, generic_page, methods_page, no_class};
-use clos_forms::{is_the, names_constant, quoted_value, value_named};
-use lisp_data::{Data, Datum, GenericId, Name, Value};
+use clos_explain::{World, cache_page, class_page, generic_page, no_class};
+use clos_forms::is_the;
+use lisp_data::{Data, Datum, GenericId, Name};
 use lisp_reader::read_form;
 use lisp_tokens::ReadFault;
 use std::alloc::{AllocError, Global};
 
 const HELP: &[u8] = b",class NAME     shows a class
 ,generic NAME   shows a generic function; NAME may be (SETF NAME)
-,methods CALL   shows the methods that fit a call, as (SPEAK *DOG* 'LOUD): its arguments are
-                constants and global variables, and nothing is called
+,methods CALL   evaluates the arguments of a call, as (SPEAK *DOG* 'LOUD), and shows the methods
+                that fit them; the function is not called
 ,cache          shows the calls whose effective methods are kept
 ,help           lists the commands
 Ctrl-D          leaves
@@ -27,9 +32,6 @@ const NO_CLASS_NAME: &[u8] = b"; ,class takes the name of a class\n";
 const NO_GENERIC: &[u8] = b"; ,generic takes the name of a generic function\n";
 
 const NO_CALL: &[u8] = b"; ,methods takes a call of a generic function by a symbol\n";
-
-const NO_ARGUMENTS: &[u8] =
-    b"; ,methods takes constants and global variables that have a value as arguments\n";
 
 fn is_blank(byte: u8) -> bool
     ensures { result ≡ is_blank byte }
@@ -51,6 +53,14 @@ fn word_len(text: &[u8]) -> usize
     text.iter().take_while(|byte| !is_blank(**byte)).count()
 }
 
+/// What stands in a line after its first word.
+fn after_word(line: &[u8]) -> &[u8]
+    ensures { result.now ≡ after_word line.now }
+{
+    let rest = &line[blanks_len(line)..];
+    &rest[word_len(rest)..]
+}
+
 /// The first word of a line.
 fn first_word(line: &[u8]) -> &[u8]
     ensures { result.now ≡ first_word line.now }
@@ -70,10 +80,10 @@ pub(crate) fn is_command(line: &[u8]) -> bool
 }
 
 /// The datum that follows the first word of a line, if one can be read there.
-fn subject(alloc: Global, line: &[u8]) -> Result<Option<Datum>, AllocError> {
-    let rest = &line[blanks_len(line)..];
-    let after = &rest[word_len(rest)..];
-    match read_form(alloc, after, 0) {
+fn subject(alloc: Global, line: &[u8]) -> Result<Option<Datum>, AllocError>
+    ensures { IfOk result (λ r. IfSome r (λ d. (rest : List ℕ) × Next (after_word line.now) (datum_of d) rest)) }
+{
+    match read_form(alloc, after_word(line), 0) {
         Ok(Some((datum, _))) => Ok(Some(datum)),
         Ok(None) => Ok(None),
         Err(ReadFault::Memory) => Err(AllocError),
@@ -108,79 +118,29 @@ fn generic_named(world: &World, called: &Datum) -> Option<GenericId> {
     }
 }
 
-/// The value of a symbol: its own, or that of the global variable.
-fn symbol_value(world: &World, name: &Name) -> Result<Option<Value>, AllocError> {
-    if names_constant(name) {
-        return Ok(Some(value_named(name)?));
-    }
-    match world.globals.value(name) {
-        None => Ok(None),
-        Some(value) => Ok(Some(value.copy()?)),
-    }
-}
-
-/// The value of a constant or of a global variable.
-fn argument(alloc: Global, world: &World, form: &Datum) -> Result<Option<Value>, AllocError> {
-    match form {
-        Datum::Int(_) | Datum::Str(_) => quoted_value(alloc, form),
-        Datum::Sym(name) => symbol_value(world, name),
-        Datum::List(items) => match quoted(items) {
-            None => Ok(None),
-            Some(datum) => quoted_value(alloc, datum),
-        },
-        _ => Ok(None),
-    }
-}
-
-/// What is quoted in a list of QUOTE and this datum.
-fn quoted(items: &Data) -> Option<&Datum> {
-    let (first, rest) = items.split_first()?;
-    let (second, rest) = rest.split_first()?;
-    match (first, rest.split_first()) {
-        (Datum::Sym(quote), None) if is_the(quote, "QUOTE") => Some(second),
-        _ => None,
-    }
-}
-
-/// The values of arguments, if all are constants and global variables.
-fn arguments(
-    alloc: Global,
-    world: &World,
-    mut rest: &Data,
-) -> Result<Option<Vec<Value>>, AllocError> {
-    let mut values = Vec::new(alloc);
-    for _ in 0..rest.len() {
-        let Some((form, others)) = rest.split_first() else {
-            break;
-        };
-        match argument(alloc, world, form)? {
-            None => return Ok(None),
-            Some(value) => values.push(value)?,
-        }
-        rest = others;
-    }
-    Ok(Some(values))
-}
-
 /// The generic function of a call, and what follows its name.
-fn call_of<'a>(world: &World, call: &'a Datum) -> Option<(GenericId, &'a Data)> {
+pub(crate) fn call_of<'a>(world: &World, call: &'a Datum) -> Option<(GenericId, &'a Data)>
+    ensures { IfSome result (λ r. (operator : Name) × (datum_of call.now ≡ list (cons (symbol operator) r.1.now))) }
+{
     let Datum::List(items) = call else {
         return None;
     };
-    match items.split_first()? {
-        (Datum::Sym(name), rest) => Some((world.generics.named_by_symbol(name)?, rest)),
+    match items.split_first() {
+        Some((Datum::Sym(name), rest)) => match world.generics.named_by_symbol(name) {
+            Some(id) => Some((id, rest)),
+            None => None,
+        },
         _ => None,
     }
 }
 
-/// What is shown of the methods that fit a call.
-fn methods_shown(alloc: Global, world: &World, call: &Datum) -> Result<Vec<u8>, AllocError> {
-    let Some((id, rest)) = call_of(world, call) else {
-        return Vec::from_slice(alloc, NO_CALL);
-    };
-    match arguments(alloc, world, rest)? {
-        None => Vec::from_slice(alloc, NO_ARGUMENTS),
-        Some(values) => methods_page(alloc, world, id, values.as_slice()),
+/// The form whose value are the values of these arguments.
+pub(crate) fn form_of_arguments(alloc: Global, arguments: &Data) -> Result<Datum, AllocError>
+    ensures { IfOk result (λ r. datum_of r ≡ form_of_arguments arguments.now) }
+{
+    match Data::cons(alloc, Datum::Sym(Name::fixed(&"LIST")), arguments.copy()?) {
+        Ok(items) => Ok(Datum::List(items)),
+        Err(_) => Err(AllocError),
     }
 }
 
@@ -200,27 +160,70 @@ fn generic_shown(alloc: Global, world: &World, called: &Datum) -> Result<Vec<u8>
     }
 }
 
-/// What the command of this line shows.
-pub(crate) fn shown(alloc: Global, world: &World, line: &[u8]) -> Result<Vec<u8>, AllocError> {
+/// What a command asks for.
+#[derive(Drop)]
+pub(crate) enum Request {
+    /// That this is shown.
+    Page(Vec<u8>),
+    /// The methods of this function that fit the value of this form, which is that of a list.
+    Methods(GenericId, Datum),
+}
+
+fn page(text: Result<Vec<u8>, AllocError>) -> Result<Request, AllocError>
+    ensures { IfOk result (λ r. (line : List ℕ) → Wants line r) }
+{
+    Ok(Request::Page(text?))
+}
+
+/// What `,methods` with this call asks for.
+fn methods_of(alloc: Global, world: &World, call: &Datum) -> Result<Request, AllocError>
+    ensures { IfOk result (λ r. (line rest : List ℕ) → asks_methods line ≡ true → Next (after_word line) (datum_of call.now) rest → Wants line r) }
+{
+    match call_of(world, call) {
+        None => page(Vec::from_slice(alloc, NO_CALL)),
+        Some((id, arguments)) => Ok(Request::Methods(id, form_of_arguments(alloc, arguments)?)),
+    }
+}
+
+/// What the command of this line asks for.
+pub(crate) fn request_of(alloc: Global, world: &World, line: &[u8]) -> Result<Request, AllocError>
+    ensures { IfOk result (Wants line.now) }
+{
     let word = first_word(line);
     if word == b",help".as_slice() {
-        return Vec::from_slice(alloc, HELP);
+        return page(Vec::from_slice(alloc, HELP));
     }
     if word == b",cache".as_slice() {
-        return cache_page(alloc, world);
+        return page(cache_page(alloc, world));
     }
-    let subject = match subject(alloc, line)? {
-        Some(datum) => datum,
-        None => Datum::Int(0),
-    };
+    match subject(alloc, line)? {
+        None => request_about(alloc, world, word, &Datum::Int(0)),
+        Some(subject) => {
+            if word == b",methods".as_slice() {
+                return methods_of(alloc, world, &subject);
+            }
+            request_about(alloc, world, word, &subject)
+        }
+    }
+}
+
+/// What a command of this word asks for that is about this datum.
+fn request_about(
+    alloc: Global,
+    world: &World,
+    word: &[u8],
+    subject: &Datum,
+) -> Result<Request, AllocError>
+    ensures { IfOk result (λ r. (line : List ℕ) → Wants line r) }
+{
     if word == b",class".as_slice() {
-        return named_class_shown(alloc, world, &subject);
+        return page(named_class_shown(alloc, world, subject));
     }
     if word == b",generic".as_slice() {
-        return generic_shown(alloc, world, &subject);
+        return page(generic_shown(alloc, world, subject));
     }
     if word == b",methods".as_slice() {
-        return methods_shown(alloc, world, &subject);
+        return page(Vec::from_slice(alloc, NO_CALL));
     }
-    Vec::from_slice(alloc, UNKNOWN)
+    page(Vec::from_slice(alloc, UNKNOWN))
 }

@@ -1,6 +1,7 @@
 //! Conditions and faults of reading are explained where they come up.
 ghost use Rattle.std.specs.Io.KnownBytes.{Keeps};
 
+use crate::locate::locate;
 use crate::place::{Place, push_place};
 use clos_explain::{World, explanation};
 use clos_program::{Fault, FileName, Stop};
@@ -8,20 +9,29 @@ use lisp_data::{Datum, Value};
 use std::alloc::{AllocError, Global};
 use std::io::Write;
 
-/// A text with a place, in a file if one is named.
+/// A text and where it begins, in a file if one is named.
 #[derive(Clone, Copy)]
 pub(crate) struct Source<'a> {
     pub(crate) file: Option<&'a str>,
     pub(crate) place: Place,
+    pub(crate) text: &'a [u8],
 }
 
-impl Source<'_> {
-    /// The same at another place.
-    pub(crate) fn at(self, place: Place) -> Self {
+impl<'a> Source<'a> {
+    /// The same text from a byte on, which stands at this place.
+    pub(crate) fn from(self, place: Place, begin: usize) -> Source<'a> {
         Source {
             file: self.file,
             place,
+            text: self.text.get(begin..).unwrap_or(&[]),
         }
+    }
+
+    /// The same where a datum begins to which this path leads from the text's first one.
+    fn within(self, alloc: Global, path: &[usize]) -> Source<'a> {
+        let begin = locate(alloc, self.text, path);
+        let place = self.place.after(self.text.get(..begin).unwrap_or(&[]));
+        self.from(place, begin)
     }
 }
 
@@ -75,8 +85,9 @@ pub(crate) fn explain<W: Write, E: Write>(
     let Err(Stop::Refused(condition)) = answer else {
         return Ok(());
     };
-    let Ok(text) = explanation(alloc, world, form, condition) else {
+    let Ok(explanation) = explanation(alloc, world, form, condition) else {
         return Err(Fault::Memory);
     };
-    tell(alloc, source, text.as_slice(), output, errors)
+    let source = source.within(alloc, explanation.path.as_slice());
+    tell(alloc, source, explanation.text.as_slice(), output, errors)
 }

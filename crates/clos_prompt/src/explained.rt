@@ -46,6 +46,7 @@ fn explain_fault<W: Write, E: Write>(
     let source = Source {
         file: Some(name),
         place,
+        text: &[],
     };
     tell(alloc, source, told.as_slice(), output, errors)
 }
@@ -63,6 +64,7 @@ fn explain_text<'a, N: Natives, D: Dependents, W: Write, E: Write>(
     let source = Source {
         file: Some(name),
         place: Place::first(),
+        text,
     };
     let (summary, left, begin) = perform_forms(alloc, session, text, source, echo, output, errors)?;
     let (fault, at) = match left {

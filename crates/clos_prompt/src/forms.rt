@@ -41,20 +41,20 @@ fn left_by(fault: ReadFault) -> Result<Left, Fault<'static>>
 }
 
 /// Why a form's answer could not be written.
-fn fault_of(fault: &RunFault) -> Fault<'static> {
+pub(crate) fn fault_of(fault: &RunFault) -> Fault<'static> {
     match fault {
         RunFault::Write => Fault::Write,
         _ => Fault::Memory,
     }
 }
 
-/// The place where the next datum of a text begins, which this place of the text's is before.
-fn place_of_next(text: &[u8], at: usize, place: Place) -> Place
+/// The source from where the next datum begins, from a byte on that stands at this place.
+fn from_next<'a>(source: Source<'a>, text: &[u8], at: usize, place: Place) -> Source<'a>
     requires { at ≤ length text.now }
 {
     match skip_gaps(text, at) {
-        Ok(begin) => place.after(text.get(at..begin).unwrap_or(&[])),
-        Err(_) => place,
+        Ok(begin) => source.from(place.after(text.get(at..begin).unwrap_or(&[])), begin),
+        Err(_) => source.from(place, at),
     }
 }
 
@@ -89,7 +89,7 @@ pub(crate) fn perform_forms<N: Natives, D: Dependents, W: Write, E: Write>(
             Ok(None) => return Ok((summary, Left::Nothing, place)),
             Ok(Some(found)) => {
                 let (datum, next) = found;
-                let form = source.at(place_of_next(text, at, place));
+                let form = from_next(source, text, at, place);
                 match perform_form(
                     alloc, session, datum, form, echo, fresh, summary, output, errors,
                 ) {
@@ -103,7 +103,7 @@ pub(crate) fn perform_forms<N: Natives, D: Dependents, W: Write, E: Write>(
                 }
             }
             Err(fault) => {
-                let begin = place_of_next(text, at, place);
+                let begin = from_next(source, text, at, place).place;
                 return match left_by(fault) {
                     Ok(left) => Ok((summary, left, begin)),
                     Err(fault) => Err(fault),

@@ -1,22 +1,25 @@
 //! A session at a prompt: lines come, and each is answered.
-ghost use Rattle.std.specs.Prelude.{◌≡◌, ◌≤◌, ℕ, List, IfOk, IfErr, OnOk, false, length, take};
+ghost use Rattle.std.specs.Prelude.{◌≡◌, ◌≤◌, ℕ, List, IfOk, IfErr, OnOk, false, true, length, take};
 ghost use Rattle.std.specs.Io.KnownBytes.{Appends};
+ghost use Rattle.lisp_data.specs.DatumView.{datum_of};
 ghost use Rattle.lisp_tokens.specs.Fault.{OnFault};
 ghost use Rattle.clos_program.specs.clos_system.clos_session.Session.{standing_of};
+ghost use Rattle.clos_prompt.specs.Command.{Asks};
 ghost use Rattle.clos_prompt.specs.Fault.{fault_text};
 ghost use Rattle.clos_prompt.specs.Forms.{Leaves};
 ghost use Rattle.clos_prompt.specs.Place.{place_after};
-ghost use Rattle.clos_prompt.specs.Prompt.{Breaks, Ends, GoesOn, RunsPrompt};
-ghost use Rattle.clos_prompt.specs.Waiting.{exit_status, farewell, passed, prompt_of, takes_command};
+ghost use Rattle.clos_prompt.specs.Prompt.{Begun, Breaks, Ends, GoesOn, RunsPrompt};
+ghost use Rattle.clos_prompt.specs.Waiting.{exit_status, farewell, prompt_of, takes_command};
 ghost use Rattle.clos_prompt.specs.WaitingView.{waiting_of};
-ghost use Rattle.clos_prompt.specs.inner.Loop.{AnswerWritten, StopsIn, TakesLine};
+ghost use Rattle.clos_prompt.specs.inner.Loop.{AnswerWritten, TakesLine};
 
-use crate::command::shown;
+use crate::call::answer_call;
+use crate::command::{Request, request_of};
 use crate::explain::Source;
 use crate::fault::fault_line;
 use crate::forms::{Left, perform_forms};
 use crate::waiting::Prompt;
-use clos_explain::World;
+use crate::writing::write;
 use clos_program::{Dependents, Fault, Natives, STATUS_FAULT, Session, Summary, report};
 use lisp_tokens::ReadFault;
 use std::alloc::Global;
@@ -24,15 +27,6 @@ use std::io::{BufRead, ErrorKind, Write};
 
 /// What the input is called where a file would be named.
 const INPUT_NAME: &str = "-";
-
-fn write<W: Write>(output: &mut W, bytes: &[u8]) -> Result<(), Fault<'static>>
-    ensures { OnOk result (Appends (W.contents output.old) (W.contents output.new) bytes.now) }
-{
-    match output.write_all(bytes) {
-        Ok(()) => Ok(()),
-        Err(_) => Err(Fault::Write),
-    }
-}
 
 /// Asks for a line.
 fn ask<W: Write>(output: &mut W, prompt: &Prompt) -> Result<(), Fault<'static>>
@@ -118,9 +112,8 @@ fn answer_forms<N: Natives, D: Dependents, W: Write, E: Write>(
     ensures answers { IfOk result (λ r. AnswerWritten (N.host session.old.natives)
         (standing_of (D.told session.old.dependents) session.old) (standing_of (D.told session.new.dependents) session.new)
         (waiting_of prompt.now) line.now (W.contents output.old) (W.contents output.new) (waiting_of r)) }
-    ensures stops { IfErr result (λ _. StopsIn (N.host session.old.natives)
-        (standing_of (D.told session.old.dependents) session.old) (standing_of (D.told session.new.dependents) session.new)
-        (waiting_of prompt.now) line.now) }
+    ensures stops { IfErr result (λ _. Begun (N.host session.old.natives) (standing_of (D.told session.old.dependents) session.old)
+        (waiting_of prompt.now) line.now (standing_of (D.told session.new.dependents) session.new)) }
     ensures host { N.host session.new.natives ≡ N.host session.old.natives }
 {
     let Ok(whole) = prompt.text_with(alloc, line) else {
@@ -130,6 +123,7 @@ fn answer_forms<N: Natives, D: Dependents, W: Write, E: Write>(
     let source = Source {
         file: None,
         place: prompt.place,
+        text,
     };
     match perform_forms(alloc, session, text, source, true, output, errors) {
         Ok(performed) => go_on(alloc, prompt, text, performed.0, performed.1, output),
@@ -138,22 +132,31 @@ fn answer_forms<N: Natives, D: Dependents, W: Write, E: Write>(
 }
 
 /// Answers a command.
-fn answer_command<W: Write>(
+fn answer_command<N: Natives, D: Dependents, W: Write, E: Write>(
     alloc: Global,
-    world: &World,
+    session: &mut Session<N, D>,
     prompt: &Prompt,
     line: &[u8],
     output: &mut W,
+    errors: &mut E,
 ) -> Result<Prompt, Fault<'static>>
-    ensures { IfOk result (λ r. (page : List ℕ) × Appends (W.contents output.old) (W.contents output.new) page
-        × (waiting_of r ≡ passed (waiting_of prompt.now) line.now)) }
+    requires { takes_command (waiting_of prompt.now) line.now ≡ true }
+    ensures answers { IfOk result (λ r. AnswerWritten (N.host session.old.natives)
+        (standing_of (D.told session.old.dependents) session.old) (standing_of (D.told session.new.dependents) session.new)
+        (waiting_of prompt.now) line.now (W.contents output.old) (W.contents output.new) (waiting_of r)) }
+    ensures stops { IfErr result (λ _. Begun (N.host session.old.natives) (standing_of (D.told session.old.dependents) session.old)
+        (waiting_of prompt.now) line.now (standing_of (D.told session.new.dependents) session.new)) }
+    ensures host { N.host session.new.natives ≡ N.host session.old.natives }
 {
-    let Ok(page) = shown(alloc, world, line) else {
-        return Err(Fault::Memory);
-    };
-    match write(output, page.as_slice()) {
-        Ok(()) => Ok(prompt.passed(alloc, line)),
-        Err(fault) => Err(fault),
+    match request_of(alloc, session.world(), line) {
+        Ok(Request::Page(page)) => match write(output, page.as_slice()) {
+            Ok(()) => Ok(prompt.passed(alloc, line)),
+            Err(fault) => Err(fault),
+        },
+        Ok(Request::Methods(id, form)) => {
+            answer_call(alloc, session, prompt, line, id, form, output, errors)
+        }
+        Err(_) => Err(Fault::Memory),
     }
 }
 
@@ -169,13 +172,12 @@ fn answer_line<N: Natives, D: Dependents, W: Write, E: Write>(
     ensures answers { IfOk result (λ r. AnswerWritten (N.host session.old.natives)
         (standing_of (D.told session.old.dependents) session.old) (standing_of (D.told session.new.dependents) session.new)
         (waiting_of prompt.now) line.now (W.contents output.old) (W.contents output.new) (waiting_of r)) }
-    ensures stops { IfErr result (λ _. StopsIn (N.host session.old.natives)
-        (standing_of (D.told session.old.dependents) session.old) (standing_of (D.told session.new.dependents) session.new)
-        (waiting_of prompt.now) line.now) }
+    ensures stops { IfErr result (λ _. Begun (N.host session.old.natives) (standing_of (D.told session.old.dependents) session.old)
+        (waiting_of prompt.now) line.now (standing_of (D.told session.new.dependents) session.new)) }
     ensures host { N.host session.new.natives ≡ N.host session.old.natives }
 {
     if prompt.takes_command(line) {
-        return answer_command(alloc, session.world(), prompt, line, output);
+        return answer_command(alloc, session, prompt, line, output, errors);
     }
     answer_forms(alloc, session, prompt, line, output, errors)
 }

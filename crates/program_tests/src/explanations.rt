@@ -1,77 +1,29 @@
 //! How conditions are explained: the mistakes that newcomers make.
 use crate::prompt::{status, status_within};
 use clos_command_line::settings;
+use clos_names::function_names;
 use clos_program::{Limits, Output, Session, limits, program};
 use clos_prompt::run_explained;
 use std::process::Abort;
 use std::test::Fail;
 
-/// Mistakes, and how each is explained.
-const MISTAKES: [(&str, &str); 56] = [
-    (
-        "(defun f (x) x)\n(f)\n",
-        "2:1: PROGRAM-ERROR: F takes 1 argument, and is called with 0\n",
-    ),
-    (
-        "(defun f (x &optional y) x)\n(f 1 2 3)\n",
-        "2:1: PROGRAM-ERROR: F takes 1 to 2 arguments, and is called with 3\n",
-    ),
-    (
-        "(defun f (x &rest y) x)\n(f)\n",
-        "2:1: PROGRAM-ERROR: F takes 1 argument or more, and is called with 0\n",
-    ),
-    (
-        "(defgeneric g (a b))\n(list 1 (g 1))\n",
-        "2:1: PROGRAM-ERROR: G takes 2 arguments, and is called with 1\n",
-    ),
-    (
-        "(let (x 1) x)\n",
-        "1:1: PROGRAM-ERROR: the form (LET ..) is malformed\n",
-    ),
-    (
-        "(progn 1 (when t (if)))\n",
-        "1:1: PROGRAM-ERROR: the form (IF ..) is malformed\n",
-    ),
-    ("((1 2))\n", "1:1: PROGRAM-ERROR: the form is malformed\n"),
-    (
-        "(setq 5 1)\n",
-        "1:1: PROGRAM-ERROR: the form (SETQ ..) is malformed\n",
-    ),
-    (
-        "(defclass c)\n",
-        "1:1: PROGRAM-ERROR: the form (DEFCLASS ..) is malformed, or what it would define is the language's\n",
-    ),
-    (
-        "(defclass c () ((x :initfrom 1)))\n",
-        "1:1: PROGRAM-ERROR: the form (DEFCLASS ..) is malformed, or what it would define is the language's\n",
-    ),
-    (
-        "(defmethod m ((x integer string)) x)\n",
-        "1:1: PROGRAM-ERROR: the form (DEFMETHOD ..) is malformed, or what it would define is the language's\n",
-    ),
-    (
-        "(defun car (x) x)\n",
-        "1:1: PROGRAM-ERROR: the form (DEFUN ..) is malformed, or what it would define is the language's\n",
-    ),
-    (
-        "(defgeneric g (x &key y))\n(defmethod g ((x integer) &key y) y)\n(g 1 :z 2)\n",
-        "3:1: PROGRAM-ERROR: a name may not be defined so, or a call has arguments that its function does not take\n",
-    ),
+/// Mistakes that are well-formed, and how each is explained.
+const MISTAKES: [(&str, &str); 45] = [
     (
         "x\n",
         "1:1: UNBOUND-VARIABLE: no variable here is called X\n",
     ),
     (
         "(defvar *count* 0)\n(print *cuont*)\n",
-        "2:1: UNBOUND-VARIABLE: no variable here is called *CUONT*; is it *COUNT*?\n",
+        "2:8: UNBOUND-VARIABLE: no variable here is called *CUONT*; is it *COUNT*?\n",
     ),
     (
         "(defclass a () ())\n(make-instance a)\n",
-        "2:1: UNBOUND-VARIABLE: no variable here is called A; the class is written 'A\n",
+        "2:16: UNBOUND-VARIABLE: no variable here is called A; the class is written 'A\n",
     ),
     (
         "(defmethod speak ((x integer)) 1)\n(print speak)\n",
-        "2:1: UNBOUND-VARIABLE: no variable here is called SPEAK; the generic function is written #'SPEAK\n",
+        "2:8: UNBOUND-VARIABLE: no variable here is called SPEAK; the generic function is written #'SPEAK\n",
     ),
     (
         "(pritn 1)\n",
@@ -224,21 +176,37 @@ const MISTAKES: [(&str, &str); 56] = [
     ),
     (
         "(progn\n  1\n  (foo))\n",
-        "1:1: UNDEFINED-FUNCTION: no function is called FOO\n",
+        "3:3: UNDEFINED-FUNCTION: no function is called FOO\n",
+    ),
+    (
+        "(defmethod f ((x integer)) x)\n(list 1\n  (f \"a\"))\n",
+        "3:3: NO-APPLICABLE-METHOD: no method of F fits (STRING)\n  methods             #<METHOD F (INTEGER)>\n",
+    ),
+    (
+        "(list 'a ; 'b\n '(foo) (foo))\n",
+        "2:9: UNDEFINED-FUNCTION: no function is called FOO\n",
     ),
 ];
 
-#[test]
-fn explains_mistakes(rt: HostRuntime) -> Result<(), Fail> {
-    for (input, wanted) in MISTAKES.iter() {
+/// Each of the inputs is explained so, and ends with status 1.
+pub fn check_explanations<R: AllocGlobal + Abort>(
+    rt: &R,
+    mistakes: &[(&str, &str)],
+) -> Result<(), Fail> {
+    for (input, wanted) in mistakes.iter() {
         let mut output = Vec::new(rt.alloc());
         let mut errors = Vec::new(rt.alloc());
-        let got = status(&rt, &mut input.as_bytes(), &mut output, &mut errors)?;
+        let got = status(rt, &mut input.as_bytes(), &mut output, &mut errors)?;
         let text = str::from_utf8(errors.as_slice()).unwrap_or("?");
         assert_eq!(rt; text, *wanted, "the explanation of {input}");
         assert_eq!(rt; got, 1, "the status of {input}");
     }
     Ok(())
+}
+
+#[test]
+fn explains_mistakes(rt: HostRuntime) -> Result<(), Fail> {
+    check_explanations(&rt, MISTAKES.as_slice())
 }
 
 #[test]
@@ -323,6 +291,27 @@ fn explains_runs(rt: HostRuntime) -> Result<(), Fail> {
             "the output of {input}"
         );
         assert_eq!(rt; got, status, "the status of {input}");
+    }
+    Ok(())
+}
+
+/// Each wrong number of arguments of a function of the language's is told as such, and no right one is.
+#[test]
+fn counts_arguments_as_calls_do(rt: HostRuntime) -> Result<(), Fail> {
+    let alloc = rt.alloc();
+    for name in function_names() {
+        let mut call = format!(in alloc; "({name}")?;
+        for count in 0..5 {
+            let input = format!(in alloc; "{call})\n")?;
+            let mut output = Vec::new(alloc);
+            let mut errors = Vec::new(alloc);
+            status(&rt, &mut input.as_bytes(), &mut output, &mut errors)?;
+            let text = str::from_utf8(errors.as_slice()).unwrap_or("?");
+            let is_refused = text.contains("PROGRAM-ERROR");
+            let is_told = text.contains("and is called with") || text.contains(" takes pairs ");
+            assert_eq!(rt; is_told, is_refused, "{name} with {count}: {text}");
+            call.push_str(" :x")?;
+        }
     }
     Ok(())
 }

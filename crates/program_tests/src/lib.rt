@@ -10,7 +10,11 @@ mod explanations;
 #[cfg(test)]
 mod failing;
 #[cfg(test)]
+mod malformed;
+#[cfg(test)]
 mod natives;
+#[cfg(test)]
+mod paged;
 #[cfg(test)]
 mod program;
 #[cfg(test)]

@@ -30,7 +30,7 @@ pub fn status<R: AllocGlobal, I: BufRead, W: Write>(
 }
 
 /// Inputs, what each writes, and its status.
-const CASES: [(&str, &str, u8); 24] = [
+const CASES: [(&str, &str, u8); 27] = [
     ("", "clos> \n", 0),
     ("\n; nothing\n", "clos> clos> clos> \n", 0),
     ("(+ 1 2)\n", "clos> 3\nclos> \n", 0),
@@ -126,6 +126,21 @@ const CASES: [(&str, &str, u8); 24] = [
         "1 ,help\n",
         "clos> 1\n; 2 (UNBOUND-VARIABLE HELP)\nclos> \n",
         1,
+    ),
+    (
+        "(defmethod f (x) x)\n,methods (f *x*)\n,methods (f (g))\n",
+        "clos> #<METHOD F (T)>\nclos> ; 2 (UNBOUND-VARIABLE *X*)\nclos> ; 3 (UNDEFINED-FUNCTION G)\nclos> \n",
+        1,
+    ),
+    (
+        "(defvar *n* 0)\n(defmethod f (x) x)\n,methods (f (princ (incf *n*)))\n*n*\n",
+        "clos> *N*\nclos> #<METHOD F (T)>\nclos> 1\n#<GENERIC-FUNCTION F>\n  classes             INTEGER\n  methods that fit    #<METHOD F (T)>\n  effective method    not built yet\nclos> 1\nclos> \n",
+        0,
+    ),
+    (
+        "(defmethod f (x) x)\n,methods (f . x)\n,methods f\n,methods ((f) x)\n,methods (f\n",
+        "clos> #<METHOD F (T)>\nclos> ; ,methods takes a call of a generic function by a symbol\nclos> ; ,methods takes a call of a generic function by a symbol\nclos> ; ,methods takes a call of a generic function by a symbol\nclos> ; ,methods takes a call of a generic function by a symbol\nclos> \n",
+        0,
     ),
 ];
 

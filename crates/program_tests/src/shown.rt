@@ -23,7 +23,7 @@ const DEFINED: &str = "(defclass animal () ((name :initarg :name :reader name-of
 ";
 
 /// Commands, and what each shows.
-const SHOWN: [(&str, &str); 24] = [
+const SHOWN: [(&str, &str); 23] = [
     (
         ",methods (name-of *rex*)\n",
         "clos> #<GENERIC-FUNCTION NAME-OF>\n  classes             DOG\n  methods that fit    #<METHOD NAME-OF (ANIMAL)>\n  effective method    not built yet\nclos> \n",
@@ -90,12 +90,8 @@ const SHOWN: [(&str, &str); 24] = [
         "clos> #<GENERIC-FUNCTION SPEAK> takes 2 arguments or more\nclos> \n",
     ),
     (
-        ",methods (speak *fido* 3)\n",
-        "clos> ; ,methods takes constants and global variables that have a value as arguments\nclos> \n",
-    ),
-    (
-        ",methods (speak (list 1) 3)\n",
-        "clos> ; ,methods takes constants and global variables that have a value as arguments\nclos> \n",
+        ",methods (speak (make-instance 'animal) (+ 1 2))\n",
+        "clos> #<GENERIC-FUNCTION SPEAK>\n  classes             ANIMAL INTEGER\n  methods that fit    #<METHOD SPEAK (ANIMAL T)>\n  others              #<METHOD SPEAK (DOG INTEGER)>\n                      #<METHOD SPEAK (DOG (EQL 3))>\n                      #<METHOD SPEAK :AROUND (DOG (EQL 3))>\n  effective method    not built yet\nclos> \n",
     ),
     (
         ",methods (car 1)\n",
@@ -111,11 +107,11 @@ const SHOWN: [(&str, &str); 24] = [
     ),
     (
         ",help\n",
-        "clos> ,class NAME     shows a class\n,generic NAME   shows a generic function; NAME may be (SETF NAME)\n,methods CALL   shows the methods that fit a call, as (SPEAK *DOG* 'LOUD): its arguments are\n                constants and global variables, and nothing is called\n,cache          shows the calls whose effective methods are kept\n,help           lists the commands\nCtrl-D          leaves\nclos> \n",
+        "clos> ,class NAME     shows a class\n,generic NAME   shows a generic function; NAME may be (SETF NAME)\n,methods CALL   evaluates the arguments of a call, as (SPEAK *DOG* 'LOUD), and shows the methods\n                that fit them; the function is not called\n,cache          shows the calls whose effective methods are kept\n,help           lists the commands\nCtrl-D          leaves\nclos> \n",
     ),
     (
         ",help me\n",
-        "clos> ,class NAME     shows a class\n,generic NAME   shows a generic function; NAME may be (SETF NAME)\n,methods CALL   shows the methods that fit a call, as (SPEAK *DOG* 'LOUD): its arguments are\n                constants and global variables, and nothing is called\n,cache          shows the calls whose effective methods are kept\n,help           lists the commands\nCtrl-D          leaves\nclos> \n",
+        "clos> ,class NAME     shows a class\n,generic NAME   shows a generic function; NAME may be (SETF NAME)\n,methods CALL   evaluates the arguments of a call, as (SPEAK *DOG* 'LOUD), and shows the methods\n                that fit them; the function is not called\n,cache          shows the calls whose effective methods are kept\n,help           lists the commands\nCtrl-D          leaves\nclos> \n",
     ),
 ];
 

@@ -2,10 +2,8 @@
 use Rattle.std.specs.Prelude.{◌≡◌, ℕ, true, List, ◌++◌, Option, Some, IfSome}
 use Rattle.std.specs.Io.BufRead.{take_through, drop_through}
 use Rattle.std.specs.Io.KnownBytes.{Appends}
-use Rattle.clos_program.specs.clos_system.Transcript.{Ran}
 use Rattle.clos_program.specs.clos_system.clos_session.Session.{Standing}
 use Rattle.clos_program.specs.clos_system.clos_session.clos_machine.clos_meaning.Host.{Host}
-use Rattle.clos_program.specs.clos_system.declared.transcript.Summary.{Summary}
 use Rattle.clos_prompt.specs.Prompt.{Answers, Comes, Prompted}
 use Rattle.clos_prompt.specs.Waiting.{Waiting}
 
@@ -16,10 +14,6 @@ TakesLine old new line = IfSome old (λ text. (line ≡ take_through 10 text) ×
 -- the answer to a line was written
 abbrev pub AnswerWritten : Host → Standing → Standing → Waiting → List ℕ → Option (List ℕ) → Option (List ℕ) → Waiting → Type 0
 AnswerWritten host w w' p line old new p' = (piece : List ℕ) × Appends old new piece × Answers host w p line w' p' piece
-
--- a whole number of the forms were performed that a line makes with what is open
-abbrev pub StopsIn : Host → Standing → Standing → Waiting → List ℕ → Type 0
-StopsIn host w w' p line = (at : ℕ) × (out : List ℕ) × (n : Summary) × Ran host true (p.pending ++ line) w w' at out n
 
 -- where the loop over the lines stands
 pub record Stands (host now : Host) (known left : Option (List ℕ)) (start w : Standing) (p : Waiting) (old new : Option (List ℕ))
