@@ -26,8 +26,33 @@ kept k c n f all known is h =
     (held c f k n all (stayed (n ∷ all) (lined c f k) h')).0
 
 -- an output to which nothing was written yet
-begins : (k : Option (List ℕ)) (c : ℕ) (f : Bool) → c ≡ 0 → f ≡ true → lined c f k ≡ lined 0 true k
+pub begins : (k : Option (List ℕ)) (c : ℕ) (f : Bool) → c ≡ 0 → f ≡ true → lined c f k ≡ lined 0 true k
 begins k c f z y = ap (λ n. lined n f k) z ∙ ap (λ b. lined 0 b k) y
+
+-- what the output holds after the bytes that were there
+pub passed : (n : ℕ) (had : List ℕ) (old k : Option (List ℕ)) (c : ℕ) (f : Bool) (out : List ℕ) → old ≡ Some (n ∷ had)
+    → Appends old (lined c f k) out → lined c f k ≡ Some (n ∷ (had ++ out))
+passed n had old k c f out is a =
+    let a' : Appends (Some (n ∷ had)) (lined c f k) out = rw is at a in
+    came (n ∷ had) (lined c f k) out a'
+
+-- what it holds once notices followed it, and it was flushed
+pub told_after : (end : Standing) (notices : Bool) (all out : List ℕ) (k1 k2 k3 : Option (List ℕ)) (c1 c2 c3 : ℕ) (f1 f2 f3 : Bool)
+    → lined c1 f1 k1 ≡ Some (length all ∷ (all ++ out)) → Tells notices end f1 (lined c1 f1 k1) (lined c2 f2 k2)
+    → Keeps (lined c2 f2 k2) (lined c3 f3 k3) → k3 ≡ Some (all ++ with_asked notices end out)
+told_after end notices all out k1 k2 k3 c1 c2 c3 f1 f2 f3 l1 t k =
+    let line : f1 ≡ ends_line out = (held c1 f1 k1 (length all) (all ++ out) l1).1 ∙ ap ends_line (drop_at all out (length all) refl) in
+    let a2 : Appends (Some (length all ∷ (all ++ out))) (lined c2 f2 k2) t.0 = rw l1 at t.1 in
+    let l2 : lined c2 f2 k2 ≡ Some (length all ∷ ((all ++ out) ++ t.0)) = came (length all ∷ (all ++ out)) (lined c2 f2 k2) t.0 a2 in
+    kept k3 c3 (length all) f3 ((all ++ out) ++ t.0) (lined c2 f2 k2) l2 k
+    ∙ ap Some (append_assoc all out t.0 ∙ ap (λ l. all ++ l) (t.2 out line))
+
+-- nothing came, and a flush kept what was there
+pub nothing : (n : ℕ) (had : List ℕ) (a k3 : Option (List ℕ)) (c3 : ℕ) (f3 : Bool) → a ≡ Some (n ∷ had) → Keeps a (lined c3 f3 k3)
+    → Keeps (Some had) k3
+nothing n had a k3 c3 f3 is k =
+    let h : k3 ≡ Some had = kept k3 c3 n f3 had a is k in
+    rw h refl
 
 module _ (host : Host) (echo : Bool) (known : Option (List ℕ)) (start end : Standing) where
   -- it is the same run where something else holds what was written
@@ -36,13 +61,6 @@ module _ (host : Host) (echo : Bool) (known : Option (List ℕ)) (start end : St
   over a b a' b' told r p =
       let text = r.2 in
       (r.0, r.1, (text.0, text.1, text.2, (text.3.0, record { out = text.3.1.out; ran = text.3.1.ran; appends = p }, text.3.2)))
-
-  -- what the output holds after the bytes that were there
-  passed : (old k : Option (List ℕ)) (c : ℕ) (f : Bool) (all out : List ℕ) → old ≡ Some (length all ∷ all) → Appends old (lined c f k) out
-      → lined c f k ≡ Some (length all ∷ (all ++ out))
-  passed old k c f all out is a =
-      let a' : Appends (Some (length all ∷ all)) (lined c f k) out = rw is at a in
-      came (length all ∷ all) (lined c f k) out a'
 
   pub follows : (notices : Bool) (k0 k1 k2 k3 : Option (List ℕ)) (c1 c2 c3 : ℕ) (f1 f2 f3 told : Bool) (status : ℕ)
       → Ran host echo known start end (lined 0 true k0) (lined c1 f1 k1) told → Tells notices end f1 (lined c1 f1 k1) (lined c2 f2 k2)
@@ -53,12 +71,8 @@ module _ (host : Host) (echo : Bool) (known : Option (List ℕ)) (start end : St
   follows notices (Some all) k1 k2 k3 c1 c2 c3 f1 f2 f3 told status r t k s =
       let out = r.2.3.1.out in
       let l1 : lined c1 f1 k1 ≡ Some (length all ∷ (all ++ out)) =
-      passed (lined 0 true (Some all)) k1 c1 f1 all out (new_lined all) r.2.3.1.appends in
-      let line : f1 ≡ ends_line out = (held c1 f1 k1 (length all) (all ++ out) l1).1 ∙ ap ends_line (drop_at all out (length all) refl) in
-      let a2 : Appends (Some (length all ∷ (all ++ out))) (lined c2 f2 k2) t.0 = rw l1 at t.1 in
-      let l2 : lined c2 f2 k2 ≡ Some (length all ∷ ((all ++ out) ++ t.0)) = came (length all ∷ (all ++ out)) (lined c2 f2 k2) t.0 a2 in
-      let new : k3 ≡ Some (all ++ with_asked notices end out) = kept k3 c3 (length all) f3 ((all ++ out) ++ t.0) (lined c2 f2 k2) l2 k
-      ∙ ap Some (append_assoc all out t.0 ∙ ap (λ l. all ++ l) (t.2 out line)) in (
+      passed (length all) all (lined 0 true (Some all)) k1 c1 f1 out (new_lined all) r.2.3.1.appends in
+      let new : k3 ≡ Some (all ++ with_asked notices end out) = told_after end notices all out k1 k2 k3 c1 c2 c3 f1 f2 f3 l1 t k in (
         Some (all ++ out),
         inl (
           told,
@@ -85,46 +99,46 @@ module _ (host : Host) (echo : Bool) (known : Option (List ℕ)) (start end : St
     ),
   )
 
-  -- nothing came, and a flush kept what was there
-  nothing : (all : List ℕ) (k1 k3 : Option (List ℕ)) (c1 c3 : ℕ) (f1 f3 : Bool) → lined c1 f1 k1 ≡ lined 0 true (Some all)
-      → Keeps (lined c1 f1 k1) (lined c3 f3 k3) → Keeps (Some all) k3
-  nothing all k1 k3 c1 c3 f1 f3 same k =
-      let h : k3 ≡ Some all = kept k3 c3 (length all) f3 all (lined c1 f1 k1) (same ∙ new_lined all) k in
-      rw h refl
+  -- a run that failed did so whatever is known of what was written
+  pub fails_unknown : (a b : Option (List ℕ)) (e : RunFault) → RunFaults host echo known start end a b e
+      → RunFaults host echo known start end None None e
+  fails_unknown a b Read h = (h.0, refl)
+  fails_unknown a b TooLong h = (h.0, refl, h.2)
+  fails_unknown a b (Reader fault) h =
+      let l = h.3 in
+      (h.0, h.1, h.2, (l.0, l.1, record { out = l.2.out; ran = l.2.ran; appends = tt }, l.3, l.4))
+  fails_unknown a b Write h = h
+  fails_unknown a b Memory (inl h) = inl (h.0, refl)
+  fails_unknown a b Memory (inr h) = inr h
 
-  -- the run failed
+  -- .. and as the writer holds what came, once that was flushed
+  pub fails_on : (n : ℕ) (had : List ℕ) (a k1 k3 : Option (List ℕ)) (c1 c3 : ℕ) (f1 f3 : Bool) → a ≡ Some (n ∷ had) → (e : RunFault)
+      → RunFaults host echo known start end a (lined c1 f1 k1) e → Keeps (lined c1 f1 k1) (lined c3 f3 k3)
+      → (written : Option (List ℕ)) × RunFaults host echo known start end (Some had) written e × Keeps written k3
+  fails_on n had a k1 k3 c1 c3 f1 f3 is Read h k = (Some had, (h.0, refl), nothing n had (lined c1 f1 k1) k3 c3 f3 (h.1 ∙ is) k)
+  fails_on n had a k1 k3 c1 c3 f1 f3 is TooLong h k =
+      (Some had, (h.0, refl, h.2), nothing n had (lined c1 f1 k1) k3 c3 f3 (h.1 ∙ is) k)
+  fails_on n had a k1 k3 c1 c3 f1 f3 is (Reader fault) h k =
+      let l = h.3 in
+      let out = l.2.out in
+      let l1 : lined c1 f1 k1 ≡ Some (n ∷ (had ++ out)) = passed n had a k1 c1 f1 out is l.2.appends in (
+        Some (had ++ out),
+        (h.0, h.1, h.2, (l.0, l.1, record { out = out; ran = l.2.ran; appends = refl }, l.3, l.4)),
+        nothing n (had ++ out) (lined c1 f1 k1) k3 c3 f3 l1 k,
+      )
+  fails_on n had a k1 k3 c1 c3 f1 f3 is Write h k = (k3, h, stays k3)
+  fails_on n had a k1 k3 c1 c3 f1 f3 is Memory (inl h) k =
+      (Some had, inl (h.0, refl), nothing n had (lined c1 f1 k1) k3 c3 f3 (h.1 ∙ is) k)
+  fails_on n had a k1 k3 c1 c3 f1 f3 is Memory (inr h) k = (k3, inr h, stays k3)
+
   pub fails : (notices : Bool) (k0 k1 k3 : Option (List ℕ)) (c1 c3 : ℕ) (f1 f3 : Bool) (status : ℕ)
       → Failed host echo known start end (lined 0 true k0) (lined c1 f1 k1) → Keeps (lined c1 f1 k1) (lined c3 f3 k3)
       → status ≡ fault_status
       → RunsInput host echo notices known start end k0 k3 status
-  fails notices k0 k1 k3 c1 c3 f1 f3 status f k s = go k0 f.0 f.1
-    where
-      ends : (k0 written : Option (List ℕ)) → Failed host echo known start end k0 written → Keeps written k3
-          → RunsInput host echo notices known start end k0 k3 status
-      ends k0 written f k = (written, inr (s, f, k))
-
-      go : (k0 : Option (List ℕ)) (e : RunFault) → RunFaults host echo known start end (lined 0 true k0) (lined c1 f1 k1) e
-          → RunsInput host echo notices known start end k0 k3 status
-      go None Read h = ends None None (Read, (h.0, refl)) tt
-      go (Some all) Read h = ends (Some all) (Some all) (Read, (h.0, refl)) (nothing all k1 k3 c1 c3 f1 f3 h.1 k)
-      go None TooLong h = ends None None (TooLong, (h.0, refl, h.2)) tt
-      go (Some all) TooLong h = ends (Some all) (Some all) (TooLong, (h.0, refl, h.2)) (nothing all k1 k3 c1 c3 f1 f3 h.1 k)
-      go None (Reader fault) h =
-          let l = h.3 in
-          ends None None
-          (Reader fault, (h.0, h.1, h.2, (l.0, l.1, record { out = l.2.out; ran = l.2.ran; appends = tt }, l.3, l.4))) tt
-      go (Some all) (Reader fault) h =
-          let l = h.3 in
-          let out = l.2.out in
-          let l1 : lined c1 f1 k1 ≡ Some (length all ∷ (all ++ out)) =
-          passed (lined 0 true (Some all)) k1 c1 f1 all out (new_lined all) l.2.appends in
-          let new : k3 ≡ Some (all ++ out) = kept k3 c3 (length all) f3 (all ++ out) (lined c1 f1 k1) l1 k in
-          ends (Some all) (Some (all ++ out))
-          (Reader fault, (h.0, h.1, h.2, (l.0, l.1, record { out = out; ran = l.2.ran; appends = refl }, l.3, l.4))) (rw new refl)
-      go k0 Write h = ends k0 k3 (Write, h) (stays k3)
-      go None Memory (inl h) = ends None None (Memory, inl (h.0, refl)) tt
-      go (Some all) Memory (inl h) = ends (Some all) (Some all) (Memory, inl (h.0, refl)) (nothing all k1 k3 c1 c3 f1 f3 h.1 k)
-      go k0 Memory (inr h) = ends k0 k3 (Memory, inr h) (stays k3)
+  fails notices None k1 k3 c1 c3 f1 f3 status f k s = (None, inr (s, (f.0, fails_unknown None (lined c1 f1 k1) f.0 f.1), tt))
+  fails notices (Some all) k1 k3 c1 c3 f1 f3 status f k s =
+      let r = fails_on (length all) all (lined 0 true (Some all)) k1 k3 c1 c3 f1 f3 (new_lined all) f.0 f.1 k in
+      (r.0, inr (s, (f.0, r.1), r.2))
 
   -- whatever came of the run and of what follows it
   pub comes : {W F : Type 0} (contents : W → Option (List ℕ)) (o0 o1 o2 o3 : Output W) (notices : Bool) (ran told : Result Bool F)

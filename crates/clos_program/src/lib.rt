@@ -7,6 +7,8 @@ pub mod natives;
 mod notices;
 mod output;
 mod running;
+mod sources;
+mod way;
 
 pub use clos_command_line::Settings;
 pub use clos_system::{
@@ -18,6 +20,8 @@ pub use fault::{Fault, FileName, report};
 pub use natives::{affine, low};
 pub use output::Output;
 pub use running::{
-    STATUS_CONDITION, STATUS_DONE, STATUS_FAULT, STATUS_USAGE, finish, is_input, limits, program,
-    reads_input, tell_notices,
+    STATUS_CONDITION, STATUS_DONE, STATUS_FAULT, STATUS_USAGE, is_input, limits, program,
+    program_in, reads_input,
 };
+pub use sources::Sources;
+pub use way::Way;

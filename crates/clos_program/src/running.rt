@@ -1,19 +1,21 @@
 //! Running files, one after the other, in one session.
-ghost use Rattle.std.specs.Prelude.{◌≡◌, ◌⊎◌, ◌||◌, IfOk, IfErr, MatchResult, map, true};
+ghost use Rattle.std.specs.Prelude.{◌≡◌, ◌⊎◌, ◌||◌, IfOk, IfErr, MatchResult, map, true, false};
 ghost use Rattle.std.specs.List.{list_any};
 ghost use Rattle.std.specs.Io.KnownBytes.{Keeps};
 ghost use Rattle.clos_system.specs.clos_world.Limits.{standard};
 ghost use Rattle.clos_system.specs.clos_session.Session.{standing_of};
 ghost use Rattle.clos_program.specs.Lines.{lined_of};
-ghost use Rattle.clos_program.specs.Program.{Failed, Ran, RunsInput, Tells, fault_status, is_input, is_input_alone, is_new, status_of};
+ghost use Rattle.clos_program.specs.Files.{RanAll, Runs, Stopped, known_as, known_texts};
+ghost use Rattle.clos_program.specs.Program.{Failed, Ran, Tells, fault_status, is_input, is_input_alone, is_new, status_of};
 
 use crate::fault::{Fault, report};
 use crate::notices::notices_told;
 use crate::output::Output;
+use crate::sources::Sources;
+use crate::way::{Plainly, Way};
 use clos_command_line::Settings;
-use clos_system::{Dependents, Limits, Natives, Session, run};
+use clos_system::{Dependents, Limits, Natives, Session};
 use std::alloc::Global;
-use std::fs::{File, Files};
 use std::io::{Read, Write};
 
 /// Every form gave a value.
@@ -75,60 +77,66 @@ pub fn limits(settings: &Settings<'_>) -> Limits
     }
 }
 
-/// Runs one text, and says whether a condition or storage line was written.
-fn run_text<'a, N: Natives, D: Dependents, I: Read, O: Write>(
-    alloc: Global,
-    session: &mut Session<N, D>,
-    name: &'a str,
-    input: &mut I,
-    output: &mut O,
-    echo: bool,
-) -> Result<bool, Fault<'a>>
-    ensures finishes { IfOk result (Ran (N.host session.old.natives) echo (I.remaining input.old)
-        (standing_of (D.told session.old.dependents) session.old) (standing_of (D.told session.new.dependents) session.new)
-        (O.contents output.old) (O.contents output.new)) }
-    ensures fails { IfErr result (λ _. Failed (N.host session.old.natives) echo (I.remaining input.old)
-        (standing_of (D.told session.old.dependents) session.old) (standing_of (D.told session.new.dependents) session.new)
-        (O.contents output.old) (O.contents output.new)) }
-{
-    match run(alloc, session, input, output, echo) {
-        Ok(summary) => Ok(summary.conditions > 0 || summary.storages > 0),
-        Err(fault) => Err(Fault::of_run(name, &fault)),
-    }
-}
-
 /// Runs the file of this name, or the input where the name stands for it.
-fn run_named<'a, N: Natives, D: Dependents, R: Files, I: Read, O: Write>(
-    rt: &R,
+fn run_named<'a, V: Way, N: Natives, D: Dependents, S: Sources, I: Read, O: Write, E: Write>(
+    way: &V,
+    rt: &S,
     alloc: Global,
     session: &mut Session<N, D>,
     name: &'a str,
+    echo: bool,
     input: &mut I,
     output: &mut O,
-    echo: bool,
-) -> Result<bool, Fault<'a>> {
+    errors: &mut E,
+) -> Result<bool, Fault<'a>>
+    ensures finishes { IfOk result (Ran (N.host session.old.natives) echo (known_as (S.text rt.now) (I.remaining input.old) name.now)
+        (standing_of (D.told session.old.dependents) session.old) (standing_of (D.told session.new.dependents) session.new)
+        (O.contents output.old) (O.contents output.new)) }
+    ensures fails { IfErr result (λ _. ((standing_of (D.told session.new.dependents) session.new ≡ standing_of (D.told session.old.dependents) session.old)
+        × Keeps (O.contents output.old) (O.contents output.new))
+        ⊎ Failed (N.host session.old.natives) echo (known_as (S.text rt.now) (I.remaining input.old) name.now)
+        (standing_of (D.told session.old.dependents) session.old) (standing_of (D.told session.new.dependents) session.new)
+        (O.contents output.old) (O.contents output.new)) }
+    ensures host { N.host session.new.natives ≡ N.host session.old.natives }
+    ensures input { is_input name.now ≡ false → input.new ≡ input.old }
+{
     if is_input(name) {
-        return run_text(alloc, session, INPUT_NAME, input, output, echo);
+        return way.run_text(alloc, session, INPUT_NAME, echo, input, output, errors);
     }
-    match File::open(rt, name) {
-        Ok(mut file) => run_text(alloc, session, name, &mut file, output, echo),
+    match rt.open_source(name) {
+        Ok(mut source) => way.run_text(alloc, session, name, echo, &mut source, output, errors),
         Err(_) => Err(Fault::Read(name)),
     }
 }
 
 /// Runs the files in order, each with a flush of the output after it, and says whether a condition or storage line was
 /// written.
-fn run_files<'a, N: Natives, D: Dependents, R: Files, I: Read, O: Write>(
-    rt: &R,
+fn run_files<'a, V: Way, N: Natives, D: Dependents, S: Sources, I: Read, O: Write, E: Write>(
+    way: &V,
+    rt: &S,
     alloc: Global,
     session: &mut Session<N, D>,
     settings: &Settings<'a>,
     input: &mut I,
     output: &mut O,
-) -> Result<bool, Fault<'a>> {
+    errors: &mut E,
+) -> Result<bool, Fault<'a>>
+    ensures finishes { IfOk result (RanAll (N.host session.old.natives) settings.now.echo
+        (known_texts (S.text rt.now) (I.remaining input.old) (map (λ f. f.now) settings.now.files.items))
+        (standing_of (D.told session.old.dependents) session.old) (standing_of (D.told session.new.dependents) session.new)
+        (O.contents output.old) (O.contents output.new)) }
+    ensures fails { IfErr result (λ _. Stopped (N.host session.old.natives) settings.now.echo
+        (known_texts (S.text rt.now) (I.remaining input.old) (map (λ f. f.now) settings.now.files.items))
+        (standing_of (D.told session.old.dependents) session.old) (standing_of (D.told session.new.dependents) session.new)
+        (O.contents output.old) (O.contents output.new)) }
+{
+    let echo = settings.echo;
     let mut any = false;
     for name in settings.files.iter() {
-        any |= run_named(rt, alloc, session, *name, input, output, settings.echo)?;
+        match run_named(way, rt, alloc, session, *name, echo, input, output, errors) {
+            Ok(told) => any |= told,
+            Err(fault) => return Err(fault),
+        }
         if output.flush().is_err() {
             return Err(Fault::Write);
         }
@@ -137,13 +145,15 @@ fn run_files<'a, N: Natives, D: Dependents, R: Files, I: Read, O: Write>(
 }
 
 /// Runs standard input, where it alone is to be run, and else the files.
-fn run_all<'a, N: Natives, D: Dependents, R: Files, I: Read, O: Write>(
-    rt: &R,
+fn run_all<'a, V: Way, N: Natives, D: Dependents, S: Sources, I: Read, O: Write, E: Write>(
+    way: &V,
+    rt: &S,
     alloc: Global,
     session: &mut Session<N, D>,
     settings: &Settings<'a>,
     input: &mut I,
     output: &mut O,
+    errors: &mut E,
 ) -> Result<bool, Fault<'a>>
     ensures finishes { is_input_alone (map (λ f. f.now) settings.now.files.items) ≡ true
         → IfOk result (Ran (N.host session.old.natives) settings.now.echo (I.remaining input.old)
@@ -153,19 +163,26 @@ fn run_all<'a, N: Natives, D: Dependents, R: Files, I: Read, O: Write>(
         → IfErr result (λ _. Failed (N.host session.old.natives) settings.now.echo (I.remaining input.old)
         (standing_of (D.told session.old.dependents) session.old) (standing_of (D.told session.new.dependents) session.new)
         (O.contents output.old) (O.contents output.new)) }
+    ensures files { is_input_alone (map (λ f. f.now) settings.now.files.items) ≡ false
+        → IfOk result (RanAll (N.host session.old.natives) settings.now.echo
+        (known_texts (S.text rt.now) (I.remaining input.old) (map (λ f. f.now) settings.now.files.items))
+        (standing_of (D.told session.old.dependents) session.old) (standing_of (D.told session.new.dependents) session.new)
+        (O.contents output.old) (O.contents output.new)) }
+    ensures stops { is_input_alone (map (λ f. f.now) settings.now.files.items) ≡ false
+        → IfErr result (λ _. Stopped (N.host session.old.natives) settings.now.echo
+        (known_texts (S.text rt.now) (I.remaining input.old) (map (λ f. f.now) settings.now.files.items))
+        (standing_of (D.told session.old.dependents) session.old) (standing_of (D.told session.new.dependents) session.new)
+        (O.contents output.old) (O.contents output.new)) }
 {
     if is_input_alone(settings.files.as_slice()) {
-        return run_text(alloc, session, INPUT_NAME, input, output, settings.echo);
+        let echo = settings.echo;
+        return way.run_text(alloc, session, INPUT_NAME, echo, input, output, errors);
     }
-    run_files(rt, alloc, session, settings, input, output)
+    run_files(way, rt, alloc, session, settings, input, output, errors)
 }
 
 /// Flushes the output, tells a fault in one line on `errors`, and gives the exit status.
-pub fn finish<O: Write, E: Write>(
-    ran: Result<bool, Fault<'_>>,
-    output: &mut O,
-    errors: &mut E,
-) -> u8
+fn finish<O: Write, E: Write>(ran: Result<bool, Fault<'_>>, output: &mut O, errors: &mut E) -> u8
     ensures keeps { Keeps (O.contents output.old) (O.contents output.new) }
     ensures status { MatchResult ran.entry (λ told. (result ≡ status_of told) ⊎ (result ≡ fault_status)) (λ _. result ≡ fault_status) }
 {
@@ -187,7 +204,7 @@ pub fn finish<O: Write, E: Write>(
 
 /// What a run told, once what AUDIT and SECOND heard is written after it, where it is asked for and the run ended without a
 /// fault.
-pub fn tell_notices<'a, N: Natives, D: Dependents, W: Write>(
+fn tell_notices<'a, N: Natives, D: Dependents, W: Write>(
     alloc: Global,
     session: &Session<N, D>,
     notices: bool,
@@ -212,11 +229,12 @@ pub fn tell_notices<'a, N: Natives, D: Dependents, W: Write>(
     Ok(told)
 }
 
-/// Runs the files of the settings in order in the session, or the input where there are none; the name `-` stands for the
-/// input. Where the settings ask for notices, those that AUDIT and SECOND heard follow. The output is flushed after each file,
-/// and before a fault is told, in one line on `errors`, which ends the program. The answer is the exit status.
-pub fn program<N: Natives, D: Dependents, R: Files, I: Read, W: Write, E: Write>(
-    rt: &R,
+/// Runs the files of the settings in order in the session, each in this way, or the input where there are none; the name `-` stands
+/// for the input. Where the settings ask for notices, those that AUDIT and SECOND heard follow. The output is flushed after each
+/// file, and before a fault is told, in one line on `errors`, which ends the program. The answer is the exit status.
+pub fn program_in<V: Way, N: Natives, D: Dependents, S: Sources, I: Read, W: Write, E: Write>(
+    way: &V,
+    rt: &S,
     alloc: Global,
     session: &mut Session<N, D>,
     settings: &Settings<'_>,
@@ -225,12 +243,33 @@ pub fn program<N: Natives, D: Dependents, R: Files, I: Read, W: Write, E: Write>
     errors: &mut E,
 ) -> u8
     ensures status { (result ≡ STATUS_DONE) ⊎ (result ≡ STATUS_CONDITION) ⊎ (result ≡ STATUS_FAULT) }
-    ensures input { is_input_alone (map (λ f. f.now) settings.now.files.items) ≡ true → is_new output.old
-        → RunsInput (N.host session.old.natives) settings.now.echo settings.now.notices (I.remaining input.old)
+    ensures runs { is_new output.old → Runs (N.host session.old.natives) settings.now.echo settings.now.notices (S.text rt.now)
+        (I.remaining input.old) (map (λ f. f.now) settings.now.files.items)
         (standing_of (D.told session.old.dependents) session.old) (standing_of (D.told session.new.dependents) session.new)
         (W.contents output.old.writer) (W.contents output.new.writer) result }
 {
-    let ran = run_all(rt, alloc, session, settings, input, output);
+    let ran = run_all(way, rt, alloc, session, settings, input, output, errors);
     let told = tell_notices(alloc, session, settings.notices, ran, output);
     finish(told, output, errors)
+}
+
+/// Runs the files of the settings, as `program_in` does, as they are.
+pub fn program<N: Natives, D: Dependents, S: Sources, I: Read, W: Write, E: Write>(
+    rt: &S,
+    alloc: Global,
+    session: &mut Session<N, D>,
+    settings: &Settings<'_>,
+    input: &mut I,
+    output: &mut Output<W>,
+    errors: &mut E,
+) -> u8
+    ensures status { (result ≡ STATUS_DONE) ⊎ (result ≡ STATUS_CONDITION) ⊎ (result ≡ STATUS_FAULT) }
+    ensures runs { is_new output.old → Runs (N.host session.old.natives) settings.now.echo settings.now.notices (S.text rt.now)
+        (I.remaining input.old) (map (λ f. f.now) settings.now.files.items)
+        (standing_of (D.told session.old.dependents) session.old) (standing_of (D.told session.new.dependents) session.new)
+        (W.contents output.old.writer) (W.contents output.new.writer) result }
+{
+    program_in(
+        &Plainly, rt, alloc, session, settings, input, output, errors,
+    )
 }

@@ -9,28 +9,24 @@ use Rattle.lisp_reader.specs.Answers.{Gives, a_fault}
 use Rattle.lisp_tokens.specs.Fault.{Kind, end_inside, OnFault, stray_close, bad_token, bad_dot, bad_hash, too_deep, not_text}
 use Rattle.lisp_tokens.specs.declared.fault.ReadFault.{ReadFault}
 use Rattle.lisp_tokens.specs.declared.fault.ReadFault.TheVariants.{EndInside, StrayClose, BadToken, BadDot, BadHash, TooDeep, NotText, Memory}
-use Rattle.clos_program.specs.clos_system.Transcript as Transcript
-use Rattle.clos_program.specs.clos_system.Transcript.{FailsAfter, Performed, Performs, Ran, begins, none_yet}
-use Rattle.clos_program.specs.clos_system.clos_session.Session.{Standing}
-use Rattle.clos_program.specs.clos_system.clos_session.clos_machine.clos_meaning.Host.{Host}
-use Rattle.clos_program.specs.clos_system.declared.transcript.RunFault.{RunFault}
-use Rattle.clos_program.specs.clos_system.declared.transcript.RunFault.TheVariants as Run
-use Rattle.clos_program.specs.clos_system.declared.transcript.Summary.{Summary}
-use Rattle.clos_prompt.specs.Command.{Asks}
-use Rattle.clos_prompt.specs.Fault.{fault_text}
-use Rattle.clos_prompt.specs.Forms.{Leaves}
-use Rattle.clos_prompt.specs.Place.{place_after}
+use Rattle.clos_commentary.specs.clos_program.clos_system.Transcript as Transcript
+use Rattle.clos_commentary.specs.clos_program.clos_system.Transcript.{FailsAfter, Performed, Performs, Ran, begins, none_yet}
+use Rattle.clos_commentary.specs.clos_program.clos_system.clos_session.Session.{Standing}
+use Rattle.clos_commentary.specs.clos_program.clos_system.clos_session.clos_machine.clos_meaning.Host.{Host}
+use Rattle.clos_commentary.specs.clos_program.clos_system.declared.transcript.RunFault.{RunFault}
+use Rattle.clos_commentary.specs.clos_program.clos_system.declared.transcript.RunFault.TheVariants as Run
+use Rattle.clos_commentary.specs.clos_program.clos_system.declared.transcript.Summary.{Summary}
+use Rattle.clos_prompt.specs.Command.{Asks, AsksNone}
+use Rattle.clos_commentary.specs.Fault.{fault_text}
+use Rattle.clos_commentary.specs.Forms.{Leaves}
+use Rattle.clos_commentary.specs.Place.{place_after}
 use Rattle.clos_prompt.specs.Prompt as Prompt
 use Rattle.clos_prompt.specs.Prompt.{Answers, Begun, Breaks, Comes, Ends, GoesOn, Prompted, answers, closes, commands, gives_up, of_arguments, of_forms, opens, performs, begins as first}
 use Rattle.clos_prompt.specs.Waiting.{Waiting, at_first, cleared, exit_status, farewell, given_up, left_open, passed, prompt_of, takes_command}
-use Rattle.clos_prompt.specs.declared.forms.Left.{Left}
-use Rattle.clos_prompt.specs.declared.forms.Left.TheVariants.{Nothing, Open, Unread}
+use Rattle.clos_commentary.specs.declared.forms.Left.{Left}
+use Rattle.clos_commentary.specs.declared.forms.Left.TheVariants.{Nothing, Open, Unread}
 use Rattle.clos_prompt.specs.inner.Loop.{AnswerWritten, Stands, TakesLine}
 use Rattle.clos_prompt.proofs.Lines.{all_came, comes_on, next_one, one_taken}
-
--- nothing was written
-pub nothing_written : (a : Option (List ℕ)) → Keeps a a
-nothing_written a = Keeps-refl a
 
 -- nothing is left
 pub nothing_left_told : (p r : Waiting) (text : List ℕ) (n : Summary) (left : Left) (a : Option (List ℕ)) → left ≡ Nothing
@@ -101,13 +97,13 @@ stops_at host w w' p line text e r = of_forms w' r.0 r.1 r.2 (subst (λ t. Ran h
 
 -- a command was answered
 pub commanded : (host : Host) (w : Standing) (p p' : Waiting) (line page : List ℕ) (a b : Option (List ℕ)) → takes_command p line ≡ true
-    → Appends a b page → p' ≡ passed p line → AnswerWritten host w w p line a b p'
-commanded host w p p' line page a b is written after =
-    (page, written, subst (λ x. Answers host w p line w x page) (sym after) (commands page is))
+    → AsksNone w.state line → Appends a b page → p' ≡ passed p line → AnswerWritten host w w p line a b p'
+commanded host w p p' line page a b is none written after =
+    (page, written, subst (λ x. Answers host w p line w x page) (sym after) (commands page is none))
 
 -- .. whose arguments were evaluated, and what is told of that was written, and then a page
 pub asked : (host : Host) (d : Dat) (w w' : Standing) (p p' : Waiting) (line : List ℕ) (a b c : Option (List ℕ)) (n : Summary) (fresh : Bool)
-    → takes_command p line ≡ true → Asks line d → Performs host false d w w' a b none_yet n true fresh
+    → takes_command p line ≡ true → Asks w.state line d → Performs host false d w w' a b none_yet n true fresh
     → ((page : List ℕ) × Appends b c page) → p' ≡ cleared p line n → AnswerWritten host w w' p line a c p'
 asked host d w w' p p' line a b c n fresh is asks done shown after = (
   done.piece ++ shown.0,
@@ -131,7 +127,7 @@ asked host d w w' p p' line a b c n fresh is asks done shown after = (
 
 -- .. or after the evaluation memory or the writer failed
 pub asked_for : (host : Host) (d : Dat) (w w' : Standing) (p : Waiting) (line : List ℕ) (a b : Option (List ℕ)) (n : Summary) (fresh : Bool)
-    → takes_command p line ≡ true → Asks line d → Performs host false d w w' a b none_yet n true fresh → Begun host w p line w'
+    → takes_command p line ≡ true → Asks w.state line d → Performs host false d w w' a b none_yet n true fresh → Begun host w p line w'
 asked_for host d w w' p line a b n fresh is asks done = of_arguments d w' is asks (record {
   answer = done.answer;
   left = done.left;
@@ -142,7 +138,7 @@ asked_for host d w w' p line a b n fresh is asks done = of_arguments d w' is ask
 
 -- .. also where it was not told
 pub failed_in : (host : Host) (d : Dat) (w w' : Standing) (p : Waiting) (line : List ℕ) (e : RunFault) → takes_command p line ≡ true
-    → Asks line d → FailsAfter host d w w' e → Begun host w p line w'
+    → Asks w.state line d → FailsAfter host d w w' e → Begun host w p line w'
 failed_in host d w w' p line Run.Write is asks done = of_arguments d w' is asks done
 failed_in host d w w' p line Run.Memory is asks done = of_arguments d w' is asks done
 failed_in host d w w' p line Run.Read is asks done = absurd done

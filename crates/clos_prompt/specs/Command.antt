@@ -1,11 +1,14 @@
 -- Commands: lines that begin with a comma. No form of Common Lisp does; here ,x would be read as (unquote x), which a line
 -- writes out.
-use Rattle.std.specs.Prelude.{◌≡◌, ℕ, ◌==◌, ◌||◌, not, Bool, true, false, List, [], ◌∷◌, codes, take, drop}
+use Rattle.std.specs.Prelude.{◌≡◌, ℕ, ◌==◌, ◌||◌, not, Bool, true, false, List, [], ◌∷◌, codes, take, drop, is_some}
 use Rattle.std.specs.List.{prefix_len}
 use Rattle.std.specs.Str.{bytes_eq}
 use Rattle.lisp_data.specs.Datum.{Dat, Dats, cons, list, symbol}
 use Rattle.lisp_data.specs.Name.{Name}
 use Rattle.lisp_reader.specs.Answers.{Next}
+use Rattle.clos_forms.specs.declared.operator.FunctionName.TheVariants.{Symbol}
+use Rattle.clos_commentary.specs.clos_program.clos_system.clos_world.World.{State}
+use Rattle.clos_commentary.specs.clos_program.clos_system.clos_world.clos_generic.Table.{named}
 
 -- space, tab, newline, return, page
 abbrev pub is_blank : ℕ → Bool
@@ -41,11 +44,17 @@ asks_methods line = bytes_eq (first_word line) (codes ",methods")
 abbrev pub form_of_arguments : Dats → Dat
 form_of_arguments arguments = list (cons (symbol (record { text = codes "LIST"; keyword = false })) arguments)
 
--- the command asks for the value of a form: it is `,methods`, a call of a name follows, and the form is that of its arguments
-pub record Asks (line : List ℕ) (form : Dat) : Type 0 where
+-- the command asks for the value of a form: it is `,methods`, a call of a generic function by its symbol follows, and the form is that
+-- of its arguments
+pub record Asks (w : State) (line : List ℕ) (form : Dat) : Type 0 where
   pub methods : asks_methods line ≡ true
   pub operator : Name
+  pub generic : is_some (named w.generics (Symbol operator)) ≡ true
   pub arguments : Dats
   pub rest : List ℕ
   pub call : Next (after_word line) (list (cons (symbol operator) arguments)) rest
   pub is : form ≡ form_of_arguments arguments
+
+-- the command asks for no value
+abbrev pub AsksNone : State → List ℕ → Type 0
+AsksNone w line = (form : Dat) → ¬ (Asks w line form)

@@ -1,9 +1,6 @@
 pub mod inner
-pub mod Place
 pub mod Command
 pub mod Request
-pub mod Fault
 pub mod Waiting
 pub mod WaitingView
-pub mod Forms
 pub mod Prompt

@@ -5,14 +5,14 @@ use Rattle.std.specs.Io.KnownBytes.{Appends}
 use Rattle.lisp_reader.specs.Answers.{Gives, nothing_left, a_fault}
 use Rattle.lisp_tokens.specs.Fault.{Kind, end_inside}
 use Rattle.lisp_data.specs.Datum.{Dat}
-use Rattle.clos_program.specs.clos_system.Transcript.{Performed, Performs, Ran, none_yet}
-use Rattle.clos_program.specs.clos_system.clos_session.Session.{Standing}
-use Rattle.clos_program.specs.clos_system.clos_session.clos_machine.clos_meaning.Host.{Host}
-use Rattle.clos_program.specs.clos_system.declared.transcript.Summary.{Summary}
-use Rattle.clos_program.specs.Program.{fault_status}
-use Rattle.clos_prompt.specs.Command.{Asks}
-use Rattle.clos_prompt.specs.Fault.{fault_text}
-use Rattle.clos_prompt.specs.Place.{place_after}
+use Rattle.clos_commentary.specs.clos_program.clos_system.Transcript.{Performed, Performs, Ran, none_yet}
+use Rattle.clos_commentary.specs.clos_program.clos_system.clos_session.Session.{Standing}
+use Rattle.clos_commentary.specs.clos_program.clos_system.clos_session.clos_machine.clos_meaning.Host.{Host}
+use Rattle.clos_commentary.specs.clos_program.clos_system.declared.transcript.Summary.{Summary}
+use Rattle.clos_commentary.specs.clos_program.Program.{fault_status}
+use Rattle.clos_prompt.specs.Command.{Asks, AsksNone}
+use Rattle.clos_commentary.specs.Fault.{fault_text}
+use Rattle.clos_commentary.specs.Place.{place_after}
 use Rattle.clos_prompt.specs.Waiting.{Waiting, at_first, cleared, exit_status, farewell, given_up, left_open, passed, prompt_of, takes_command}
 
 -- ---- an answer
@@ -26,12 +26,12 @@ pub data GoesOn (p : Waiting) (text : List ℕ) (n : Summary) (at : ℕ) : Waiti
       → GoesOn p text n at (given_up p text n) (fault_text kind (place_after p.place (take k text)))
 
 -- What a line comes to where a session stands so and its prompt waits so: where the session stands then, how the prompt waits, and
--- what is written. A command shows a page, and changes nothing; but one that asks for the value of a form has this one form performed,
--- told as a run without echo tells it, and then shows a page. Any other line goes on with what is open: the forms of that text are
--- performed in order, and told as a run with echo tells them.
+-- what is written. A command that asks for the value of a form, and only such a one, has this one form performed, told as a run
+-- without echo tells it; then it shows a page. Any other command shows a page, and changes nothing. Any other line goes on with
+-- what is open: the forms of that text are performed in order, and told as a run with echo tells them.
 pub data Answers (host : Host) (w : Standing) (p : Waiting) (line : List ℕ) : Standing → Waiting → List ℕ → Type 0 where
-  commands : (page : List ℕ) → takes_command p line ≡ true → Answers host w p line w (passed p line) page
-  asks : (d : Dat) (w' : Standing) (out page : List ℕ) (n : Summary) (fresh : Bool) → takes_command p line ≡ true → Asks line d
+  commands : (page : List ℕ) → takes_command p line ≡ true → AsksNone w.state line → Answers host w p line w (passed p line) page
+  asks : (d : Dat) (w' : Standing) (out page : List ℕ) (n : Summary) (fresh : Bool) → takes_command p line ≡ true → Asks w.state line d
       → Performs host false d w w' (Some []) (Some out) none_yet n true fresh → Answers host w p line w' (cleared p line n) (out ++ page)
   performs : (w' : Standing) (at : ℕ) (out : List ℕ) (n : Summary) (p' : Waiting) (piece : List ℕ) → takes_command p line ≡ false
       → Ran host true (p.pending ++ line) w w' at out n → GoesOn p (p.pending ++ line) n at p' piece
@@ -77,7 +77,7 @@ Comes (Some text) (Some left) lines = lines_of text ≡ lines ++ lines_of left
 -- the forms that the line makes with what is open, or after the form of the arguments that it asks by.
 pub data Begun (host : Host) (w : Standing) (p : Waiting) (line : List ℕ) : Standing → Type 0 where
   of_forms : (w' : Standing) (at : ℕ) (out : List ℕ) (n : Summary) → Ran host true (p.pending ++ line) w w' at out n → Begun host w p line w'
-  of_arguments : (d : Dat) (w' : Standing) → takes_command p line ≡ true → Asks line d → Performed host d w w' → Begun host w p line w'
+  of_arguments : (d : Dat) (w' : Standing) → takes_command p line ≡ true → Asks w.state line d → Performed host d w w' → Begun host w p line w'
 
 -- It came so far, and then the input or the writer failed, or memory ran out: the first lines were answered, and the next one has begun.
 pub record Breaks (host : Host) (known : Option (List ℕ)) (start end : Standing) : Type 0 where

@@ -1,12 +1,12 @@
 -- What a prompt waits with between two lines.
 use Rattle.std.specs.Prelude.{ℕ, ◌==◌, ◌||◌, Bool, true, false, List, [], ◌∷◌, codes, length, take, drop, if◌then◌else◌}
 use Rattle.lisp_tokens.specs.Fault.{end_inside}
-use Rattle.clos_program.specs.clos_system.declared.transcript.Summary.{Summary}
-use Rattle.clos_program.specs.Program.{fault_status, is_told, status_of}
+use Rattle.clos_commentary.specs.clos_program.clos_system.declared.transcript.Summary.{Summary}
+use Rattle.clos_commentary.specs.clos_program.Program.{fault_status, is_told, status_of}
 use Rattle.clos_prompt.specs.Command.{is_command}
-use Rattle.clos_prompt.specs.Fault.{fault_text}
-use Rattle.clos_prompt.specs.Place.{first_place, place_after}
-use Rattle.clos_prompt.specs.declared.place.Place.{Place}
+use Rattle.clos_commentary.specs.Fault.{fault_text}
+use Rattle.clos_commentary.specs.Place.{first_place, place_after}
+use Rattle.clos_commentary.specs.declared.place.Place.{Place}
 
 -- the bytes of a datum or comment that is not closed yet, from where it begins, and the place where they begin, or else the next
 -- line does; whether a condition or storage line was written; and whether some of the input could not be read

@@ -2,19 +2,19 @@
 ghost use Rattle.std.specs.Prelude.{◌≡◌, ℕ, List, IfOk, IfErr, OnOk, true};
 ghost use Rattle.std.specs.Io.KnownBytes.{Appends};
 ghost use Rattle.lisp_data.specs.DatumView.{datum_of};
-ghost use Rattle.clos_program.specs.clos_system.clos_session.Session.{standing_of};
+ghost use Rattle.clos_commentary.specs.clos_program.clos_system.clos_session.Session.{standing_of};
 ghost use Rattle.clos_prompt.specs.Command.{Asks};
 ghost use Rattle.clos_prompt.specs.Prompt.{Begun};
 ghost use Rattle.clos_prompt.specs.Waiting.{takes_command};
 ghost use Rattle.clos_prompt.specs.WaitingView.{waiting_of};
 ghost use Rattle.clos_prompt.specs.inner.Loop.{AnswerWritten};
 
-use crate::explain::{Source, explain};
-use crate::forms::fault_of;
 use crate::waiting::Prompt;
 use crate::writing::write;
-use clos_explain::{World, methods_page};
-use clos_program::{Dependents, Fault, Natives, Performed, Session, Summary, run_form};
+use clos_commentary::{
+    Dependents, Fault, Natives, Performed, Session, Source, Summary, World, explain, fault_of,
+    methods_page, run_form,
+};
 use lisp_data::{Datum, GenericId, Items, Value};
 use std::alloc::{AllocError, Global};
 use std::io::Write;
@@ -105,7 +105,7 @@ pub(crate) fn answer_call<N: Natives, D: Dependents, W: Write, E: Write>(
     errors: &mut E,
 ) -> Result<Prompt, Fault<'static>>
     requires command { takes_command (waiting_of prompt.now) line.now ≡ true }
-    requires asks { Asks line.now (datum_of form) }
+    requires asks { Asks (standing_of (D.told session.old.dependents) session.old).state line.now (datum_of form) }
     ensures answers { IfOk result (λ r. AnswerWritten (N.host session.old.natives)
         (standing_of (D.told session.old.dependents) session.old) (standing_of (D.told session.new.dependents) session.new)
         (waiting_of prompt.now) line.now (W.contents output.old) (W.contents output.new) (waiting_of r)) }

@@ -1,15 +1,16 @@
 //! Commands: lines that begin with a comma. No form of Common Lisp does; here `,x` would be read as `(unquote x)`, which a line
 //! writes out.
-ghost use Rattle.std.specs.Prelude.{◌≡◌, ◌≤◌, ℕ, List, length, true, IfOk, IfSome};
+ghost use Rattle.std.specs.Prelude.{◌≡◌, ◌≤◌, ℕ, List, drop, length, true, IfNone, IfOk, IfSome};
 ghost use Rattle.std.specs.List.{prefix_len};
-ghost use Rattle.lisp_data.specs.Datum.{cons, list, symbol};
+ghost use Rattle.lisp_data.specs.Datum.{Dats};
 ghost use Rattle.lisp_data.specs.DatumView.{datum_of};
-ghost use Rattle.lisp_data.specs.Name.{Name};
+ghost use Rattle.clos_commentary.specs.clos_program.clos_system.clos_world.World.{seen};
 ghost use Rattle.lisp_reader.specs.Answers.{Next};
 ghost use Rattle.clos_prompt.specs.Command.{after_word, asks_methods, first_word, form_of_arguments, is_blank, is_command, is_in_word};
-ghost use Rattle.clos_prompt.specs.Request.{Wants};
+ghost use Rattle.clos_commentary.specs.Forms.{IsRefused};
+ghost use Rattle.clos_prompt.specs.Request.{IsCall, ReadsNext, Wants};
 
-use clos_explain::{World, cache_page, class_page, generic_page, no_class};
+use clos_commentary::{World, cache_page, class_page, generic_page, no_class};
 use clos_forms::is_the;
 use lisp_data::{Data, Datum, GenericId, Name};
 use lisp_reader::read_form;
@@ -79,15 +80,24 @@ pub(crate) fn is_command(line: &[u8]) -> bool
     }
 }
 
+/// No datum, for want of one that can be read.
+fn unread(fault: ReadFault) -> Result<Option<Datum>, AllocError>
+    ensures { (text : List ℕ) (at : ℕ) → IsRefused text at fault → IfOk result (ReadsNext (drop at text)) }
+{
+    match fault.offset() {
+        Some(_) => Ok(None),
+        None => Err(AllocError),
+    }
+}
+
 /// The datum that follows the first word of a line, if one can be read there.
 fn subject(alloc: Global, line: &[u8]) -> Result<Option<Datum>, AllocError>
-    ensures { IfOk result (λ r. IfSome r (λ d. (rest : List ℕ) × Next (after_word line.now) (datum_of d) rest)) }
+    ensures { IfOk result (ReadsNext (after_word line.now)) }
 {
     match read_form(alloc, after_word(line), 0) {
         Ok(Some((datum, _))) => Ok(Some(datum)),
         Ok(None) => Ok(None),
-        Err(ReadFault::Memory) => Err(AllocError),
-        Err(_) => Ok(None),
+        Err(fault) => unread(fault),
     }
 }
 
@@ -120,7 +130,8 @@ fn generic_named(world: &World, called: &Datum) -> Option<GenericId> {
 
 /// The generic function of a call, and what follows its name.
 pub(crate) fn call_of<'a>(world: &World, call: &'a Datum) -> Option<(GenericId, &'a Data)>
-    ensures { IfSome result (λ r. (operator : Name) × (datum_of call.now ≡ list (cons (symbol operator) r.1.now))) }
+    ensures some { IfSome result (λ r. IsCall (seen world.now) (datum_of call.now) r.1.now) }
+    ensures none { IfNone result ((arguments : Dats) → ¬ (IsCall (seen world.now) (datum_of call.now) arguments)) }
 {
     let Datum::List(items) = call else {
         return None;
@@ -169,61 +180,53 @@ pub(crate) enum Request {
     Methods(GenericId, Datum),
 }
 
-fn page(text: Result<Vec<u8>, AllocError>) -> Result<Request, AllocError>
-    ensures { IfOk result (λ r. (line : List ℕ) → Wants line r) }
-{
-    Ok(Request::Page(text?))
-}
-
 /// What `,methods` with this call asks for.
 fn methods_of(alloc: Global, world: &World, call: &Datum) -> Result<Request, AllocError>
-    ensures { IfOk result (λ r. (line rest : List ℕ) → asks_methods line ≡ true → Next (after_word line) (datum_of call.now) rest → Wants line r) }
+    ensures { IfOk result (λ r. (line rest : List ℕ) → asks_methods line ≡ true → Next (after_word line) (datum_of call.now) rest
+        → Wants (seen world.now) line r) }
 {
     match call_of(world, call) {
-        None => page(Vec::from_slice(alloc, NO_CALL)),
+        None => Ok(Request::Page(Vec::from_slice(alloc, NO_CALL)?)),
         Some((id, arguments)) => Ok(Request::Methods(id, form_of_arguments(alloc, arguments)?)),
     }
 }
 
-/// What the command of this line asks for.
-pub(crate) fn request_of(alloc: Global, world: &World, line: &[u8]) -> Result<Request, AllocError>
-    ensures { IfOk result (Wants line.now) }
+/// What `,methods` in this line asks for.
+fn methods_asked(alloc: Global, world: &World, line: &[u8]) -> Result<Request, AllocError>
+    requires { asks_methods line.now ≡ true }
+    ensures { IfOk result (Wants (seen world.now) line.now) }
 {
-    let word = first_word(line);
-    if word == b",help".as_slice() {
-        return page(Vec::from_slice(alloc, HELP));
-    }
-    if word == b",cache".as_slice() {
-        return page(cache_page(alloc, world));
-    }
     match subject(alloc, line)? {
-        None => request_about(alloc, world, word, &Datum::Int(0)),
-        Some(subject) => {
-            if word == b",methods".as_slice() {
-                return methods_of(alloc, world, &subject);
-            }
-            request_about(alloc, world, word, &subject)
-        }
+        None => Ok(Request::Page(Vec::from_slice(alloc, NO_CALL)?)),
+        Some(call) => methods_of(alloc, world, &call),
     }
 }
 
-/// What a command of this word asks for that is about this datum.
-fn request_about(
-    alloc: Global,
-    world: &World,
-    word: &[u8],
-    subject: &Datum,
-) -> Result<Request, AllocError>
-    ensures { IfOk result (λ r. (line : List ℕ) → Wants line r) }
-{
+/// What a command other than `,methods` shows.
+fn shown(alloc: Global, world: &World, line: &[u8]) -> Result<Vec<u8>, AllocError> {
+    let word = first_word(line);
+    if word == b",help".as_slice() {
+        return Vec::from_slice(alloc, HELP);
+    }
+    if word == b",cache".as_slice() {
+        return cache_page(alloc, world);
+    }
+    let called = subject(alloc, line)?.unwrap_or(Datum::Int(0));
     if word == b",class".as_slice() {
-        return page(named_class_shown(alloc, world, subject));
+        return named_class_shown(alloc, world, &called);
     }
     if word == b",generic".as_slice() {
-        return page(generic_shown(alloc, world, subject));
+        return generic_shown(alloc, world, &called);
     }
-    if word == b",methods".as_slice() {
-        return page(Vec::from_slice(alloc, NO_CALL));
+    Vec::from_slice(alloc, UNKNOWN)
+}
+
+/// What the command of this line asks for.
+pub(crate) fn request_of(alloc: Global, world: &World, line: &[u8]) -> Result<Request, AllocError>
+    ensures { IfOk result (Wants (seen world.now) line.now) }
+{
+    if first_word(line) == b",methods".as_slice() {
+        return methods_asked(alloc, world, line);
     }
-    page(Vec::from_slice(alloc, UNKNOWN))
+    Ok(Request::Page(shown(alloc, world, line)?))
 }

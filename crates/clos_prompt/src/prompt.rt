@@ -3,11 +3,10 @@ ghost use Rattle.std.specs.Prelude.{◌≡◌, ◌≤◌, ℕ, List, IfOk, IfErr
 ghost use Rattle.std.specs.Io.KnownBytes.{Appends};
 ghost use Rattle.lisp_data.specs.DatumView.{datum_of};
 ghost use Rattle.lisp_tokens.specs.Fault.{OnFault};
-ghost use Rattle.clos_program.specs.clos_system.clos_session.Session.{standing_of};
-ghost use Rattle.clos_prompt.specs.Command.{Asks};
-ghost use Rattle.clos_prompt.specs.Fault.{fault_text};
-ghost use Rattle.clos_prompt.specs.Forms.{Leaves};
-ghost use Rattle.clos_prompt.specs.Place.{place_after};
+ghost use Rattle.clos_commentary.specs.clos_program.clos_system.clos_session.Session.{standing_of};
+ghost use Rattle.clos_commentary.specs.Fault.{fault_text};
+ghost use Rattle.clos_commentary.specs.Forms.{Leaves};
+ghost use Rattle.clos_commentary.specs.Place.{place_after};
 ghost use Rattle.clos_prompt.specs.Prompt.{Begun, Breaks, Ends, GoesOn, RunsPrompt};
 ghost use Rattle.clos_prompt.specs.Waiting.{exit_status, farewell, prompt_of, takes_command};
 ghost use Rattle.clos_prompt.specs.WaitingView.{waiting_of};
@@ -15,12 +14,12 @@ ghost use Rattle.clos_prompt.specs.inner.Loop.{AnswerWritten, TakesLine};
 
 use crate::call::answer_call;
 use crate::command::{Request, request_of};
-use crate::explain::Source;
-use crate::fault::fault_line;
-use crate::forms::{Left, perform_forms};
 use crate::waiting::Prompt;
 use crate::writing::write;
-use clos_program::{Dependents, Fault, Natives, STATUS_FAULT, Session, Summary, report};
+use clos_commentary::{
+    Dependents, Fault, Left, Natives, STATUS_FAULT, Session, Source, Summary, fault_line,
+    perform_forms, report,
+};
 use lisp_tokens::ReadFault;
 use std::alloc::Global;
 use std::io::{BufRead, ErrorKind, Write};

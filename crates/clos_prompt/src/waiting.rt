@@ -1,13 +1,11 @@
 //! What a prompt waits with between two lines.
 ghost use Rattle.std.specs.Prelude.{◌≡◌, ◌≤◌, ◌++◌, length, IfOk};
-ghost use Rattle.clos_program.specs.Program.{is_told};
+ghost use Rattle.clos_commentary.specs.clos_program.Program.{is_told};
 ghost use Rattle.clos_prompt.specs.Waiting.{at_first, cleared, exit_status, farewell, given_up, is_idle, left_open, passed, prompt_of, takes_command};
 ghost use Rattle.clos_prompt.specs.WaitingView.{waiting_of};
 
 use crate::command::is_command;
-use crate::fault::fault_line;
-use crate::place::Place;
-use clos_program::{STATUS_CONDITION, STATUS_DONE, STATUS_FAULT, Summary};
+use clos_commentary::{Place, STATUS_CONDITION, STATUS_DONE, STATUS_FAULT, Summary, fault_line};
 use lisp_tokens::ReadFault;
 use std::alloc::{AllocError, Global};
 

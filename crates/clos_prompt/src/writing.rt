@@ -2,7 +2,7 @@
 ghost use Rattle.std.specs.Prelude.{OnOk};
 ghost use Rattle.std.specs.Io.KnownBytes.{Appends};
 
-use clos_program::Fault;
+use clos_commentary::Fault;
 use std::io::Write;
 
 /// Writes these bytes.

@@ -166,6 +166,11 @@ pub record Performs (host : Host) (echo : Bool) (d : Dat) (w w' : Standing) (old
       (w.state.limits.steps - left) out
   pub line : (out : List ℕ) → fresh ≡ ends_line out → fresh' ≡ ends_line (out ++ piece)
 
+-- A form was answered so, with some steps left.
+abbrev pub Answered : Host → Dat → Standing → Standing → Result Value Stop → Type 0
+Answered host d w w' answer =
+    (left : ℕ) × AnswersWith host (step d) w.state w.state.limits.steps w.answers answer w'.state left w'.answers
+
 -- A form was performed.
 pub record Performed (host : Host) (d : Dat) (w w' : Standing) : Type 0 where
   pub answer : Result Value Stop

@@ -5,7 +5,7 @@ ghost use Rattle.lisp_data.specs.ValueView.{value_of};
 ghost use Rattle.lisp_data.specs.DatumView.{datum_of};
 ghost use Rattle.clos_session.specs.clos_world.World.{State, seen, names_of};
 ghost use Rattle.clos_session.specs.Session.{standing_of};
-ghost use Rattle.clos_system.specs.Transcript.{ends_line, fresh_line, condition_text, storage_text, told_for, counted_for, Finishes, Faults, Performs, FailsAfter, OverText, RunFaults, SourceFails};
+ghost use Rattle.clos_system.specs.Transcript.{ends_line, fresh_line, condition_text, storage_text, told_for, counted_for, Finishes, Faults, Performs, Answered, FailsAfter, OverText, RunFaults, SourceFails};
 
 use clos_session::{Condition, Dependents, Natives, Session, Stop, World};
 use itoa::Buffer;
@@ -182,6 +182,9 @@ pub fn run_form<N: Natives, D: Dependents, W: Write>(
     ensures performs { IfOk result (λ r. Performs (N.host session.old.natives) echo (datum_of datum)
         (standing_of (D.told session.old.dependents) session.old) (standing_of (D.told session.new.dependents) session.new)
         (W.contents writer.old) (W.contents writer.new) summary r.summary fresh r.fresh) }
+    ensures answers { IfOk result (λ r. (datum_of r.form ≡ datum_of datum) × Answered (N.host session.old.natives) (datum_of datum)
+        (standing_of (D.told session.old.dependents) session.old) (standing_of (D.told session.new.dependents) session.new) r.answer
+        × (r.summary ≡ counted_for r.answer summary)) }
     ensures few { IfOk result (λ r. (r.summary.conditions ≤ r.summary.forms) × (r.summary.storages ≤ r.summary.forms) × (r.summary.forms ≡ summary.forms + 1)) }
     ensures fails { IfErr result (FailsAfter (N.host session.old.natives) (datum_of datum) (standing_of (D.told session.old.dependents) session.old)
         (standing_of (D.told session.new.dependents) session.new)) }

@@ -1,4 +1,4 @@
-use Rattle.std.proofs.Common.{◌≡◌, ◌-◌, ◌++◌, ◌∙◌, ap, length, rules, subst}
+use Rattle.std.proofs.Common.{◌≡◌, ◌-◌, ◌++◌, ◌∙◌, ap, length, refl, rules, subst}
 use Rattle.lisp_data.specs.DatumView.{datum_of}
 use Rattle.clos_session.specs.Session.{answers_of, state_of}
 use Rattle.clos_session.specs.Step.{step}
@@ -73,3 +73,17 @@ returns-clause-performs g c =
           ∙ ap (λ k. told_for c.args.echo (state_of old) (state_of new.self) c.perform-answer.result k out) taken;
       line = λ out e. c.ends_line-line.ensures out e ∙ ap (λ p. ends_line (out ++ p)) c.as_slice-2.ensures.value;
     }
+
+pub returns-clause-answers : goal.returns-clause-answers
+returns-clause-answers g c =
+    let old = c.args.session.now in
+    let new = c.perform-answer.new in (
+      refl,
+      (
+        new.steps,
+        subst (λ s. AnswersWith (g.N.Natives.host old.natives) (step (datum_of c.args.datum)) (state_of old) s (answers_of old)
+            c.perform-answer.result (state_of new.self) new.steps (answers_of new.self))
+            (ap (λ (w : State). w.limits.steps) c.world.ensures) c.perform-answer.ensures.answers,
+      ),
+      c.counted-counts.ensures.counts,
+    )

@@ -1,7 +1,7 @@
 use Rattle.std.proofs.Common.{◌-◌, length}
 use Rattle.clos_program.specs.clos_system.clos_session.Session.{standing_of}
 use Rattle.clos_program.specs.clos_system.Transcript.{Stands}
-use Rattle.clos_prompt.proofs.forms.perform_forms.Given as goal
+use Rattle.clos_commentary.proofs.forms.perform_forms.Given as goal
 
 abbrev pub invariant-loop-found : goal.invariant-loop-found
 invariant-loop-found g l =

@@ -11,10 +11,13 @@ use std::io::Write;
 
 /// A text and where it begins, in a file if one is named.
 #[derive(Clone, Copy)]
-pub(crate) struct Source<'a> {
-    pub(crate) file: Option<&'a str>,
-    pub(crate) place: Place,
-    pub(crate) text: &'a [u8],
+pub struct Source<'a> {
+    /// The file.
+    pub file: Option<&'a str>,
+    /// Where the text begins.
+    pub place: Place,
+    /// The text, if there is one to point into.
+    pub text: &'a [u8],
 }
 
 impl<'a> Source<'a> {
@@ -70,8 +73,8 @@ pub(crate) fn tell<W: Write, E: Write>(
 }
 
 /// Explains the condition of a form, if it ended with one.
-#[tactic(auto, using(crate::proofs::Going::nothing_written))]
-pub(crate) fn explain<W: Write, E: Write>(
+#[tactic(auto, using(crate::proofs::Outputs::nothing_written))]
+pub fn explain<W: Write, E: Write>(
     alloc: Global,
     world: &World,
     form: &Datum,

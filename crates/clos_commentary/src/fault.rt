@@ -1,12 +1,13 @@
 //! What is told of a text that can't be read.
 ghost use Rattle.std.specs.Prelude.{◌≡◌, IfOk};
 ghost use Rattle.lisp_tokens.specs.Fault.{OnFault};
-ghost use Rattle.clos_prompt.specs.Fault.{fault_text, words_of};
+ghost use Rattle.clos_commentary.specs.Fault.{fault_text, words_of};
 
 use crate::place::{Place, push_place};
 use lisp_tokens::ReadFault;
 use std::alloc::{AllocError, Global};
 
+/// What it is.
 pub(crate) fn words(fault: &ReadFault) -> &'static str
     ensures { OnFault fault.now (λ kind _. result.now ≡ words_of kind) }
 {
@@ -23,11 +24,7 @@ pub(crate) fn words(fault: &ReadFault) -> &'static str
 }
 
 /// The line that tells this fault, which stands at that place.
-pub(crate) fn fault_line(
-    alloc: Global,
-    fault: &ReadFault,
-    place: Place,
-) -> Result<Vec<u8>, AllocError>
+pub fn fault_line(alloc: Global, fault: &ReadFault, place: Place) -> Result<Vec<u8>, AllocError>
     ensures { IfOk result (λ r. OnFault fault.now (λ kind _. r.items ≡ fault_text kind place)) }
 {
     let mut line = Vec::new(alloc);

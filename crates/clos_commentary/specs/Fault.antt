@@ -1,8 +1,8 @@
 -- What is told of a text that can't be read.
 use Rattle.std.specs.Prelude.{ℕ, List, [], ◌∷◌, ◌++◌, codes}
 use Rattle.lisp_tokens.specs.Fault.{Kind, end_inside, stray_close, bad_token, bad_dot, bad_hash, too_deep, not_text}
-use Rattle.clos_prompt.specs.Place.{place_text}
-use Rattle.clos_prompt.specs.declared.place.Place.{Place}
+use Rattle.clos_commentary.specs.Place.{place_text}
+use Rattle.clos_commentary.specs.declared.place.Place.{Place}
 
 abbrev pub words_of : Kind → List ℕ
 words_of end_inside = codes "the input ends inside of what begins here"

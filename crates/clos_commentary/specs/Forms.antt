@@ -3,8 +3,8 @@ use Rattle.std.specs.Prelude.{◌≢◌, ℕ, ◌≤◌, List, length, drop}
 use Rattle.lisp_reader.specs.Answers.{Gives, nothing_left, a_fault}
 use Rattle.lisp_tokens.specs.declared.fault.ReadFault.{ReadFault}
 use Rattle.lisp_tokens.specs.Fault.{OnFault, OnRefusal, end_inside}
-use Rattle.clos_prompt.specs.declared.forms.Left.{Left}
-use Rattle.clos_prompt.specs.declared.forms.Left.TheVariants.{Nothing, Open, Unread}
+use Rattle.clos_commentary.specs.declared.forms.Left.{Left}
+use Rattle.clos_commentary.specs.declared.forms.Left.TheVariants.{Nothing, Open, Unread}
 
 -- from an offset on: nothing, a datum or comment that is open, or what can't be read
 abbrev pub Leaves : List ℕ → ℕ → Left → Type 0

@@ -1,6 +1,6 @@
 //! Where a byte of the input stands.
 ghost use Rattle.std.specs.Prelude.{◌≡◌, ◌++◌, OnOk};
-ghost use Rattle.clos_prompt.specs.Place.{after_byte, first_place, next_count, place_after, place_text};
+ghost use Rattle.clos_commentary.specs.Place.{after_byte, first_place, next_count, place_after, place_text};
 
 use itoa::Buffer;
 use std::alloc::AllocError;

@@ -5,7 +5,7 @@ use Rattle.clos_program.specs.clos_system.clos_session.Session.{standing_of}
 use Rattle.clos_program.specs.clos_system.Transcript.{begins}
 use Rattle.clos_program.specs.clos_system.declared.transcript.RunFault.TheVariants.{Write}
 use Rattle.clos_program.proofs.system_proofs.Runs.{appends_none, stands_on, fails_after}
-use Rattle.clos_prompt.proofs.forms.perform_forms.Goals as goal
+use Rattle.clos_commentary.proofs.forms.perform_forms.Goals as goal
 
 pub loop-found-init : goal.loop-found-init
 loop-found-init g c = record {

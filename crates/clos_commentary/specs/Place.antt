@@ -2,7 +2,7 @@
 use Rattle.std.specs.Prelude.{ℕ, ◌+◌, ◌-◌, ◌^◌, ◌==◌, ◌++◌, codes, min, Bool, List, fold, if◌then◌else◌}
 use Rattle.std.specs.Fmt.{decimal}
 use Rattle.std.specs.Int.{is_in_range}
-use Rattle.clos_prompt.specs.declared.place.Place.{Place}
+use Rattle.clos_commentary.specs.declared.place.Place.{Place}
 
 -- the first byte of all
 abbrev pub first_place : Place

@@ -5,10 +5,10 @@ ghost use Rattle.lisp_tokens.specs.declared.fault.ReadFault.TheVariants.{Memory}
 ghost use Rattle.clos_program.specs.clos_system.Transcript.{Comes, Performed, Performs, Ran};
 ghost use Rattle.clos_program.specs.clos_system.clos_session.Session.{standing_of};
 ghost use Rattle.clos_program.specs.clos_system.declared.transcript.Summary.{Summary};
-ghost use Rattle.clos_prompt.specs.Forms.{IsRefused, Leaves};
+ghost use Rattle.clos_commentary.specs.Forms.{IsRefused, Leaves};
 
-use crate::explain::{Source, explain};
 use crate::place::Place;
+use crate::told::{Source, explain};
 use clos_program::{Dependents, Fault, Natives, RunFault, Session, Summary, run_form};
 use lisp_data::Datum;
 use lisp_reader::read_form;
@@ -18,7 +18,7 @@ use std::io::Write;
 
 /// What a text has left where its forms were performed.
 #[derive(Drop)]
-pub(crate) enum Left {
+pub enum Left {
     Nothing,
     /// A datum or a comment that begins at this byte and is not closed.
     Open(usize),
@@ -41,7 +41,7 @@ fn left_by(fault: ReadFault) -> Result<Left, Fault<'static>>
 }
 
 /// Why a form's answer could not be written.
-pub(crate) fn fault_of(fault: &RunFault) -> Fault<'static> {
+pub fn fault_of(fault: &RunFault) -> Fault<'static> {
     match fault {
         RunFault::Write => Fault::Write,
         _ => Fault::Memory,
@@ -60,7 +60,7 @@ fn from_next<'a>(source: Source<'a>, text: &[u8], at: usize, place: Place) -> So
 
 /// Performs the forms of a text, and writes what they write, their conditions, and with `echo` their values. Conditions are explained
 /// on `errors`, with their places, of which the first is the text's. Answers how the forms ended, what is left, and where that begins.
-pub(crate) fn perform_forms<N: Natives, D: Dependents, W: Write, E: Write>(
+pub fn perform_forms<N: Natives, D: Dependents, W: Write, E: Write>(
     alloc: Global,
     session: &mut Session<N, D>,
     text: &[u8],
