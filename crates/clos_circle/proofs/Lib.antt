@@ -1,0 +1,2 @@
+pub mod WayUp
+pub mod Before

@@ -1,2 +1,3 @@
 pub mod Circle
 pub mod DefinitionView
+pub mod inner

@@ -1,9 +1,10 @@
 //! Circles of classes by a definition that is refused: of such as would be above each other, and of such as would have to come before
-//! each other. What is answered is a circle, whatever way it was found.
+//! each other. What is answered is a circle, and there is none where none is answered.
 #![tactic(auto)]
 
 mod definition;
 mod precedence;
+mod relation;
 mod superclasses;
 mod upward;
 

@@ -1,10 +1,13 @@
 //! Circles of classes that would have to come before each other (HyperSpec 4.3.5).
-ghost use Rattle.std.specs.Prelude.{◌≡◌, ◌⊎◌, IfOk, [], true};
-ghost use Rattle.clos_circle.specs.Circle.{are_next, goes_back, is_due, is_order_circle};
+ghost use Rattle.std.specs.Prelude.{◌≡◌, IfOk};
+ghost use Rattle.clos_circle.specs.Circle.{FindsOrderCircle, are_next};
 ghost use Rattle.clos_circle.specs.DefinitionView.{direct_of};
+ghost use Rattle.clos_circle.specs.inner.Before.{FindsAmong, befores, by_of, edge_for, edges_for};
 
 use crate::definition::Definition;
-use crate::upward::{Upward, place_of};
+use crate::relation::Relation;
+use crate::superclasses::circle_from;
+use crate::upward::Upward;
 use lisp_data::Name;
 use std::alloc::{AllocError, Global};
 
@@ -17,7 +20,7 @@ pub struct Edge {
 }
 
 /// Whether one of these stands just before the other, after this one or after it alone.
-fn are_next(first: &Name, names: &[Name], before: &Name, after: &Name) -> bool
+pub(crate) fn are_next(first: &Name, names: &[Name], before: &Name, after: &Name) -> bool
     ensures { result ≡ are_next first.now names.now before.now after.now }
 {
     let mut last = first;
@@ -32,184 +35,90 @@ fn are_next(first: &Name, names: &[Name], before: &Name, after: &Name) -> bool
     false
 }
 
-fn is_due(definition: Definition<'_>, edge: &Edge) -> bool
-    ensures { result ≡ is_due (direct_of definition.entry) edge.now }
+/// The first of these classes by what one has to come before the other.
+fn by_of<'a>(
+    definition: Definition<'_>,
+    names: &'a [Name],
+    before: &'a Name,
+    after: &Name,
+) -> &'a Name
+    ensures { result.now ≡ by_of (direct_of definition.entry) names.now before.now after.now }
 {
-    are_next(
-        &edge.by,
-        definition.direct(&edge.by),
-        &edge.before,
-        &edge.after,
-    )
-}
-
-/// Whether each comes from where the one before it goes, up to this class.
-fn goes_back(definition: Definition<'_>, first: &Name, from: &Name, edges: &[Edge]) -> bool
-    ensures { result ≡ goes_back (direct_of definition.entry) first.now from.now edges.now }
-{
-    let mut last = from;
-    let mut left = edges;
-    while let [edge, rest @ ..] = left {
-        if !edge.after.is(last) || !is_due(definition, edge) {
-            return false;
+    let mut left = names;
+    while let [by, rest @ ..] = left {
+        if are_next(by, definition.direct(by), before, after) {
+            return by;
         }
-        last = &edge.before;
         left = rest;
     }
-    last.is(first)
+    before
 }
 
-fn is_circle(definition: Definition<'_>, edges: &[Edge]) -> bool
-    ensures { result ≡ is_order_circle (direct_of definition.entry) edges.now }
+fn edge_for(
+    definition: Definition<'_>,
+    names: &[Name],
+    before: &Name,
+    after: &Name,
+) -> Result<Edge, AllocError>
+    ensures { IfOk result (λ r. r ≡ edge_for (direct_of definition.entry) names.now before.now after.now) }
 {
-    match edges {
-        [] => false,
-        [edge, rest @ ..] => {
-            is_due(definition, edge) && goes_back(definition, &edge.after, &edge.before, rest)
-        }
-    }
+    Ok(Edge {
+        before: before.copy()?,
+        after: after.copy()?,
+        by: by_of(definition, names, before, after).copy()?,
+    })
 }
 
-/// An edge by the places of its classes.
-#[derive(Clone, Copy)]
-struct Link {
-    before: usize,
-    after: usize,
-    by: usize,
-}
-
-/// What these classes name, of them.
-fn links(
+/// Of each class of a circle and the one after it, by what one has to come before the other.
+fn edges_for(
     alloc: Global,
     definition: Definition<'_>,
     names: &[Name],
-) -> Result<Vec<Link>, AllocError> {
-    let mut found = Vec::new(alloc);
-    for (by, name) in names.iter().enumerate() {
-        let mut before = by;
-        for above in definition.direct(name) {
-            if let Some(after) = place_of(names, above) {
-                found.push(Link { before, after, by })?;
-                before = after;
-            }
+    circle: &[Name],
+) -> Result<Vec<Edge>, AllocError>
+    ensures { IfOk result (λ r. r.items ≡ edges_for (direct_of definition.entry) names.now circle.now) }
+{
+    let mut edges = Vec::new(alloc);
+    let mut left = circle;
+    while let [before, rest @ ..] = left {
+        if let [after, ..] = rest {
+            edges.push(edge_for(definition, names, before, after)?)?;
         }
+        left = rest;
     }
-    Ok(found)
+    Ok(edges)
 }
 
-/// How many of these edges lead to each of so many places.
-fn counts(alloc: Global, edges: &[Link], len: usize) -> Result<Vec<usize>, AllocError> {
-    let mut counts = Vec::new(alloc);
-    for place in 0..len {
-        counts.push(edges.iter().filter(|edge| edge.after == place).count())?;
-    }
-    Ok(counts)
-}
-
-/// Takes away, one after another, the places to which no edge leads any more. The others are those of circles, and those after them,
-/// and have counts that are not 0.
-fn take_away(alloc: Global, edges: &[Link], counts: &mut Vec<usize>) -> Result<(), AllocError> {
-    let mut free: Vec<usize> = Vec::new(alloc);
-    for (place, count) in counts.iter().enumerate() {
-        if *count == 0 {
-            free.push(place)?;
-        }
-    }
-    for _ in 0..counts.len() {
-        let Some(place) = free.pop() else {
-            break;
-        };
-        for edge in edges.iter().filter(|edge| edge.before == place) {
-            if let Some(count) = counts.get_mut(edge.after) {
-                *count = count.saturating_sub(1);
-                if *count == 0 {
-                    free.push(edge.after)?;
-                }
-            }
-        }
-    }
-    Ok(())
-}
-
-/// An edge that leads to a place from one that is left.
-fn edge_to(edges: &[Link], counts: &[usize], place: usize) -> Option<Link> {
-    edges
-        .iter()
-        .find(|edge| {
-            edge.after == place && counts.get(edge.before).is_some_and(|count| *count > 0)
-        })
-        .copied()
-}
-
-/// A place in a circle: where one comes to that goes back for long enough.
-fn in_circle(edges: &[Link], counts: &[usize]) -> Option<usize> {
-    let mut place = counts.iter().position(|count| *count > 0)?;
-    for _ in 0..counts.len() {
-        place = edge_to(edges, counts, place)?.before;
-    }
-    Some(place)
-}
-
-/// The edge between classes at these places.
-fn edge_at(names: &[Name], link: Link) -> Result<Option<Edge>, AllocError> {
-    match (
-        names.get(link.before),
-        names.get(link.after),
-        names.get(link.by),
-    ) {
-        (Some(before), Some(after), Some(by)) => Ok(Some(Edge {
-            before: before.copy()?,
-            after: after.copy()?,
-            by: by.copy()?,
-        })),
-        _ => Ok(None),
-    }
-}
-
-/// The way back from a place in a circle to itself.
-fn way(
+/// A circle of these classes, each of which has to come before the next one by what they name, or no classes where there is none.
+fn circle_among(
     alloc: Global,
+    definition: Definition<'_>,
     names: &[Name],
-    edges: &[Link],
-    counts: &[usize],
-) -> Result<Vec<Edge>, AllocError> {
-    let mut found = Vec::new(alloc);
-    let Some(first) = in_circle(edges, counts) else {
-        return Ok(found);
-    };
-    let mut place = first;
-    for _ in names {
-        let Some(link) = edge_to(edges, counts, place) else {
-            break;
-        };
-        if let Some(edge) = edge_at(names, link)? {
-            found.push(edge)?;
+) -> Result<Vec<Name>, AllocError>
+    ensures { IfOk result (λ r. FindsAmong (befores (direct_of definition.entry) names.now) names.now r.items) }
+{
+    let mut left = names;
+    while let Some((first, rest)) = left.split_first() {
+        let circle = circle_from(alloc, Relation::Before(definition, names), first)?;
+        if !circle.is_empty() {
+            return Ok(circle);
         }
-        place = link.before;
-        if place == first {
-            break;
-        }
+        left = rest;
     }
-    Ok(found)
+    Ok(Vec::new(alloc))
 }
 
-/// A circle of classes above the class of this name, and itself, each of which would have to come before the one that the edge before
-/// it begins with, or no edges where none was found.
+/// A circle of classes each of which would have to come before the next one, by what the class of this name and those above it name, or
+/// no edges where there is none.
 pub fn precedence_circle(
     alloc: Global,
     definition: Definition<'_>,
     name: &Name,
 ) -> Result<Vec<Edge>, AllocError>
-    ensures { IfOk result (λ r. (r.items ≡ []) ⊎ (is_order_circle (direct_of definition.entry) r.items ≡ true)) }
+    ensures { IfOk result (λ r. FindsOrderCircle (direct_of definition.entry) name.now r.items) }
 {
-    let found = Upward::new(alloc, definition, name)?;
+    let found = Upward::new(alloc, Relation::Above(definition), name)?;
     let names = found.names.as_slice();
-    let edges = links(alloc, definition, names)?;
-    let mut counts = counts(alloc, edges.as_slice(), names.len())?;
-    take_away(alloc, edges.as_slice(), &mut counts)?;
-    let circle = way(alloc, names, edges.as_slice(), counts.as_slice())?;
-    if is_circle(definition, circle.as_slice()) {
-        return Ok(circle);
-    }
-    Ok(Vec::new(alloc))
+    let circle = circle_among(alloc, definition, names)?;
+    edges_for(alloc, definition, names, circle.as_slice())
 }

@@ -1,11 +1,13 @@
 -- What a definition form does to the table of generic functions (HyperSpec 7.6.3, 7.7): methods go, functions are defined, and methods
 -- come, in this order.
-use Rattle.std.specs.Prelude.{◌≡◌, ℕ, List, [], ◌∷◌, ◌++◌, Option, Some, None, length, map}
+use Rattle.std.specs.Prelude.{◌≡◌, ⊤, ℕ, true, List, [], ◌∷◌, ◌++◌, Option, Some, None, length, map, slice_get}
 use Rattle.lisp_data.specs.declared.ids.GenericId.{GenericId}
 use Rattle.clos_cache.specs.Cache.{Change, of_generic}
 use Rattle.clos_generic.specs.Changes.{Changes}
+use Rattle.clos_generic.specs.Fault.{all_fit, takes_in}
 use Rattle.clos_generic.specs.Held.{Held}
-use Rattle.clos_generic.specs.Table.{Table, find_method, named, number, with_definition, with_method, without_method}
+use Rattle.clos_generic.specs.Sound.{Each, IsOrderly, IsSpecialized}
+use Rattle.clos_generic.specs.Table.{Table, find_method, methods_named, named, number, with_definition, with_method, without_method}
 use Rattle.clos_generic.specs.declared.changes.Addition.{Addition}
 use Rattle.clos_generic.specs.declared.changes.Definition.{Definition}
 use Rattle.clos_generic.specs.declared.changes.Removal.{Removal}
@@ -132,7 +134,34 @@ concerned removals definitions methods t = of_removed removals ++ of_defined def
 abbrev pub concerned_by : code.Effect → Table → List Change
 concerned_by e t = concerned e.changes.removals e.changes.definitions e.methods.items t
 
--- Memory is reserved for it.
+-- each definition's name is known to the table in which it is defined as it is to the first
+abbrev pub AreApart : Table → Table → List Definition → Type 0
+AreApart first t [] = ⊤
+AreApart first t (d ∷ ds) = (named t d.name ≡ named first d.name) × AreApart first (with_definition d.name d.options t) ds
+
+-- What an effect has by what it is made from.
+pub record IsWellMade (e : code.Effect) (t : Table) : Type 0 where
+  pub changes : e.changes ≡ changes_of e.changes.removals e.changes.definitions e.methods.items
+  pub orderly : Each (λ d. IsOrderly d.options) e.changes.definitions
+  pub specialized : Each IsSpecialized e.methods.items
+  pub apart : AreApart t (without_all e.changes.removals t) e.changes.definitions
+
+-- Each definition, when it is made, is congruent with the methods that its function has.
+abbrev pub DefinitionsFit : List Definition → Table → Type 0
+DefinitionsFit [] t = ⊤
+DefinitionsFit (d ∷ ds) t =
+    IsOrderly d.options × (all_fit t.methods d.options.shape (methods_named t (named t d.name)) ≡ true)
+    × DefinitionsFit ds (with_definition d.name d.options t)
+
+-- Each method, when it is added, is congruent with its function.
+abbrev pub AdditionsFit : List Method → Table → Type 0
+AdditionsFit [] t = ⊤
+AdditionsFit (m ∷ ms) t =
+    IsSpecialized m × (takes_in m.shape (slice_get t.functions m.generic.0) ≡ true) × AdditionsFit ms (with_method m.generic.0 m t)
+
+-- Memory is reserved for it, and no change is refused when it is made.
 pub record IsReserved (e : code.Effect) (h : Held) : Type 0 where
   pub definitions : h.definitions ≡ map (λ d. d.name) e.changes.definitions
   pub additions : h.additions ≡ map (λ m. m.generic.0) e.methods.items
+  pub definitions_fit : DefinitionsFit e.changes.definitions (without_all e.changes.removals h.table)
+  pub additions_fit : AdditionsFit e.methods.items (with_definitions e.changes.definitions (without_all e.changes.removals h.table))

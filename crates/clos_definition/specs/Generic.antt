@@ -5,12 +5,14 @@ use Rattle.lisp_data.specs.Name.{Name, same_name}
 use Rattle.lisp_data.specs.Value.{Val}
 use Rattle.clos_class.specs.Table as classes
 use Rattle.clos_forms.specs.Form.{Form}
+use Rattle.clos_syntax.specs.Laws.{IsSpecialized}
 use Rattle.clos_syntax.specs.declared.generic.CombinationUse.{CombinationUse}
 use Rattle.clos_syntax.specs.declared.generic.GenericDefinition.{GenericDefinition}
 use Rattle.clos_syntax.specs.declared.method.MethodDefinition.{MethodDefinition}
 use Rattle.clos_cache.specs.Cache.{Change}
 use Rattle.clos_generic.specs.Changes.{Changes}
 use Rattle.clos_generic.specs.Initial.{left_to_right, standard}
+use Rattle.clos_generic.specs.Sound.{Each, IsOrderly}
 use Rattle.clos_generic.specs.Table.{Table, methods_of, named, number}
 use Rattle.clos_generic.specs.declared.changes.Definition.{Definition}
 use Rattle.clos_generic.specs.declared.changes.Removal.{Removal}
@@ -45,6 +47,10 @@ options_of d = record {
   precedence = precedence_of d.lambda_list.required d.precedence;
   combination = unwrap_or d.combination standard;
 }
+
+-- What holds of each that is read: its order has each required parameter, and each of its methods has a specializer for each of its own.
+abbrev pub IsWellRead : GenericDefinition → Type 0
+IsWellRead d = IsOrderly (options_of d) × Each IsSpecialized d.methods
 
 abbrev pub definition_of : GenericDefinition → Definition
 definition_of d = record { name = d.name; options = options_of d }

@@ -14,7 +14,7 @@ ghost use Rattle.clos_world.specs.World.{seen};
 ghost use Rattle.clos_world.specs.declared.condition.Stop.TheVariants.{Storage};
 ghost use Rattle.clos_definition.specs.Accessor.{accessors_of, accessors_refusal};
 ghost use Rattle.clos_definition.specs.Class.{accessors_concerned, cells_needed, class_changes, class_functions, class_methods, class_notices, class_number, class_refusal, condition_for, noting, others_refusal, with_accessors, with_class};
-ghost use Rattle.clos_definition.specs.Effect.{IsReserved, changes_of, concerned_by, possible_notices, with_effect};
+ghost use Rattle.clos_definition.specs.Effect.{IsReserved, IsWellMade, concerned_by, possible_notices, with_effect};
 ghost use Rattle.clos_definition.specs.Refusal.{Allows, StopsFor, table_full, table_refusal, when};
 
 use crate::accessor::{accessors_of, changes_for, refuse_accessors, with_accessors};
@@ -233,8 +233,7 @@ fn reserve_effect(
     name: &Name,
     effect: &Effect,
 ) -> Result<(), Stop>
-    requires { effect.now.changes ≡ changes_of effect.now.changes.removals effect.now.changes.definitions
-        effect.now.methods.items }
+    requires { IsWellMade effect.now (seen world.old).generics }
     ensures allows { Allows (table_refusal (Symbol name.now) effect.now.changes (seen world.old)) result }
     ensures reserved { OnOk result (IsReserved effect.now world.new.generics) }
     ensures same { seen world.new ≡ seen world.old }

@@ -1,13 +1,15 @@
 //! What a definition form does to the table of generic functions.
-ghost use Rattle.std.specs.Prelude.{◌≡◌, ◌≤◌, ◌+◌, ◌==◌, ◌++◌, ◌∷◌, [], IfOk, OnOk, length, map, true};
+ghost use Rattle.std.specs.Prelude.{◌≡◌, ◌≤◌, ◌+◌, ◌==◌, ◌++◌, ◌∷◌, [], IfOk, OnOk, length, map, slice_get, true};
 ghost use Rattle.clos_world.specs.Kept.{FunctionsKeep};
 ghost use Rattle.clos_world.specs.Uses.{uses_of};
 ghost use Rattle.clos_world.specs.World.{seen};
-ghost use Rattle.clos_definition.specs.Effect.{IsReserved, adding, addition_of, changed, changes_of, concerned_by, of_added, of_addition, of_additions, of_changes, of_defined, of_definitions, of_removal, of_removed, possible, possible_notices, with_definitions, with_effect, with_methods, without_all};
+ghost use Rattle.clos_definition.specs.Effect.{AdditionsFit, DefinitionsFit, IsReserved, IsWellMade, adding, addition_of, changed, concerned_by, of_added, of_addition, of_additions, of_changes, of_defined, of_definitions, of_removal, of_removed, possible, possible_notices, with_definitions, with_effect, with_methods, without_all};
 ghost use Rattle.clos_cache.specs.Cache.{Drops, DropsAll, of_generic};
 ghost use Rattle.clos_definition.specs.Refusal.{Allows, table_refusal};
+ghost use Rattle.clos_generic.specs.Fault.{all_fit, takes_in};
 ghost use Rattle.clos_generic.specs.Held.{by_addition, by_definition, is_first};
-ghost use Rattle.clos_generic.specs.Table.{number, same_function, with_definition, with_method, without_method};
+ghost use Rattle.clos_generic.specs.Sound.{IsOrderly, IsSpecialized};
+ghost use Rattle.clos_generic.specs.Table.{methods_named, named, number, same_function, with_definition, with_method, without_method};
 
 use crate::refusal::stop_for;
 use clos_cache::Cache;
@@ -88,13 +90,13 @@ pub fn reserve(
     name: &FunctionName,
     effect: &Effect,
 ) -> Result<(), Stop>
-    requires { effect.now.changes ≡ changes_of effect.now.changes.removals effect.now.changes.definitions
-        effect.now.methods.items }
+    requires { IsWellMade effect.now (seen world.old).generics }
     ensures allows { Allows (table_refusal name.now effect.now.changes (seen world.old)) result }
     ensures reserved { OnOk result (IsReserved effect.now world.new.generics) }
     ensures same { seen world.new ≡ seen world.old }
     ensures kept { uses_of world.new ≡ uses_of world.old }
 {
+    world.generics.are_sound();
     match world.generics.reserve(alloc, &effect.changes) {
         Ok(()) => Ok(()),
         Err(fault) => Err(stop_for(alloc, name, fault)),
@@ -237,7 +239,8 @@ pub(crate) fn take_out(
 /// Defines these functions, for which memory is reserved.
 #[tactic(auto, using(crate::proofs::Made::same_function_self))]
 fn define_all(generics: &mut Generics, cache: &mut Cache<EffectiveMethod>, mut changes: Changes)
-    requires { generics.old.definitions ≡ map (λ d. d.name) changes.definitions }
+    requires reserved { generics.old.definitions ≡ map (λ d. d.name) changes.definitions }
+    requires fit { DefinitionsFit changes.definitions generics.old.table }
     ensures table { generics.new.table ≡ with_definitions changes.definitions generics.old.table }
     ensures additions { generics.new.additions ≡ generics.old.additions }
     ensures kept { FunctionsKeep generics.old.table cache.old generics.new.table cache.new }
@@ -250,7 +253,10 @@ fn define_all(generics: &mut Generics, cache: &mut Cache<EffectiveMethod>, mut c
 
 /// Defines a function, for which memory is reserved, and drops what is kept of its calls.
 fn define(generics: &mut Generics, cache: &mut Cache<EffectiveMethod>, definition: Definition)
-    requires { is_first (λ n. same_function n definition.name) generics.old.definitions ≡ true }
+    requires reserved { is_first (λ n. same_function n definition.name) generics.old.definitions ≡ true }
+    requires orderly { IsOrderly definition.options }
+    requires fit { all_fit generics.old.table.methods definition.options.shape
+        (methods_named generics.old.table (named generics.old.table definition.name)) ≡ true }
     ensures defined { generics.new ≡ by_definition definition.name (with_definition definition.name definition.options)
         generics.old }
     ensures kept { FunctionsKeep generics.old.table cache.old generics.new.table cache.new }
@@ -268,6 +274,7 @@ fn add_all(
     notices: &mut Reserved<Notice>,
 )
     requires reserved { generics.old.additions ≡ map (λ m. m.generic.0) methods.items }
+    requires fit { AdditionsFit methods.items generics.old.table }
     requires room { length (possible methods.items) ≤ notices.old.room }
     ensures table { generics.new.table ≡ with_methods methods.items generics.old.table }
     ensures told { notices.new.items ≡ notices.old.items ++ of_additions methods.items generics.old.table }
@@ -288,6 +295,8 @@ fn add(
     notices: &mut Reserved<Notice>,
 )
     requires reserved { is_first (λ h. h == method.generic.0) generics.old.additions ≡ true }
+    requires specialized { IsSpecialized method }
+    requires fits { takes_in method.shape (slice_get generics.old.table.functions method.generic.0) ≡ true }
     requires room { 2 ≤ notices.old.room }
     ensures added { generics.new ≡ by_addition method.generic.0 (with_method method.generic.0 method) generics.old }
     ensures told { notices.new.items ≡ notices.old.items ++ of_addition method generics.old.table }

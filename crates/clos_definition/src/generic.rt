@@ -7,7 +7,7 @@ ghost use Rattle.clos_method.specs.MethodIds.{method_numbers};
 ghost use Rattle.clos_world.specs.Uses.{uses_of};
 ghost use Rattle.clos_world.specs.World.{seen};
 ghost use Rattle.clos_definition.specs.Effect.{IsReserved, adding, addition_of, concerned_by, removing, with_effect};
-ghost use Rattle.clos_definition.specs.Generic.{combination_refusal, definition_of, earlier_methods, eql_forms, generic_concerned, generic_refusal, initial_among, is_initial, methods_refusal, methods_with, names_refusal, options_of, place_in, precedence_of, with_defined_generic};
+ghost use Rattle.clos_definition.specs.Generic.{IsWellRead, combination_refusal, definition_of, earlier_methods, eql_forms, generic_concerned, generic_refusal, initial_among, is_initial, methods_refusal, methods_with, names_refusal, options_of, place_in, precedence_of, with_defined_generic};
 ghost use Rattle.clos_definition.specs.Method.{open_addition};
 ghost use Rattle.clos_definition.specs.Refusal.{Allows};
 
@@ -68,6 +68,7 @@ pub fn prepare_generic(
     definition: GenericDefinition,
     values: &[Slot],
 ) -> Result<Effect, Stop>
+    requires { IsWellRead definition }
     ensures allows { Allows (generic_refusal definition (Some values.now) (seen world.old)) result }
     ensures reserved { IfOk result (λ e. IsReserved e world.new.generics) }
     ensures effect { IfOk result (λ e. with_effect e (seen world.old) ≡ with_defined_generic definition values.now

@@ -6,6 +6,7 @@ ghost use Rattle.lisp_data.specs.ValueView.{value_of};
 ghost use Rattle.clos_forms.specs.Quotation.{quotation};
 ghost use Rattle.clos_generic.specs.Table.{number};
 ghost use Rattle.clos_method.specs.Specializer.{specializer_of};
+ghost use Rattle.clos_syntax.specs.Laws.{IsSpecialized};
 ghost use Rattle.clos_world.specs.Uses.{uses_of};
 ghost use Rattle.clos_world.specs.World.{seen};
 ghost use Rattle.clos_definition.specs.Effect.{IsReserved, concerned_by, with_effect};
@@ -68,6 +69,7 @@ pub fn prepare_method(
     definition: MethodDefinition,
     values: &[Slot],
 ) -> Result<Effect, Stop>
+    requires { IsSpecialized definition }
     ensures allows { Allows (method_refusal name.now definition (Some values.now) (seen world.old)) result }
     ensures reserved { IfOk result (λ e. IsReserved e world.new.generics) }
     ensures effect { IfOk result (λ e. with_effect e (seen world.old) ≡ with_defined_method name.now definition

@@ -7,7 +7,8 @@ ghost use Rattle.clos_machine.specs.clos_world.World.{seen};
 ghost use Rattle.lisp_data.specs.Value.{class};
 ghost use Rattle.clos_definition.specs.Class.{class_concerned, class_concerned_by, class_notices, class_refusal, initforms, noting, with_class};
 ghost use Rattle.clos_definition.specs.Effect.{IsReserved, concerned_by, with_effect};
-ghost use Rattle.clos_definition.specs.Generic.{eql_forms, generic_concerned};
+ghost use Rattle.clos_syntax.specs.Laws.{IsSpecialized};
+ghost use Rattle.clos_definition.specs.Generic.{IsWellRead, eql_forms, generic_concerned};
 ghost use Rattle.clos_definition.specs.Method.{eql_form, method_concerned};
 ghost use Rattle.clos_definition.specs.Removal.{concerned_by_removal, with_removed};
 ghost use Rattle.clos_eval.specs.Evaluation.{Performs};
@@ -43,6 +44,7 @@ pub fn defmethod<N: Natives, D: Dependents>(
     definition: MethodDefinition,
     steps: &mut u64,
 ) -> Result<Value, Stop>
+    requires { IsSpecialized definition }
     ensures performs { Performs (N.host natives.now) (define_method name definition) world.old steps.old
         answers.old.items result world.new steps.new answers.new.items }
     ensures heard { Heard (D.told dependents.old) (seen world.old) (D.told dependents.new) (seen world.new) }
@@ -69,6 +71,7 @@ fn define_checked_method<N: Natives, D: Dependents>(
     definition: MethodDefinition,
     steps: &mut u64,
 ) -> Result<Value, Stop>
+    requires { IsSpecialized definition }
     ensures performs { Performs (N.host natives.now) (forms_evaluated (map eql_form definition.specializers) []
         (method_made name definition)) world.old steps.old answers.old.items result world.new steps.new
         answers.new.items }
@@ -95,6 +98,7 @@ fn make_method<D: Dependents>(
     values: &[Slot],
     steps: &mut u64,
 ) -> Result<Value, Stop>
+    requires { IsSpecialized definition }
     ensures answers { AnswersNoting (method_concerned name definition values.now (seen world.old))
         (method_made name definition values.now) (seen world.old) steps.old result (seen world.new) steps.new }
     ensures uses { UsesAfter (method_concerned name definition values.now (seen world.old)) (seen world.old)
@@ -119,6 +123,7 @@ pub fn defgeneric<N: Natives, D: Dependents>(
     definition: GenericDefinition,
     steps: &mut u64,
 ) -> Result<Value, Stop>
+    requires { IsWellRead definition }
     ensures performs { Performs (N.host natives.now) (define_generic definition) world.old steps.old answers.old.items
         result world.new steps.new answers.new.items }
     ensures heard { Heard (D.told dependents.old) (seen world.old) (D.told dependents.new) (seen world.new) }
@@ -142,6 +147,7 @@ fn define_checked_generic<N: Natives, D: Dependents>(
     definition: GenericDefinition,
     steps: &mut u64,
 ) -> Result<Value, Stop>
+    requires { IsWellRead definition }
     ensures performs { Performs (N.host natives.now) (forms_evaluated (eql_forms definition.methods) []
         (generic_made definition)) world.old steps.old answers.old.items result world.new steps.new answers.new.items }
     ensures heard { Heard (D.told dependents.old) (seen world.old) (D.told dependents.new) (seen world.new) }
@@ -166,6 +172,7 @@ fn make_generic<D: Dependents>(
     values: &[Slot],
     steps: &mut u64,
 ) -> Result<Value, Stop>
+    requires { IsWellRead definition }
     ensures answers { AnswersNoting (generic_concerned definition values.now (seen world.old))
         (generic_made definition values.now) (seen world.old) steps.old result (seen world.new) steps.new }
     ensures uses { UsesAfter (generic_concerned definition values.now (seen world.old)) (seen world.old)

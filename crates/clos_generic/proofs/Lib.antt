@@ -7,3 +7,7 @@ pub mod Ready
 pub mod Kept
 pub mod There
 pub mod EqlNoted
+pub mod Members
+pub mod Soundness
+pub mod OfSystem
+pub mod InOrder

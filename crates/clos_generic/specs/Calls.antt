@@ -1,10 +1,11 @@
 -- What calls of a generic function ask of the table (HyperSpec 7.6.5, 7.6.6.1).
-use Rattle.std.specs.Prelude.{ℕ, Bool, false, List, [], Option, Some, None, slice_get}
+use Rattle.std.specs.Prelude.{ℕ, zero, Bool, false, List, [], Option, Some, None, slice_get}
 use Rattle.lisp_data.specs.Name.{Name}
 use Rattle.lisp_data.specs.Value.{Val}
 use Rattle.clos_method.specs.Applicable as core
 use Rattle.clos_method.specs.Arguments.{Argument}
 use Rattle.clos_method.specs.Keywords as keywords
+use Rattle.clos_method.specs.Laws.{IsOrdered}
 use Rattle.clos_method.specs.Order as order
 use Rattle.clos_generic.specs.Table.{Function, Table, methods_of}
 
@@ -15,6 +16,18 @@ precedence_in (Some f) = f.precedence
 -- the methods of a function that are applicable to these arguments, the most specific first
 abbrev pub ordered : Table → ℕ → List Argument → List ℕ
 ordered t g args = order.ordered t.methods (precedence_in (slice_get t.functions g)) args (methods_of t g)
+
+abbrev pub required_in : Option Function → ℕ
+required_in None = zero
+required_in (Some f) = f.shape.required
+
+-- how many required parameters a function has
+abbrev pub required_of : Table → ℕ → ℕ
+required_of t g = required_in (slice_get t.functions g)
+
+-- A list of methods is in order for a call of a function with these arguments (7.6.6.1).
+abbrev pub IsInOrder : Table → ℕ → List Argument → List ℕ → Type 0
+IsInOrder t g args listed = IsOrdered t.methods (precedence_in (slice_get t.functions g)) args (methods_of t g) listed
 
 -- whether a method of a function has an eql specializer of this object for the parameter at this place
 abbrev pub has_eql : Table → ℕ → ℕ → Val → Bool

@@ -4,6 +4,7 @@ pub mod FaultView
 pub mod Initial
 pub mod inner
 pub mod TableView
+pub mod Sound
 pub mod Calls
 pub mod Changes
 pub mod Held

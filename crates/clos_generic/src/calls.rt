@@ -1,8 +1,8 @@
 //! What calls of a generic function ask of the table.
-ghost use Rattle.std.specs.Prelude.{◌≡◌, IfOk};
+ghost use Rattle.std.specs.Prelude.{◌≡◌, IfOk, length};
 ghost use Rattle.lisp_data.specs.ValueView.{value_of};
 ghost use Rattle.clos_method.specs.MethodIds.{method_numbers};
-ghost use Rattle.clos_generic.specs.Calls.{accepts, allows_all, checks_keywords, has_eql, ordered};
+ghost use Rattle.clos_generic.specs.Calls.{IsInOrder, accepts, allows_all, checks_keywords, has_eql, ordered, required_of};
 
 use crate::table::Generics;
 use clos_method::{Arguments, MethodIds, ordered_methods};
@@ -17,8 +17,11 @@ impl Generics {
         id: GenericId,
         arguments: &Arguments<'_>,
     ) -> Result<MethodIds, AllocError>
-        ensures { IfOk result (λ r. r ≡ ordered self.now.table id.0 arguments.now) }
+        ensures is { IfOk result (λ r. r ≡ ordered self.now.table id.0 arguments.now) }
+        ensures in_order { IfOk result (λ r. length arguments.now ≡ required_of self.now.table id.0
+            → IsInOrder self.now.table id.0 arguments.now r) }
     {
+        self.are_sound();
         match self.function(id) {
             None => Ok(MethodIds::new(alloc)),
             Some(function) => ordered_methods(

@@ -11,6 +11,7 @@ ghost use Rattle.clos_method.specs.System.{system_functions};
 ghost use Rattle.clos_generic.specs.Fault.{addition_refusal, all_fit, definition_refusal, is_system, refusal_at, removal_refusal, system_count, takes_in};
 ghost use Rattle.clos_generic.specs.FaultView.{Refuses, Tells};
 ghost use Rattle.clos_generic.specs.Initial.{empty, initial, with_system, with_systems};
+ghost use Rattle.clos_generic.specs.Sound.{IsOrderly, IsSound, IsSpecialized};
 ghost use Rattle.clos_generic.specs.Table.{find_method, methods_named, methods_of, named, number, same_function, with_definition, with_method, without_method};
 ghost use Rattle.clos_generic.specs.TableView.{function_of, with_made, with_redefined};
 ghost use Rattle.clos_generic.specs.inner.AccessorMethods.{latest_below};
@@ -67,6 +68,7 @@ impl Model for Generics {
     ghost use Rattle.clos_generic.specs.inner.Reserved.{IsReady, ids_of, keys_of};
     ghost use Rattle.lisp_data.specs.Name.{same_name};
     ghost use Rattle.clos_forms.specs.declared.operator.FunctionName.TheVariants.{Symbol, Setf};
+    ghost use Rattle.clos_generic.specs.Sound.{AreSound};
     ghost use Rattle.clos_generic.specs.TableView.{AreThere, IsIndexed, functions_in};
 
     ghost view = { λ a. record { table = record { functions = functions_in a.functions.items; methods = a.methods.items; most_functions = a.most_functions; most_methods = a.most_methods }; definitions = keys_of a.spares.items; additions = ids_of a.additions.items } };
@@ -74,7 +76,8 @@ impl Model for Generics {
     ghost invariant = { λ a. IsIndexed (functions_in a.functions.items) Symbol (λ n. get same_name a.symbols n) × IsIndexed (functions_in a.functions.items) Setf (λ n. get same_name a.setters n)
         × IsReady a.functions (spare a.symbols) (spare a.setters) a.methods a.spares.items a.additions.items
         × IsKept a.accessors a.methods.items × HasPlaces (length a.additions.items) a.accessors
-        × AreThere (functions_in a.functions.items) a.methods.items × AreNoted a.functions.items a.methods.items };
+        × AreThere (functions_in a.functions.items) a.methods.items × AreNoted a.functions.items a.methods.items
+        × AreSound (functions_in a.functions.items) a.methods.items };
 }
 
 impl Generics {
@@ -86,6 +89,13 @@ impl Generics {
         let mut generics = Generics::empty(alloc, functions, methods);
         generics.push_all_of_system(alloc)?;
         Ok(generics)
+    }
+
+    /// What holds of every table: its functions and methods are sound.
+    pub fn are_sound(&self)
+        ensures { IsSound self.now.table }
+    {
+        let _ = &self.functions;
     }
 
     /// The number of the function of this name.
@@ -189,7 +199,7 @@ impl Generics {
     }
 
     /// No functions.
-    #[tactic(auto, using(crate::proofs::Kept::kept_none, crate::proofs::There::there_none, crate::proofs::EqlNoted::noted_none))]
+    #[tactic(auto, using(crate::proofs::Kept::kept_none, crate::proofs::There::there_none, crate::proofs::EqlNoted::noted_none, crate::proofs::Soundness::sound_none))]
     fn empty(alloc: Global, functions: u64, methods: u64) -> Generics
         ensures { result.table ≡ empty functions methods }
     {
@@ -260,7 +270,8 @@ impl Generics {
 
     /// Makes a function, for which there is memory.
     fn make_reserved(&mut self, name: FunctionName, options: Options)
-        requires { is_first (λ n. same_function n name) self.old.definitions ≡ true }
+        requires reserved { is_first (λ n. same_function n name) self.old.definitions ≡ true }
+        requires orderly { IsOrderly options }
         ensures { self.new ≡ by_definition name (with_made name options) self.old }
     {
         let id = GenericId(self.functions.len() as u64);
@@ -281,6 +292,7 @@ impl Generics {
         name: FunctionName,
         options: Options,
     ) -> Result<(), AllocError>
+        requires { IsOrderly options }
         ensures ok { OnOk result (self.new ≡ by_definition name (with_made name options) self.old) }
         ensures succeeds { is_first (λ n. same_function n name) self.old.definitions ≡ true → IsOk result }
         ensures err { OnErr result (self.new ≡ self.old) }
@@ -341,6 +353,7 @@ impl Generics {
         name: FunctionName,
         options: Options,
     ) -> Result<GenericId, GenericFault>
+        requires { IsOrderly options }
         ensures ok { OnOk result ((definition_refusal self.old.table name options ≡ None) × (self.new ≡ by_definition name (with_definition name options) self.old)) }
         ensures id { IfOk result (λ g. g.0 ≡ number self.old.table name) }
         ensures fault { IfErr result (λ e. Refuses e (definition_refusal self.old.table name options)) }
@@ -365,10 +378,12 @@ impl Generics {
         }
     }
 
-    /// The same where it can't be refused: the memory for it is reserved, or the function is there. It does not ask whether
-    /// the changes to come allow it, as `reserve` does.
+    /// The same where it can't be refused: each method that the function has is congruent with it, and the memory for it is
+    /// reserved, or the function is there.
     pub fn define_reserved(&mut self, name: FunctionName, options: Options) -> GenericId
-        requires { (is_first (λ n. same_function n name) self.old.definitions || is_some (named self.old.table name)) ≡ true }
+        requires reserved { (is_first (λ n. same_function n name) self.old.definitions || is_some (named self.old.table name)) ≡ true }
+        requires orderly { IsOrderly options }
+        requires fit { all_fit self.old.table.methods options.shape (methods_named self.old.table (named self.old.table name)) ≡ true }
         ensures seen { self.new ≡ by_definition name (with_definition name options) self.old }
         ensures id { result.0 ≡ number self.old.table name }
     {
@@ -386,7 +401,9 @@ impl Generics {
     }
 
     fn redefine(&mut self, id: GenericId, name: &FunctionName, options: Options)
-        requires { id.0 < length self.old.table.functions }
+        requires within { id.0 < length self.old.table.functions }
+        requires orderly { IsOrderly options }
+        requires fit { all_fit self.old.table.methods options.shape (methods_of self.old.table id.0) ≡ true }
         ensures { self.new ≡ by_definition name.now (with_redefined id.0 options) self.old }
     {
         redefine_at(&mut self.functions, id, options);
@@ -464,6 +481,7 @@ impl Generics {
     ) -> Result<Option<MethodId>, GenericFault>
         requires within { id.0 < length self.old.table.functions }
         requires own { method.generic ≡ id }
+        requires specialized { IsSpecialized method }
         ensures ok { OnOk result ((addition_refusal self.old.table id.0 method ≡ None) × (self.new ≡ by_addition id.0 (with_method id.0 method) self.old)) }
         ensures replaced { IfOk result (λ r. option_map (λ m. m.0) r ≡ find_method self.old.table id.0 method.qualifiers method.specializers) }
         ensures fault { IfErr result (λ e. Refuses e (addition_refusal self.old.table id.0 method)) }
@@ -478,6 +496,8 @@ impl Generics {
 
     /// Puts the next method, which is this one, at the end of a function's.
     fn put(&mut self, id: GenericId, method: Method) -> Result<Option<MethodId>, AllocError>
+        requires specialized { IsSpecialized method }
+        requires fits { takes_in method.shape (slice_get self.old.table.functions id.0) ≡ true }
         ensures ok { OnOk result (self.new ≡ by_addition id.0 (with_method id.0 method) self.old) }
         ensures replaced { IfOk result (λ r. option_map (λ m. m.0) r ≡ find_method self.old.table id.0 method.qualifiers method.specializers) }
         ensures succeeds { is_first (λ h. h == id.0) self.old.additions ≡ true → IsOk result }
@@ -493,9 +513,11 @@ impl Generics {
         Ok(replaced)
     }
 
-    /// The same where it can't be refused, since the memory for it is reserved.
+    /// The same where it can't be refused: it is congruent with its function, and the memory for it is reserved.
     pub fn add_reserved(&mut self, id: GenericId, method: Method) -> Option<MethodId>
-        requires { is_first (λ h. h == id.0) self.old.additions ≡ true }
+        requires reserved { is_first (λ h. h == id.0) self.old.additions ≡ true }
+        requires specialized { IsSpecialized method }
+        requires fits { takes_in method.shape (slice_get self.old.table.functions id.0) ≡ true }
         ensures seen { self.new ≡ by_addition id.0 (with_method id.0 method) self.old }
         ensures replaced { option_map (λ m. m.0) result ≡ find_method self.old.table id.0 method.qualifiers method.specializers }
     {

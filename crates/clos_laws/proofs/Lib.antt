@@ -1,9 +1,3 @@
-pub mod Lists
-pub mod Tables
-pub mod Changes
-pub mod Initial
-pub mod Precedence
-pub mod Forms
 pub mod Sessions
 pub mod InOrder
 pub mod Names

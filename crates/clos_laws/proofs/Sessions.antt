@@ -40,6 +40,7 @@ use Rattle.clos_session.specs.clos_world.declared.condition.Condition.{Condition
 use Rattle.clos_session.specs.clos_world.declared.condition.ConditionKind.TheVariants.{TableLimit}
 use Rattle.clos_session.specs.clos_world.declared.functions.Function.{Function}
 use Rattle.clos_session.specs.clos_definition_forms.clos_definition.Class.{cells_needed, class_concerned, class_number, class_refusal, initforms, with_defined_class}
+use Rattle.clos_session.specs.clos_definition_forms.clos_definition.Generic as generic_definitions
 use Rattle.clos_session.specs.clos_definition_forms.clos_definition.Generic.{eql_forms, generic_concerned, generic_refusal, with_defined_generic}
 use Rattle.clos_session.specs.clos_definition_forms.clos_definition.Method.{eql_form, method_concerned, method_refusal, with_defined_method}
 use Rattle.clos_session.specs.clos_definition_forms.clos_definition.Removal.{concerned_by_removal, removable, with_removed}
@@ -60,82 +61,10 @@ use Rattle.clos_session.specs.clos_world.clos_cache.Cache as of_calls
 use Rattle.clos_meaning.proofs.Kept.{SameAfter, evaluation_kept}
 use Rattle.clos_session.specs.Step.{checked, performed, room_of, step}
 use Rattle.clos_laws.specs.Reached.{state_in}
-use Rattle.clos_laws.specs.Sound.{IsSound}
-use Rattle.clos_laws.proofs.Forms.{class_sound, generic_sound, method_sound, removal_sound}
-use Rattle.clos_laws.proofs.Lists.{Each, each_of}
-use Rattle.clos_laws.proofs.Precedence.{IsOrderly, orderly}
-
--- ---- what a form that is read comes to
-
-abbrev pub IsWellMade : Top → Type 0
-IsWellMade (DefClass c) = ⊤
-IsWellMade (DefGeneric g) = IsOrderly g × Each IsSpecialized g.methods
-IsWellMade (DefMethod n m) = IsSpecialized m
-IsWellMade (DefCombination c) = ⊤
-IsWellMade (Defun f) = ⊤
-IsWellMade (DefVar v) = ⊤
-IsWellMade (RemoveMethod f g) = ⊤
-IsWellMade (AddDependent f g) = ⊤
-IsWellMade (RemoveDependent f g) = ⊤
-IsWellMade InPackage = ⊤
-IsWellMade (Expr f) = ⊤
-
--- the functions that are read have argument precedence orders
-abbrev IsOrderlyTop : Top → Type 0
-IsOrderlyTop (DefGeneric g) = IsOrderly g
-IsOrderlyTop (DefClass c) = ⊤
-IsOrderlyTop (DefMethod n m) = ⊤
-IsOrderlyTop (DefCombination c) = ⊤
-IsOrderlyTop (Defun f) = ⊤
-IsOrderlyTop (DefVar v) = ⊤
-IsOrderlyTop (RemoveMethod f g) = ⊤
-IsOrderlyTop (AddDependent f g) = ⊤
-IsOrderlyTop (RemoveDependent f g) = ⊤
-IsOrderlyTop InPackage = ⊤
-IsOrderlyTop (Expr f) = ⊤
-
-defmethod_orderly : (l : Dats) → IfSome (defmethod_in l) IsOrderlyTop
-defmethod_orderly nil = tt
-defmethod_orderly (cons name l) =
-    passes IsOrderlyTop (method_function_in name) (λ n. method_in l >>= λ m. Some (DefMethod n m))
-    (λ n. passes IsOrderlyTop (method_in l) (λ m. Some (DefMethod n m)) (λ m. tt))
-
-orderly_cases : Cases IsOrderlyTop
-orderly_cases = record {
-  class = λ l. nothing (class_in l);
-  generic = orderly;
-  defmethod = defmethod_orderly;
-  combination = λ l. nothing (combination_in l);
-  function = λ l. nothing (read_function l);
-  variable = λ definer l. nothing (variable_definition_in definer l);
-  removal = λ l. nothing (two_forms_in l);
-  addition = λ l. nothing (two_forms_in l);
-  dismissal = λ l. nothing (two_forms_in l);
-  in_package = tt;
-  form = λ d. nothing (form_in d);
-}
-
-both : (top : Top) → AreSpecialized top → IsOrderlyTop top → IsWellMade top
-both (DefClass c) h k = tt
-both (DefGeneric g) h k = (k, each_of IsSpecialized g.methods h)
-both (DefMethod n m) h k = h
-both (DefCombination c) h k = tt
-both (Defun f) h k = tt
-both (DefVar v) h k = tt
-both (RemoveMethod f g) h k = tt
-both (AddDependent f g) h k = tt
-both (RemoveDependent f g) h k = tt
-both InPackage h k = tt
-both (Expr f) h k = tt
-
-any_of : (d : Dat) (b : Bool) (top : Top) → has_method d ≡ b → (if b then None else any_top d) ≡ Some top → any_top d ≡ Some top
-any_of d true top h k = absurd (none-some top k)
-any_of d false top h k = k
-
-well_made : (d : Dat) (top : Top) → top_of d ≡ Some top → IsWellMade top
-well_made d top h =
-    let k = any_of d (has_method d) top refl h in
-    both top (given_so AreSpecialized specialized_cases (Ok top) d k) (given_so IsOrderlyTop orderly_cases (Ok top) d k)
+use Rattle.clos_generic.specs.Sound.{IsSound}
+use Rattle.clos_session.proofs.clos_definition.WellMade.{class_sound, generic_sound, method_sound, removal_sound}
+use Rattle.clos_session.specs.Read.{IsWellRead}
+use Rattle.clos_session.proofs.WellRead.{well_read}
 
 -- ---- outcomes after which the generic functions are sound
 
@@ -206,14 +135,14 @@ method_keeps name m h w k s =
     (λ none. effect_sound (method_concerned name m vs u) (method (length u.generics.methods)) (with_defined_method name m vs u) u j i
     (method_sound name m vs u h i none))) w k s)
 
-generic_keeps : (d : GenericDefinition) → IsOrderly d → Each IsSpecialized d.methods → Keeps (define_generic d)
-generic_keeps d o h w k s =
+generic_keeps : (d : GenericDefinition) → generic_definitions.IsWellRead d → Keeps (define_generic d)
+generic_keeps d h w k s =
     unless_sound (generic_refusal d None w) (forms_evaluated (eql_forms d.methods) [] (generic_made d)) w k s
     (λ e. forms_sound (eql_forms d.methods) [] (generic_made d)
     (λ vs u j i. unless_sound (generic_refusal d (Some vs) u)
     (takes_effect (generic_concerned d vs u) (generic (number u.generics d.name)) (with_defined_generic d vs u)) u j i
     (λ none. effect_sound (generic_concerned d vs u) (generic (number u.generics d.name)) (with_defined_generic d vs u) u j i
-    (generic_sound d vs u o h i none))) w k s)
+    (generic_sound d vs u h i none))) w k s)
 
 class_keeps : (d : ClassDefinition) → Keeps (define_class d)
 class_keeps d w k s =
@@ -273,9 +202,9 @@ variable_keeps d w k s =
 
 -- ---- top-level forms
 
-performed_keeps : (top : Top) → IsWellMade top → Keeps (performed top)
+performed_keeps : (top : Top) → IsWellRead top → Keeps (performed top)
 performed_keeps (DefClass d) h w k s = class_keeps d w k s
-performed_keeps (DefGeneric d) h w k s = generic_keeps d h.0 h.1 w k s
+performed_keeps (DefGeneric d) h w k s = generic_keeps d h w k s
 performed_keeps (DefMethod name m) h w k s = method_keeps name m h w k s
 performed_keeps (DefCombination c) h w k s = combination_keeps c w k s
 performed_keeps (Defun f) h w k s = function_keeps f.name (record { lambda_list = f.lambda_list; body = f.body }) w k s
@@ -286,12 +215,12 @@ performed_keeps (RemoveDependent m d) h w k s = change_keeps Remove m d w k s
 performed_keeps InPackage h w k s = s
 performed_keeps (Expr f) h w k s = kept_sound w (evaluation (room_of w) f w k) (evaluation_kept (room_of w) f w k) s
 
-checked_keeps : (o : Option Top) → ((top : Top) → o ≡ Some top → IsWellMade top) → Keeps (checked o)
+checked_keeps : (o : Option Top) → ((top : Top) → o ≡ Some top → IsWellRead top) → Keeps (checked o)
 checked_keeps None h w k s = s
 checked_keeps (Some top) h w k s = performed_keeps top (h top refl) w k s
 
 step_keeps : (d : Dat) → Keeps (step d)
-step_keeps d w k s = checked_keeps (top_of d) (λ top e. well_made d top e) w k s
+step_keeps d w k s = checked_keeps (top_of d) (λ top e. well_read d top e) w k s
 
 -- ---- what it ends with
 

@@ -1,4 +1,3 @@
-pub mod Sound
 pub mod Predefined
 pub mod Reached
 pub mod Laws

@@ -1,4 +1,5 @@
 pub mod Step
+pub mod Read
 pub mod Session
 pub mod Uses
 pub mod Definitions

@@ -4,6 +4,7 @@ ghost use Rattle.lisp_data.specs.DatumView.{datum_of};
 ghost use Rattle.clos_definition_forms.specs.clos_world.World.{seen};
 ghost use Rattle.clos_definition_forms.specs.clos_eval.Evaluation.{Performs};
 ghost use Rattle.clos_definition_forms.specs.clos_machine.Machine.{AnswersWith};
+ghost use Rattle.clos_session.specs.Read.{IsWellRead};
 ghost use Rattle.clos_session.specs.Step.{checked, step};
 ghost use Rattle.clos_definition_forms.specs.clos_world.Initial.{initial};
 ghost use Rattle.clos_definition_forms.specs.clos_watch.Handed.{place_of};
@@ -248,6 +249,7 @@ fn perform_top<N: Natives, D: Dependents>(
     top: Top,
     steps: &mut u64,
 ) -> Result<Value, Stop>
+    requires { IsWellRead top }
     ensures performs { Performs (N.host natives.now) (checked (Some top)) world.old steps.old answers.old.items result
         world.new steps.new answers.new.items }
     ensures heard { Heard (D.told dependents.old) (seen world.old) (D.told dependents.new) (seen world.new) }

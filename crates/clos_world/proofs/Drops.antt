@@ -1,5 +1,5 @@
 -- What is kept stays what would be worked out, where each change drops what it concerns.
-use Rattle.std.proofs.Common.{◌≡◌, ◌≢◌, ◌⊎◌, inl, inr, ℕ, zero, suc, ◌+◌, ◌<◌, ◌≤◌, ◌==◌, Bool, true, false, not, ◌||◌, ◌&&◌, List, [], ◌∷◌, ◌++◌, length, length-append, Option, Some, None, refl, ap, subst, sym, ◌∙◌, true≢false, eqb-true, eq-eqb, arith}
+use Rattle.std.proofs.Common.{◌≡◌, ◌≢◌, inl, inr, ℕ, zero, suc, ◌+◌, ◌<◌, ◌≤◌, ◌==◌, Bool, true, false, not, ◌||◌, ◌&&◌, List, [], ◌∷◌, ◌++◌, length, length-append, Option, Some, None, refl, ap, subst, sym, ◌∙◌, true≢false, eqb-true, eq-eqb, arith}
 use Rattle.std.specs.Prelude.{if◌then◌else◌, nat_eq, nat_lt, slice_get}
 use Rattle.std.specs.List.{list_any}
 use Rattle.std.proofs.lemmas.Bool.{cases_order, ltb-true}
@@ -28,7 +28,7 @@ use Rattle.clos_hierarchy.specs.Classes.{Classes, Listing, lacking, broken, list
 use Rattle.clos_hierarchy.specs.Table.{changed, changed_among, is_other}
 use Rattle.clos_method.specs.Arguments.{Argument}
 use Rattle.clos_method.specs.declared.method.Method.{Method}
-use Rattle.clos_world.specs.Kept.{AreKnown, AreNow, ClassesKeep, FunctionsKeep, IsFor, IsKnown, IsNow, combination_in}
+use Rattle.clos_world.specs.Kept.{AreKnown, AreNow, ClassesKeep, FunctionsKeep, IsNow, combination_in}
 use Rattle.clos_world.specs.declared.effective_method.EffectiveMethod.{EffectiveMethod}
 use Rattle.clos_world.proofs.Methods.{left_added, left_defined, left_without, there_defined, there_with_method, there_without}
 

@@ -1,6 +1,6 @@
 -- Argument lists of which the same is known have one list of ordered methods.
 use Rattle.std.proofs.Common.{◌≡◌, ◌⊎◌, inl, inr, ℕ, zero, suc, ◌+◌, Bool, true, false, ◌||◌, ◌&&◌, List, [], ◌∷◌, Option, Some, None, option_map, refl, ap, subst, sym, ◌∙◌, true≢false, arith}
-use Rattle.std.specs.Prelude.{if◌then◌else◌, map, slice_get, take, unwrap_or}
+use Rattle.std.specs.Prelude.{if◌then◌else◌, slice_get, unwrap_or}
 use Rattle.std.specs.List.{list_any}
 use Rattle.std.proofs.lemmas.Option.{none-some}
 use Rattle.lisp_data.specs.Keys.{same_value}

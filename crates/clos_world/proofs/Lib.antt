@@ -6,3 +6,4 @@ pub mod Known
 pub mod Kept
 pub mod Methods
 pub mod Drops
+pub mod InOrder

@@ -1,10 +1,9 @@
 -- The methods that a call of a generic function finds (HyperSpec 7.6.6.1).
-use Rattle.std.specs.Prelude.{ℕ, zero, List, map, take, Option, Some, None, slice_get}
+use Rattle.std.specs.Prelude.{◌≡◌, ℕ, ◌≤◌, List, length, map, take, slice_get}
 use Rattle.lisp_data.specs.Name.{Name}
 use Rattle.lisp_data.specs.Value.{Val}
 use Rattle.clos_method.specs.Arguments.{Argument, arguments_of}
 use Rattle.clos_generic.specs.Calls as calls
-use Rattle.clos_generic.specs.Table.{Function}
 use Rattle.clos_world.specs.Kept.{combination_in}
 use Rattle.clos_world.specs.World.{State, class_of}
 
@@ -12,13 +11,9 @@ use Rattle.clos_world.specs.World.{State, class_of}
 abbrev pub arguments : State → List Val → List Argument
 arguments w vs = arguments_of w.classes (map (class_of w) vs) vs
 
-abbrev pub required_in : Option Function → ℕ
-required_in None = zero
-required_in (Some f) = f.shape.required
-
 -- how many required parameters a generic function has
 abbrev pub required_by : State → ℕ → ℕ
-required_by w g = required_in (slice_get w.generics.functions g)
+required_by w g = calls.required_of w.generics g
 
 -- the name of a generic function's method combination
 abbrev pub combination_of : State → ℕ → Name
@@ -27,3 +22,12 @@ combination_of w g = combination_in (slice_get w.generics.functions g)
 -- The methods of a generic function that are applicable to these arguments, the most specific first: those of its required parameters decide.
 abbrev pub ordered : State → ℕ → List Val → List ℕ
 ordered w g vs = calls.ordered w.generics g (arguments w (take (required_by w g) vs))
+
+-- A list of methods is in order for a call of a function with these arguments (7.6.6.1).
+abbrev pub IsInOrder : State → ℕ → List Val → List ℕ → Type 0
+IsInOrder w g vs listed = calls.IsInOrder w.generics g (arguments w (take (required_by w g) vs)) listed
+
+-- The methods that a call finds are in order, and no other list of methods is.
+abbrev pub CallsAreInOrder : State → Type 0
+CallsAreInOrder w = (g : ℕ) (vs : List Val) → required_by w g ≤ length vs
+    → IsInOrder w g vs (ordered w g vs) × ((listed : List ℕ) → IsInOrder w g vs listed → listed ≡ ordered w g vs)

@@ -1,11 +1,11 @@
 //! The methods that a call of a generic function finds.
-ghost use Rattle.std.specs.Prelude.{◌≡◌, ◌+◌, ◌⊎◌, IfOk, OnErr, OnOk, map, min, take};
+ghost use Rattle.std.specs.Prelude.{◌≡◌, ◌+◌, ◌≤◌, ◌⊎◌, IfOk, OnErr, OnOk, length, map, min, take};
 ghost use Rattle.clos_cache.specs.Uses.{with_use};
 ghost use Rattle.lisp_data.specs.ValueView.{value_of};
 ghost use Rattle.clos_precedence.specs.PrecedenceView.{numbers};
 ghost use Rattle.clos_comb.specs.Effective.{effective};
 ghost use Rattle.clos_comb.specs.OutcomeView.{combined_of};
-ghost use Rattle.clos_world.specs.Dispatch.{combination_of, ordered, required_by};
+ghost use Rattle.clos_world.specs.Dispatch.{CallsAreInOrder, IsInOrder, combination_of, ordered, required_by};
 ghost use Rattle.clos_world.specs.Keys.{key_of};
 ghost use Rattle.clos_world.specs.Uses.{AtMostOneMore, uses_of};
 ghost use Rattle.clos_world.specs.World.{class_of, seen};
@@ -88,12 +88,22 @@ impl World {
         id: GenericId,
         values: &[Value],
     ) -> Result<MethodIds, AllocError>
-        ensures { IfOk result (λ r. r ≡ ordered (seen self.now) id.0 (map value_of values.now)) }
+        ensures is { IfOk result (λ r. r ≡ ordered (seen self.now) id.0 (map value_of values.now)) }
+        ensures in_order { IfOk result (λ r. required_by (seen self.now) id.0 ≤ length values.now
+            → IsInOrder (seen self.now) id.0 (map value_of values.now) r) }
     {
+        self.calls_are_in_order();
         let values = first_values(values, self.required_by(id));
         let classes = self.classes_of(alloc, values)?;
         let arguments = Arguments::new(self.classes(), &classes, values);
         self.generics.ordered(alloc, id, &arguments)
+    }
+
+    /// In every state the methods that a call finds are in order, and no other list of methods is (HyperSpec 7.6.6.1).
+    pub fn calls_are_in_order(&self)
+        ensures { CallsAreInOrder (seen self.now) }
+    {
+        self.generics.are_sound();
     }
 
     /// How many required parameters a generic function has.

@@ -1,23 +1,25 @@
 //! Each call succeeds where there is memory and room.
 ghost use Rattle.std.specs.Prelude.{◌≡◌, IfOk};
+ghost use Rattle.clos_generic.specs.Sound.{IsOrderly, IsSpecialized};
 
 use clos_class::Classes;
 use clos_comb::{CombinationFault, Combinations, Outcome, ShortForm, UseFault};
 use clos_forms::{FunctionName, Operator};
-use clos_generic::{GenericFault, Generics, Options, Positions};
+use clos_generic::{GenericFault, Generics, Options};
 use clos_hierarchy::numbers;
 use clos_method::{
     Arguments, Method, MethodBody, Origin, Qualifiers, Shape, Specializer, Specializers,
     SystemFunction,
 };
-use clos_syntax::CombinationUse;
 use lisp_data::{ClassId, Data, GenericId, MethodId, Name, Value};
 use std::alloc::{AllocError, Global};
 use std::process::Abort;
 use std::test::Fail;
 
 /// Of one required parameter.
-fn shape() -> Shape {
+fn shape() -> Shape
+    ensures { result.required ≡ 1 }
+{
     Shape {
         required: 1,
         optional: 0,
@@ -26,15 +28,11 @@ fn shape() -> Shape {
     }
 }
 
-fn options(alloc: Global) -> Result<Options, AllocError> {
-    Ok(Options {
-        shape: shape(),
-        precedence: Positions::left_to_right(alloc, 1)?,
-        combination: CombinationUse {
-            name: Name::fixed(&"STANDARD"),
-            arguments: Data::new(),
-        },
-    })
+#[tactic(auto, using(clos_generic::proofs::Soundness::standard_orderly))]
+fn options(alloc: Global) -> Result<Options, AllocError>
+    ensures { IfOk result IsOrderly }
+{
+    Options::standard(alloc, shape())
 }
 
 fn method(
@@ -43,7 +41,8 @@ fn method(
     origin: Origin,
     specializer: Specializer,
 ) -> Result<Method, AllocError>
-    ensures { IfOk result (λ m. m.generic ≡ generic) }
+    ensures generic { IfOk result (λ m. m.generic ≡ generic) }
+    ensures specialized { IfOk result IsSpecialized }
 {
     let mut specializers = Specializers::new(alloc);
     specializers.push(specializer)?;

@@ -4,6 +4,7 @@ use Rattle.clos_world.specs.World.{seen}
 use Rattle.clos_definition.specs.Class.{class_refusal}
 use Rattle.clos_definition.specs.Refusal.{StopsFor}
 use Rattle.clos_definition.proofs.Classes.{concerned_made, effect_made, none_stops, others_stop, reserve_stops}
+use Rattle.clos_definition.proofs.WellMade.{class_well_made}
 use Rattle.clos_definition.proofs.class.prepare_class.Goals as goal
 
 pub returns-in_err-effect-clause-allows : goal.returns-in_err-effect-clause-allows
@@ -41,3 +42,8 @@ returns-in_err-reserve_effect-clause-same c = c.in_err-reserve_effect.ensures.sa
 
 pub returns-clause-same : goal.returns-clause-same
 returns-clause-same c = c.in_ok-reserve_effect.ensures.same ∙ c.in_ok-class.ensures.same
+
+pub reserve_effect-requires : goal.reserve_effect-requires
+reserve_effect-requires c =
+    class_well_made c.in_ok-effect.effect c.args.definition.now (seen c.reserve_class.new.world) c.in_ok-effect.ensures.changes
+    c.in_ok-effect.ensures.methods

@@ -1,7 +1,8 @@
-use Rattle.std.proofs.Common.{◌++◌, length, map, arith, ap, ◌∙◌}
+use Rattle.std.proofs.Common.{◌++◌, length, map, arith, ap, subst, sym, ◌∙◌}
 use Rattle.std.proofs.lemmas.List.{length-map}
 use Rattle.clos_cache.specs.Cache.{found, left_after}
-use Rattle.clos_definition.specs.Effect.{changed, of_added, of_defined, of_removed, of_additions, of_definitions, of_removal, possible, with_definitions, with_methods, without_all}
+use Rattle.clos_generic.specs.Table.{Table}
+use Rattle.clos_definition.specs.Effect.{AdditionsFit, DefinitionsFit, changed, of_added, of_defined, of_removed, of_additions, of_definitions, of_removal, possible, with_definitions, with_methods, without_all}
 use Rattle.clos_definition.proofs.Dropped.{left_of_three}
 use Rattle.clos_definition.proofs.Notices.{in_order, length_of_three}
 use Rattle.clos_definition.proofs.effect.make_in.Goals as goal
@@ -26,8 +27,20 @@ tell_definitions-requires c =
     let those = ap (λ l. length (of_definitions l t)) c.definitions.ensures in
     omega (arith, all, as_many, same, those, c.requires.room, c.tell_removals.ensures.room)
 
-pub define_all-requires : goal.define_all-requires
-define_all-requires c = ap (λ t. t.definitions) c.take_out_all.ensures.table ∙ c.requires.reserved.definitions
+pub define_all-requires-clause-reserved : goal.define_all-requires-clause-reserved
+define_all-requires-clause-reserved c = ap (λ t. t.definitions) c.take_out_all.ensures.table ∙ c.requires.reserved.definitions
+
+pub define_all-requires-clause-fit : goal.define_all-requires-clause-fit
+define_all-requires-clause-fit c =
+    let table = ap (λ h. h.table) c.take_out_all.ensures.table ∙ ap (λ x. without_all x c.args.generics.now.table) c.removals-2.ensures in
+    subst (λ (t : Table). DefinitionsFit c.args.effect.changes.definitions t) (sym table) c.requires.reserved.definitions_fit
+
+pub add_all-requires-clause-fit : goal.add_all-requires-clause-fit
+add_all-requires-clause-fit c =
+    let ds = c.args.effect.changes.definitions in
+    let table = c.define_all.ensures.table ∙ ap (with_definitions ds) (ap (λ h. h.table) c.take_out_all.ensures.table)
+    ∙ ap (λ x. with_definitions ds (without_all x c.args.generics.now.table)) c.removals-2.ensures in
+    subst (λ (t : Table). AdditionsFit c.args.effect.methods.items t) (sym table) c.requires.reserved.additions_fit
 
 pub add_all-requires-clause-reserved : goal.add_all-requires-clause-reserved
 add_all-requires-clause-reserved c =

@@ -1,10 +1,12 @@
 use Rattle.std.proofs.Common.{ap}
 use Rattle.clos_world.proofs.Kept.{same_either_way, same_functions}
-use Rattle.clos_definition.proofs.Made.{ready}
+use Rattle.clos_definition.proofs.WellMade.{ready}
 use Rattle.clos_definition.proofs.effect.reserve.Goals as goal
 
 pub returns-in-Ok-clause-reserved : goal.returns-in-Ok-clause-reserved
-returns-in-Ok-clause-reserved c = ready c.args.effect.now c.args.world.now.generics c.reserve.new.self c.requires c.in-Ok.ensures.ok.1
+returns-in-Ok-clause-reserved c =
+    ready c.args.effect.now c.args.world.now.generics c.reserve.new.self c.are_sound.ensures c.requires c.in-Ok.ensures.ok.0
+    c.in-Ok.ensures.ok.1
 
 pub invariant_of-world : goal.invariant_of-world
 invariant_of-world c = record {

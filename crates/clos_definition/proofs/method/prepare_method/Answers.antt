@@ -5,6 +5,7 @@ use Rattle.clos_world.specs.World.{seen}
 use Rattle.clos_definition.specs.Method.{method_changes, method_refusal, specializers_refusal}
 use Rattle.clos_definition.specs.Refusal.{StopsFor, table_refusal, taken_refusal}
 use Rattle.clos_definition.proofs.Classes.{third_stops}
+use Rattle.clos_definition.proofs.WellMade.{method_well_made}
 use Rattle.clos_definition.proofs.method.prepare_method.Goals as goal
 
 pub returns-in_err-reserve-clause-allows : goal.returns-in_err-reserve-clause-allows
@@ -20,3 +21,8 @@ returns-in_err-reserve-clause-allows c =
     c.in_ok-refuse_taken.ensures passed
     (subst (λ (x : Changes). StopsFor (table_refusal name x w) stop) c.in_ok-effect.ensures.changes c.in_err-reserve.ensures.allows) in
     let p = err_from_is_err_and c.from_residual-in_err-reserve.result c.from_residual-in_err-reserve.ensures.1 in rw (p.1, p.2) h
+
+pub reserve-requires : goal.reserve-requires
+reserve-requires c =
+    method_well_made c.in_ok-effect.effect c.args.name.now c.args.definition c.args.values.now (seen c.args.world.now) c.requires
+    c.in_ok-effect.ensures.changes c.in_ok-effect.ensures.methods

@@ -5,6 +5,7 @@ use Rattle.clos_definition_forms.proofs.Evaluated.{performs_as, performs_storage
 use Rattle.clos_definition_forms.proofs.Hearing.{unheard}
 use Rattle.clos_session.specs.Step.{checked, step}
 use Rattle.clos_session.proofs.StepQuiet.{step_quiet}
+use Rattle.clos_session.proofs.WellRead.{well_read}
 use Rattle.clos_session.proofs.session.perform.Goals as goal
 
 pub returns-in-Ok-clause-performs : goal.returns-in-Ok-clause-performs
@@ -25,3 +26,6 @@ returns-in-Err-Memory-clause-heard g c =
 pub returns-in-Err-Program-clause-heard : goal.returns-in-Err-Program-clause-heard
 returns-in-Err-Program-clause-heard g c =
     let told = g.D.Dependents.told c.args.dependents.now in unheard told told (seen c.args.world.now) (seen c.args.world.now) refl refl
+
+pub perform_top-requires : goal.perform_top-requires
+perform_top-requires g c = well_read (datum_of c.args.datum.now) c.in-Ok.top c.in-Ok.ensures.form

@@ -7,12 +7,14 @@ use Rattle.lisp_data.specs.Name.{same_name}
 use Rattle.clos_forms.specs.declared.operator.FunctionName.TheVariants.{Symbol, Setf}
 use Rattle.clos_generic.specs.inner.Reserved.{HasSpare}
 use Rattle.clos_generic.specs.Held.{after_first}
+use Rattle.clos_generic.specs.Sound.{AreSound}
 use Rattle.clos_generic.specs.Table.{same_function}
 use Rattle.clos_generic.specs.TableView.{function_of, functions_in, noted}
 use Rattle.clos_generic.specs.declared.spare.Spare.{Spare}
 use Rattle.clos_generic.proofs.EqlNoted.{noted_made}
 use Rattle.clos_generic.proofs.Named.{one_more_indexed, one_more_seen, one_name}
 use Rattle.clos_generic.proofs.Ready.{first_passes, first_there, ready_made}
+use Rattle.clos_generic.proofs.Soundness.{made_sound}
 use Rattle.clos_generic.proofs.There.{there_made}
 use Rattle.clos_generic.proofs.table.Generics.make_reserved.Goals as goal
 
@@ -50,4 +52,6 @@ invariant_of-self c =
           (ap (λ x. x.methods) c.new.ensures.seen),
       noted_made fs c.push_reserved.new.self.items f w.methods.items c.self.invariant.6 c.push_reserved.ensures.items
           (ap (λ x. x.methods) c.new.ensures.seen),
+      subst (λ l. AreSound l w.methods.items) (sym (e ∙ ap (λ x. functions_in fs ++ x ∷ []) c.new.ensures.seen))
+          (made_sound (functions_in fs) w.methods.items c.self.invariant.7 c.args.name c.args.options c.requires.orderly),
     )

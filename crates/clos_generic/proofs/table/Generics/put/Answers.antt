@@ -1,8 +1,10 @@
-use Rattle.std.proofs.Common.{◌≡◌, refl, arith, ap, subst, sym, true≢false, length, ◌+◌, ◌∙◌}
-use Rattle.std.specs.Prelude.{◌==◌}
+use Rattle.std.proofs.Common.{◌≡◌, [], ◌∷◌, ◌++◌, true, refl, arith, ap, subst, sym, true≢false, length, ◌+◌, ◌∙◌}
+use Rattle.std.specs.Prelude.{◌==◌, slice_get}
 use Rattle.std.specs.HashMap.{get, spare}
 use Rattle.lisp_data.specs.Name.{same_name}
 use Rattle.clos_forms.specs.declared.operator.FunctionName.TheVariants.{Symbol, Setf}
+use Rattle.clos_generic.specs.Fault.{takes_in}
+use Rattle.clos_generic.specs.Sound.{AreSound}
 use Rattle.clos_generic.specs.Table.{added, with_changed, with_methods}
 use Rattle.clos_generic.specs.TableView.{AreThere, functions_in}
 use Rattle.clos_generic.specs.inner.AccessorMethods.{HasPlaces, IsKept}
@@ -11,6 +13,7 @@ use Rattle.clos_generic.proofs.EqlNoted.{noted_added, noted_same}
 use Rattle.clos_generic.proofs.Kept.{first_place, kept_more, kept_same, places_after}
 use Rattle.clos_generic.proofs.Named.{same_indexed, still_indexed}
 use Rattle.clos_generic.proofs.Ready.{first_room, ready_added, ready_changed}
+use Rattle.clos_generic.proofs.Soundness.{added_sound, sound_same}
 use Rattle.clos_generic.proofs.There.{there_added, there_same}
 use Rattle.clos_generic.proofs.table.Generics.put.Goals as goal
 
@@ -24,6 +27,7 @@ invariant_of-self c =
       (omega (arith, c.self.invariant.4.0, c.reserve.ensures.spare), omega (arith, c.self.invariant.4.1, c.reserve.ensures.len, c.reserve.ensures.capacity)),
       c.self.invariant.5,
       c.self.invariant.6,
+      c.self.invariant.7,
     )
 
 pub returns-in_err-reserve-clause-succeeds : goal.returns-in_err-reserve-clause-succeeds
@@ -42,6 +46,7 @@ invariant_of-self-in_err-reserve-2 c =
       (omega (arith, c.self.invariant.4.0, c.reserve.ensures.spare), omega (arith, c.self.invariant.4.1, c.reserve.ensures.len, c.reserve.ensures.capacity)),
       subst (λ l. AreThere (functions_in w.functions.items) l) (sym c.reserve-2.ensures.items) c.self.invariant.5,
       subst (λ l. AreNoted w.functions.items l) (sym c.reserve-2.ensures.items) c.self.invariant.6,
+      subst (λ l. AreSound (functions_in w.functions.items) l) (sym c.reserve-2.ensures.items) c.self.invariant.7,
     )
 
 pub invariant_of-self-in_err-replaced : goal.invariant_of-self-in_err-replaced
@@ -57,6 +62,8 @@ invariant_of-self-in_err-replaced c =
           c.self.invariant.5 c.in_err-replaced.ensures.err c.reserve-2.ensures.items,
       noted_same w.functions.items c.put_at.new.functions.items w.methods.items c.reserve-2.new.self.items c.self.invariant.6
           c.in_err-replaced.ensures.err c.reserve-2.ensures.items c.put_at.ensures.notes,
+      sound_same (functions_in w.functions.items) (functions_in c.put_at.new.functions.items) w.methods.items c.reserve-2.new.self.items
+          c.self.invariant.7 c.in_err-replaced.ensures.err c.reserve-2.ensures.items,
     )
 
 pub returns-in_err-replaced-clause-succeeds : goal.returns-in_err-replaced-clause-succeeds
@@ -78,6 +85,11 @@ invariant_of-self-2 c =
     let there : AreThere (functions_in fs) ms =
     subst (λ l. AreThere (functions_in fs) l) (sym c.reserve-2.ensures.items) c.self.invariant.5 in
     let noted : AreNoted fs ms = subst (λ l. AreNoted fs l) (sym c.reserve-2.ensures.items) c.self.invariant.6 in
+    let sound : AreSound (functions_in fs) ms =
+    subst (λ l. AreSound (functions_in fs) l) (sym c.reserve-2.ensures.items) c.self.invariant.7 in
+    let fits : takes_in c.args.method.shape (slice_get (functions_in fs) c.args.id.0) ≡ true =
+    subst (λ h. takes_in c.args.method.shape (slice_get h.table.functions c.args.id.0) ≡ true) (sym c.self.view_is)
+    c.requires.fits in
     let seen : functions_in es ≡ with_changed (with_methods (added ms c.args.method)) c.args.id.0 (functions_in fs) =
     subst (λ l. functions_in es ≡ with_changed (with_methods (added l c.args.method)) c.args.id.0 (functions_in fs)) c.deref.ensures.value
     c.in_ok-replaced.ensures.ok in (
@@ -99,4 +111,7 @@ invariant_of-self-2 c =
       subst (λ l. AreNoted es l) (sym c.push_reserved.ensures.items)
           (noted_added fs es ms c.args.method c.args.id.0 there noted seen c.put_at.ensures.notes
           (λ l. c.in_ok-replaced.ensures.eql (omega (arith, l, w.functions.ok.0)))),
+      subst (λ l. AreSound (functions_in es) l) (sym c.push_reserved.ensures.items)
+          (subst (λ l. AreSound l (ms ++ c.args.method ∷ [])) (sym seen)
+          (added_sound (functions_in fs) ms sound c.args.id.0 c.args.method c.requires.specialized fits)),
     )

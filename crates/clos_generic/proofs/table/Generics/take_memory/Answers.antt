@@ -12,6 +12,7 @@ use Rattle.clos_generic.proofs.EqlNoted.{noted_same}
 use Rattle.clos_generic.proofs.Kept.{kept_same}
 use Rattle.clos_generic.proofs.Ready.{no_additions, no_spares, ready_idle}
 use Rattle.clos_generic.proofs.Rooms.{room_less}
+use Rattle.clos_generic.proofs.Soundness.{sound_same}
 use Rattle.clos_generic.proofs.There.{there_same}
 use Rattle.clos_generic.proofs.table.Generics.take_memory.Goals as goal
 
@@ -32,6 +33,8 @@ invariant_of-self-in_err-reserve-4 c =
           c.reserve-4.new.self.items c.self.invariant.5 (sym fs) c.reserve-4.ensures.items,
       noted_same w.functions.items c.reserve_each.new.functions.items w.methods.items c.reserve-4.new.self.items c.self.invariant.6 (sym fs)
           c.reserve-4.ensures.items notes,
+      sound_same (functions_in w.functions.items) (functions_in c.reserve_each.new.functions.items) w.methods.items
+          c.reserve-4.new.self.items c.self.invariant.7 (sym fs) c.reserve-4.ensures.items,
     )
 
 pub invariant_of-self-in_err-reserve-5 : goal.invariant_of-self-in_err-reserve-5
@@ -51,6 +54,8 @@ invariant_of-self-in_err-reserve-5 c =
           c.reserve-4.new.self.items c.self.invariant.5 (sym fs) c.reserve-4.ensures.items,
       noted_same w.functions.items c.reserve_each.new.functions.items w.methods.items c.reserve-4.new.self.items c.self.invariant.6 (sym fs)
           c.reserve-4.ensures.items notes,
+      sound_same (functions_in w.functions.items) (functions_in c.reserve_each.new.functions.items) w.methods.items
+          c.reserve-4.new.self.items c.self.invariant.7 (sym fs) c.reserve-4.ensures.items,
     )
 
 pub invariant_of-self-2 : goal.invariant_of-self-2
@@ -83,4 +88,6 @@ invariant_of-self-2 c =
           c.reserve-4.new.self.items c.self.invariant.5 (sym fs) c.reserve-4.ensures.items,
       noted_same w.functions.items c.reserve_each.new.functions.items w.methods.items c.reserve-4.new.self.items c.self.invariant.6 (sym fs)
           c.reserve-4.ensures.items notes,
+      sound_same (functions_in w.functions.items) (functions_in c.reserve_each.new.functions.items) w.methods.items
+          c.reserve-4.new.self.items c.self.invariant.7 (sym fs) c.reserve-4.ensures.items,
     )

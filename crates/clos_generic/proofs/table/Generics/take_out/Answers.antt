@@ -1,14 +1,16 @@
-use Rattle.std.proofs.Common.{refl, ap, sym, arith}
+use Rattle.std.proofs.Common.{refl, ap, sym, subst, arith}
 use Rattle.std.specs.Prelude.{◌==◌}
 use Rattle.std.specs.HashMap.{get, spare}
 use Rattle.lisp_data.specs.Name.{same_name}
 use Rattle.clos_forms.specs.declared.operator.FunctionName.TheVariants.{Symbol, Setf}
+use Rattle.clos_generic.specs.Sound.{AreSound}
 use Rattle.clos_generic.specs.Table.{with_methods, without}
 use Rattle.clos_generic.specs.TableView.{functions_in}
 use Rattle.clos_generic.proofs.Changed.{past_all}
 use Rattle.clos_generic.proofs.EqlNoted.{noted_changed}
 use Rattle.clos_generic.proofs.Named.{still_indexed}
 use Rattle.clos_generic.proofs.Ready.{ready_changed}
+use Rattle.clos_generic.proofs.Soundness.{without_sound}
 use Rattle.clos_generic.proofs.There.{AddsNone, in_without, there_changed}
 use Rattle.clos_generic.proofs.table.Generics.take_out.Goals as goal
 
@@ -29,6 +31,8 @@ invariant_of-self c =
       c.self.invariant.4,
       there_changed change none (functions_in fs) (functions_in es) ms c.args.id.0 c.self.invariant.5 c.take_out_at.ensures.seen,
       noted_changed change none fs es ms c.args.id.0 c.self.invariant.6 c.take_out_at.ensures.seen c.take_out_at.ensures.notes,
+      subst (λ l. AreSound l ms) (sym c.take_out_at.ensures.seen)
+          (without_sound (functions_in fs) ms c.self.invariant.7 c.args.id.0 c.args.method.0),
     )
 
 pub returns-else-id-function_count : goal.returns-else-id-function_count

@@ -1,4 +1,4 @@
-use Rattle.std.proofs.Common.{ap, map, sym, Some, ◌∙◌}
+use Rattle.std.proofs.Common.{ap, map, Some, ◌∙◌}
 use Rattle.lisp_data.specs.ValueView.{value_of}
 use Rattle.clos_world.specs.World.{seen}
 use Rattle.clos_world.proofs.Kept.{hit_methods, hit_outcome, kept_after}
