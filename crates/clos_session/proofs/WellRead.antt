@@ -77,7 +77,7 @@ any_of : (d : Dat) (b : Bool) (top : Top) → has_method d ≡ b → (if b then 
 any_of d true top h k = absurd (none-some top k)
 any_of d false top h k = k
 
-well_read : (d : Dat) (top : Top) → top_of d ≡ Some top → IsWellRead top
+pub well_read : (d : Dat) (top : Top) → top_of d ≡ Some top → IsWellRead top
 well_read d top h =
     let k = any_of d (has_method d) top refl h in
     both top (given_so AreSpecialized specialized_cases (Ok top) d k) (given_so IsOrderlyTop orderly_cases (Ok top) d k)
