@@ -76,7 +76,7 @@ const MISTAKES: [(&str, &str); 45] = [
     ),
     (
         "(defclass a () ())\n(defclass b (standard-object a) ())\n",
-        "2:1: INCONSISTENT-PRECEDENCE: the classes above B can't stand in one order\n  the circle          A before STANDARD-OBJECT, by A\n                      STANDARD-OBJECT before A, by B\n",
+        "2:1: INCONSISTENT-PRECEDENCE: the classes above B can't stand in one order\n  the circle          STANDARD-OBJECT before A, by B\n                      A before STANDARD-OBJECT, by A\n",
     ),
     (
         "(defclass a (b) ())\n(defclass b (c) ())\n(defclass c (d a) ())\n",
