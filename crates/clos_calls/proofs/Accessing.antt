@@ -20,6 +20,7 @@ use Rattle.clos_machine.specs.clos_world.declared.condition.ConditionKind.TheVar
 use Rattle.clos_machine.specs.clos_world.declared.condition.Stop.{Stop}
 use Rattle.clos_machine.specs.clos_meaning.Bodies.{body_run}
 use Rattle.clos_machine.specs.clos_meaning.Calls.{keys_are_even, method_body_run}
+use Rattle.clos_machine.specs.clos_meaning.Contexts.{Context}
 use Rattle.clos_machine.specs.Machine.{Leads, at, inside, performed, resume}
 use Rattle.clos_machine.specs.clos_meaning.Meaning.{closed, meaning}
 use Rattle.clos_machine.specs.clos_meaning.GenericCalls.{invoked}
@@ -27,7 +28,6 @@ use Rattle.clos_machine.specs.clos_meaning.Outcome.{Out, Gave, Stopped, Asked, L
 use Rattle.clos_machine.specs.clos_meaning.Parameters.{sources}
 use Rattle.clos_machine.specs.clos_meaning.Slots.{instance_in, slot_answer, slot_changed, slot_put, slot_read}
 use Rattle.clos_machine.specs.clos_meaning.Updating.{due, restructured, told, updated, updated_if, updated_with}
-use Rattle.clos_machine.specs.clos_meaning.declared.arguments.Context.{Context}
 use Rattle.clos_machine.specs.declared.machine.BuiltIn.{BuiltIn}
 use Rattle.clos_machine.specs.declared.machine.BuiltIn.TheVariants as built_in
 use Rattle.clos_machine.specs.declared.machine.Doing.{Doing}

@@ -14,7 +14,7 @@ use Rattle.clos_machine.specs.clos_world.declared.condition.ConditionKind.TheVar
 use Rattle.clos_machine.specs.clos_world.declared.condition.Stop.{Stop}
 use Rattle.clos_machine.specs.clos_world.declared.condition.Stop.TheVariants.{Refused, Storage}
 use Rattle.clos_machine.specs.clos_meaning.Calls.{made_run, method_called, method_run}
-use Rattle.clos_machine.specs.clos_meaning.Contexts.{running, with_arguments}
+use Rattle.clos_machine.specs.clos_meaning.Contexts.{Context, running, with_arguments}
 use Rattle.clos_machine.specs.clos_meaning.Dispatch.{Dispatch}
 use Rattle.clos_machine.specs.Machine.{Leads, at, inside, resume, acted}
 use Rattle.clos_machine.specs.clos_meaning.Meaning.{closed, collect, meaning, next_method}
@@ -24,7 +24,6 @@ use Rattle.clos_machine.specs.clos_meaning.Uses.{after_notes, most, noted, with_
 use Rattle.clos_machine.specs.clos_world.Uses.{AtMostOneMore}
 use Rattle.clos_machine.specs.clos_world.clos_cache.Uses.{Uses}
 use Rattle.clos_machine.specs.Uses.{KeptAfter, LeadsBy}
-use Rattle.clos_machine.specs.clos_meaning.declared.arguments.Context.{Context}
 use Rattle.clos_machine.specs.clos_meaning.declared.arguments.Running.{Running}
 use Rattle.clos_machine.specs.declared.machine.Action.TheVariants.{CallNext}
 use Rattle.clos_machine.specs.declared.machine.Doing.{Doing}

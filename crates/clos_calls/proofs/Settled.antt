@@ -1,5 +1,6 @@
 -- Parameters whose values are there are bound before the next that has an init form.
 use Rattle.std.proofs.Common.{◌≡◌, ℕ, List, [], ◌∷◌, ◌++◌, Bool, true, false, Option, Some, None, Result, Ok, Err, length, drop, refl, ap, sym, ◌∙◌}
+use Rattle.std.specs.Global.{Box}
 use Rattle.std.specs.Prelude.{if◌then◌else◌, ◌&&◌, is_none}
 use Rattle.std.proofs.lemmas.List.{append-nil}
 use Rattle.lisp_data.specs.Name.{Name}
@@ -16,13 +17,14 @@ use Rattle.clos_machine.specs.clos_world.declared.condition.ConditionKind.TheVar
 use Rattle.clos_machine.specs.clos_world.declared.condition.Stop.{Stop}
 use Rattle.clos_machine.specs.clos_world.declared.condition.Stop.TheVariants.{Refused, Storage}
 use Rattle.clos_machine.specs.clos_meaning.Bodies.{body_run, parameters_run, restoring, scoped}
+use Rattle.clos_machine.specs.clos_meaning.Contexts.{Context}
 use Rattle.clos_machine.specs.clos_meaning.Control.{sequence}
 use Rattle.clos_machine.specs.Machine.{Binds, Leads, Settles, at, given_to, inside, resume, settled, under}
 use Rattle.clos_machine.specs.clos_meaning.Meaning.{closed, meaning}
 use Rattle.clos_machine.specs.clos_meaning.Outcome.{Out, Stopped, Eval, then_do, stopped}
 use Rattle.clos_machine.specs.clos_meaning.Parameters.{Sources, argument, refused, init, is_empty, key_sources, optional_sources, required_sources, requires_only, rest_sources, sources}
 use Rattle.clos_machine.specs.clos_meaning.Variables.{inner}
-use Rattle.clos_machine.specs.clos_meaning.declared.arguments.Context.{Context}
+use Rattle.clos_machine.specs.declared.machine.Defaulted.{Defaulted}
 use Rattle.clos_machine.specs.declared.machine.Doing.{Doing}
 use Rattle.clos_machine.specs.declared.machine.Frame.TheVariants.{Bind}
 use Rattle.clos_machine.specs.declared.machine.Level.{Level}
@@ -69,13 +71,14 @@ settled_goes m saved outer ev env fs ps w xs ys r p e h =
     leads_same (under (record m { locals = xs }) saved outer (parameters_run ev env ys fs)) (under m saved outer (parameters_run ev env ps fs)) w r p
     (λ t. sym (settles m.levels saved outer ev env fs w t ps m.locals ∙ ap (from m.levels saved outer ev env fs w t) e)) h
 
-pub init_begins : (m : Machine) (saved : Context) (outer : List Local) (x : Name) (f : Form) (ps : Sources) (fs : Forms) (w : State) (t : ℕ)
-    → closed (resume (record { frame = Bind x ps fs saved outer; room = m.room } ∷ m.levels) m.context (meaning m.room m.context f (at m w) t))
-    ≡ under m saved outer (parameters_run (meaning m.room) m.context ((x, init f) ∷ ps) fs) w t
-init_begins m saved outer x f ps fs w t =
-    ap (λ o. closed (resume m.levels saved o))
-    (sym (then_then (meaning m.room m.context f (at m w) t) (λ v u k. if is_global u.globals x then stopped Unsupported [] u k else parameters_run (meaning m.room) m.context ps fs (inner x v u) k)
-    (restoring outer)))
+pub init_begins : (m : Machine) (b : Box Defaulted) (d : Defaulted) (f : Form) (w : State) (t : ℕ) → b.value ≡ d
+    → closed (resume (record { frame = Bind b; room = m.room } ∷ m.levels) m.context (meaning m.room m.context f (at m w) t))
+    ≡ under m d.saved d.outer (parameters_run (meaning m.room) m.context ((d.name, init f) ∷ d.plan) d.body) w t
+init_begins m b d f w t e =
+    ap (λ o. closed (resume m.levels b.value.saved o))
+    (sym (then_then (meaning m.room m.context f (at m w) t) (λ v u k. if is_global u.globals b.value.name then stopped Unsupported [] u k
+    else parameters_run (meaning m.room) m.context b.value.plan b.value.body (inner b.value.name v u) k) (restoring b.value.outer)))
+    ∙ ap (λ x. under m x.saved x.outer (parameters_run (meaning m.room) m.context ((x.name, init f) ∷ x.plan) x.body) w t) e
 
 -- one parameter
 abbrev bound_or_not : (m : Machine) (saved : Context) (outer : List Local) (x : Name) (v : Val) (ps : Sources) (fs : Forms) (w : State) (t : ℕ) → Bool → Out
@@ -83,18 +86,20 @@ bound_or_not m saved outer x v ps fs w t b =
     closed (resume m.levels saved (then_do (if b then stopped Unsupported [] (at m w) t
     else parameters_run (meaning m.room) m.context ps fs (inner x v (at m w)) t) (restoring outer)))
 
-pub parameter_stops : (m : Machine) (saved : Context) (outer : List Local) (x : Name) (v : Val) (ps : Sources) (fs : Forms) (w : State) (d : Condition)
-    → true ≡ is_global w.globals x → d ≡ record { kind = Unsupported; items = [] } → (t : ℕ) → given_to m (Bind x ps fs saved outer) v w t ≡ Stopped d (unbound w) t
-parameter_stops m saved outer x v ps fs w d e k t =
-    sym (ap (bound_or_not m saved outer x v ps fs w t) e) ∙ stopped_through m.levels saved (record { kind = Unsupported; items = [] }) (at m w) t
-    ∙ ap (λ c. Stopped c (unbound w) t) (sym k)
+pub parameter_stops : (m : Machine) (b : Box Defaulted) (v : Val) (w : State) (d : Condition)
+    → true ≡ is_global w.globals b.value.name → d ≡ record { kind = Unsupported; items = [] } → (t : ℕ) → given_to m (Bind b) v w t ≡ Stopped d (unbound w) t
+parameter_stops m b v w d e k t =
+    sym (ap (bound_or_not m b.value.saved b.value.outer b.value.name v b.value.plan b.value.body w t) e)
+    ∙ stopped_through m.levels b.value.saved (record { kind = Unsupported; items = [] }) (at m w) t ∙ ap (λ c. Stopped c (unbound w) t) (sym k)
 
-pub parameter_bound : (m : Machine) (saved : Context) (outer : List Local) (x : Name) (v : Val) (ps : Sources) (fs : Forms) (w : State) (r : Result Doing Stop) (p : Machine)
-    → false ≡ is_global w.globals x → Leads (under (record m { locals = (x, held v) ∷ m.locals }) saved outer (parameters_run (meaning m.room) m.context ps fs)) w r p
-    → Leads (given_to m (Bind x ps fs saved outer) v) w r p
-parameter_bound m saved outer x v ps fs w r p e h =
-    leads_same (under (record m { locals = (x, held v) ∷ m.locals }) saved outer (parameters_run (meaning m.room) m.context ps fs))
-    (given_to m (Bind x ps fs saved outer) v) w r p (λ t. ap (bound_or_not m saved outer x v ps fs w t) e) h
+pub parameter_bound : (m : Machine) (b : Box Defaulted) (d : Defaulted) (v : Val) (w : State) (r : Result Doing Stop) (p : Machine) → b.value ≡ d
+    → false ≡ is_global w.globals d.name → Leads (under (record m { locals = (d.name, held v) ∷ m.locals }) d.saved d.outer (parameters_run (meaning m.room) m.context d.plan d.body)) w r p
+    → Leads (given_to m (Bind b) v) w r p
+parameter_bound m b d v w r p same e h =
+    leads_same (under (record m { locals = (d.name, held v) ∷ m.locals }) d.saved d.outer (parameters_run (meaning m.room) m.context d.plan d.body))
+    (given_to m (Bind b) v) w r p
+    (λ t. ap (bound_or_not m d.saved d.outer d.name v d.plan d.body w t) e
+    ∙ ap (λ x. bound_or_not m x.saved x.outer x.name v x.plan x.body w t (is_global w.globals x.name)) (sym same)) h
 
 -- a body in a context of its own
 pub planned : (m : Machine) (saved env : Context) (outer xs : List Local) (ctx : Context) (ps : Sources) (fs : Forms) (w : State) (r : Result Doing Stop) (p : Machine)

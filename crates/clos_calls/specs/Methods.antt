@@ -5,9 +5,9 @@ use Rattle.clos_lambda.specs.declared.lambda_list.LambdaList.{LambdaList}
 use Rattle.clos_machine.specs.clos_world.declared.condition.ConditionKind.TheVariants.{ProgramError}
 use Rattle.clos_machine.specs.clos_meaning.Bodies.{body_run}
 use Rattle.clos_machine.specs.clos_meaning.Calls.{keys_are_even}
+use Rattle.clos_machine.specs.clos_meaning.Contexts.{Context}
 use Rattle.clos_machine.specs.clos_meaning.Outcome.{Run, Eval, stopped}
 use Rattle.clos_machine.specs.clos_meaning.Parameters.{sources}
-use Rattle.clos_machine.specs.clos_meaning.declared.arguments.Context.{Context}
 
 -- the forms of a method, with the parameters of this lambda list
 abbrev pub forms_run : Eval → Context → LambdaList → Forms → Run

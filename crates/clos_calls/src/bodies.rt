@@ -14,7 +14,7 @@ ghost use Rattle.clos_machine.specs.declared.machine.Frame.TheVariants.{Bind, Bo
 use clos_forms::{Form, Forms};
 use clos_lambda::LambdaList;
 use clos_machine::locals::{Locals, bind, settle};
-use clos_machine::machine::{Doing, Frame, Level, Machine};
+use clos_machine::machine::{Defaulted, Doing, Frame, Level, Machine};
 use clos_machine::moves::{done, split};
 use clos_machine::parameters::{ParameterPlan, plan_for, requires_only};
 use clos_machine::truth::nil;
@@ -40,7 +40,7 @@ pub fn run_body(
         let names = lambda_list.required.as_slice();
         return run_bound(alloc, machine, world, context, names, body);
     }
-    let plan = plan_for(alloc, lambda_list, context.arguments.as_slice())?;
+    let plan = plan_for(alloc, lambda_list, context.arguments().as_slice())?;
     run_planned(alloc, machine, world, context, plan, body)
 }
 
@@ -82,7 +82,19 @@ fn bind_parameters(
         Ok(Some((name, form))) => {
             let room = machine.room;
             let body = body.copy()?;
-            let frame = Frame::Bind(name, plan, body, saved, outer);
+            let Ok(defaulted) = Box::new(
+                alloc,
+                Defaulted {
+                    name,
+                    plan,
+                    body,
+                    saved,
+                    outer,
+                },
+            ) else {
+                return Err(Stop::Storage);
+            };
+            let frame = Frame::Bind(defaulted);
             machine.levels.push(Level { frame, room })?;
             Ok(Doing::Start(form))
         }
@@ -94,22 +106,25 @@ pub fn next_parameter(
     alloc: Global,
     machine: &mut Machine,
     world: &World,
-    name: Name,
-    plan: ParameterPlan,
-    body: &Forms,
-    saved: Context,
-    outer: Locals,
+    defaulted: Box<Defaulted>,
     value: Value,
 ) -> Result<Doing, Stop>
-    ensures leads { Leads (given_to machine.old (Bind name plan body.now saved outer) (value_of value)) (seen world.now)
+    ensures leads { Leads (given_to machine.old (Bind defaulted) (value_of value)) (seen world.now)
         result machine.new }
     ensures small { Grows value_weight machine.old.levels result machine.new }
 {
+    let Defaulted {
+        name,
+        plan,
+        body,
+        saved,
+        outer,
+    } = Box::into_inner(defaulted);
     if world.globals.has(&name) {
         return Err(Stop::Refused(plain(alloc, ConditionKind::Unsupported)));
     }
     machine.locals.push(name, value)?;
-    bind_parameters(alloc, machine, world, plan, body, saved, outer)
+    bind_parameters(alloc, machine, world, plan, &body, saved, outer)
 }
 
 /// A body runs in this context, with required parameters of these names bound to the arguments and no other variables.
@@ -125,7 +140,7 @@ fn run_bound(
         (required_sources names.now context.arguments) body.now)) (seen world.now) result machine.new }
     ensures small { Grows value_weight machine.old.levels result machine.new }
 {
-    match bind(alloc, world, names, context.arguments.as_slice()) {
+    match bind(alloc, world, names, context.arguments().as_slice()) {
         Err(stop) => Err(stop),
         Ok(locals) => run_scoped(machine, context, locals, body),
     }

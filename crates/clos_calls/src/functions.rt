@@ -169,7 +169,7 @@ fn call_function(
         return Err(Stop::Refused(plain(alloc, ConditionKind::ProgramError)));
     }
     let arguments = Arguments::new(alloc, values)?;
-    let context = Context::of_function(arguments);
+    let context = Context::of_function(alloc, arguments)?;
     run_body(
         alloc,
         machine,

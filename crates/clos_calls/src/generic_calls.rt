@@ -134,7 +134,7 @@ fn run_combined(
     match &found.outcome {
         Outcome::Effective(form) => {
             let next = form.copy()?;
-            let context = Context::of_call(Dispatch::new(id, found), arguments);
+            let context = Context::of_call(alloc, Dispatch::new(id, found), arguments)?;
             enter_effect(alloc, machine, context, next)
         }
         Outcome::InvalidMethod(method) => {

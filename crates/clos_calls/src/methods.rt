@@ -36,7 +36,7 @@ pub fn call_method(
 {
     match method {
         CalledMethod::Method(id) => {
-            let arguments = machine.context.arguments.copy()?;
+            let arguments = machine.context.arguments().copy()?;
             run_method(alloc, machine, world, arguments, *id, next, forms)
         }
         CalledMethod::Made => run_made(alloc, machine, world, forms),
@@ -113,7 +113,7 @@ fn run_method_body(
 {
     match body {
         MethodBody::Forms(lambda_list, body) => {
-            let context = body_context(machine, arguments, id, next, forms)?;
+            let context = body_context(alloc, machine, arguments, id, next, forms)?;
             run_forms(alloc, machine, world, context, lambda_list.list(), body)
         }
         MethodBody::Reader(slot) => { Ok(Doing::Perform(BuiltIn::Reader(slot.copy()?), arguments)) }
@@ -126,6 +126,7 @@ fn run_method_body(
 
 /// The context of the body of a method that runs for the machine's call.
 fn body_context(
+    alloc: Global,
     machine: &Machine,
     arguments: Arguments,
     id: MethodId,
@@ -134,22 +135,12 @@ fn body_context(
 ) -> Result<Context, AllocError>
     ensures { IfOk result (λ r. r ≡ running id.0 next.now forms.now (with_arguments arguments machine.now.context)) }
 {
-    let context = machine.context.with_arguments(arguments)?;
-    let Context {
-        arguments,
-        call,
-        running: _,
-    } = context;
     let running = Running {
         method: id,
         next: next.copy()?,
         forms: forms.copy()?,
     };
-    Ok(Context {
-        arguments,
-        call,
-        running: Some(running),
-    })
+    machine.context.with_running(alloc, arguments, running)
 }
 
 /// The forms of a method run in this context, unless its keyword parameters have an argument too few.
@@ -166,7 +157,7 @@ fn run_forms(
         result machine.new }
     ensures small { Grows value_weight machine.old.levels result machine.new }
 {
-    if !keys_are_even(lambda_list, context.arguments.as_slice()) {
+    if !keys_are_even(lambda_list, context.arguments().as_slice()) {
         return Err(Stop::Refused(plain(alloc, ConditionKind::ProgramError)));
     }
     run_body(alloc, machine, world, context, lambda_list, body)

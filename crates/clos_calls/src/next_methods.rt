@@ -29,7 +29,7 @@ use std::alloc::{AllocError, Global};
 pub fn has_next(machine: &Machine) -> bool
     ensures { result ≡ has_next machine.now.context.running }
 {
-    match &machine.context.running {
+    match machine.context.running() {
         None => false,
         Some(running) => running.next.first().is_some(),
     }
@@ -50,7 +50,7 @@ pub fn call_next_method(
     match forms.split_first() {
         Some(_) => collect_next(machine, Action::CallNext, forms, Values::new(alloc)),
         None => {
-            let arguments = machine.context.arguments.copy()?;
+            let arguments = machine.context.arguments().copy()?;
             run_next(alloc, machine, world, arguments)
         }
     }
@@ -88,9 +88,9 @@ fn permit(alloc: Global, machine: &Machine, world: &mut World, values: &[Value])
     ensures kept { KeptAfter (asked_of (seen world.old) machine.now.context.running machine.now.context.call
         (map value_of values.now)) result (uses_of world.old) (uses_of world.new) }
 {
-    match &machine.context.running {
+    match machine.context.running() {
         None => Err(Stop::Refused(plain(alloc, ConditionKind::ProgramError))),
-        Some(running) => match &machine.context.call {
+        Some(running) => match machine.context.call() {
             None => Err(Stop::Refused(plain(alloc, ConditionKind::ProgramError))),
             Some(call) => permit_in(alloc, world, running.method, call, values),
         },
@@ -158,7 +158,7 @@ fn run_next(
         result machine.new }
     ensures small { Grows perform_weight machine.old.levels result machine.new }
 {
-    let Some(running) = &machine.context.running else {
+    let Some(running) = machine.context.running() else {
         return Err(Stop::Refused(plain(alloc, ConditionKind::ProgramError)));
     };
     match running.next.first() {
@@ -192,7 +192,7 @@ fn run_made_with(
     match split(forms)? {
         None => Err(Stop::Refused(plain(alloc, ConditionKind::ProgramError))),
         Some((first, _)) => {
-            let context = machine.context.with_arguments(arguments)?;
+            let context = machine.context.with_arguments(alloc, arguments)?;
             enter_effect(alloc, machine, context, first)
         }
     }
@@ -212,7 +212,7 @@ fn call_none(
     ensures small { Grows perform_weight machine.now.levels result machine.now }
 {
     let _ = world;
-    match &machine.context.call {
+    match machine.context.call() {
         None => Err(Stop::Refused(plain(alloc, ConditionKind::ProgramError))),
         Some(call) => {
             let values = none_arguments(alloc, call, id, arguments)?;

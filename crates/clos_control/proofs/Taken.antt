@@ -8,11 +8,11 @@ use Rattle.clos_forms.specs.Operator.{Operator}
 use Rattle.clos_machine.specs.clos_world.Globals.{global_value}
 use Rattle.clos_machine.specs.clos_world.World.{State, Denoted, held, in_slot, local_named}
 use Rattle.clos_machine.specs.Machine.{Leads, Turns, Took, at, at_once, inside, resume, acted}
+use Rattle.clos_machine.specs.clos_meaning.Contexts.{Context}
 use Rattle.clos_machine.specs.clos_meaning.Meaning.{closed, collect, meaning, operated}
 use Rattle.clos_machine.specs.clos_meaning.Outcome.{Eval, Gave, then_do}
 use Rattle.clos_machine.specs.clos_meaning.SlotNames.{name_read, place_denoted, slot_place}
 use Rattle.clos_machine.specs.clos_meaning.Variables.{found_value, or_global, variable_value}
-use Rattle.clos_machine.specs.clos_meaning.declared.arguments.Context.{Context}
 use Rattle.clos_machine.specs.declared.machine.Action.{Action}
 use Rattle.clos_machine.specs.declared.machine.Doing.{Doing}
 use Rattle.clos_machine.specs.declared.machine.Machine.{Machine}

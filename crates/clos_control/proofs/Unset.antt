@@ -10,10 +10,10 @@ use Rattle.clos_machine.specs.clos_world.declared.condition.ConditionKind.TheVar
 use Rattle.clos_machine.specs.clos_world.declared.condition.Stop.{Stop}
 use Rattle.clos_machine.specs.clos_world.declared.condition.Stop.TheVariants.{Refused, Storage}
 use Rattle.clos_machine.specs.Machine.{at, inside, resume, unset, unset_aside, Skips, Leads}
+use Rattle.clos_machine.specs.clos_meaning.Contexts.{Context}
 use Rattle.clos_machine.specs.clos_meaning.Meaning.{closed}
 use Rattle.clos_machine.specs.clos_meaning.Outcome.{Out, Stopped, Run, Eval, stopped}
 use Rattle.clos_machine.specs.clos_meaning.Variables.{binding, init_form, in_order, aside}
-use Rattle.clos_machine.specs.clos_meaning.declared.arguments.Context.{Context}
 use Rattle.clos_machine.specs.declared.machine.Level.{Level}
 use Rattle.clos_machine.specs.declared.machine.Machine.{Machine}
 use Rattle.clos_machine.proofs.Turns.{stopped_through}

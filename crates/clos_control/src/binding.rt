@@ -12,7 +12,7 @@ ghost use Rattle.clos_machine.specs.clos_meaning.Variables.{in_order, binding, w
 use clos_forms::{Bindings, Forms};
 use clos_machine::counter::Counter;
 use clos_machine::locals::{Locals, Plan, bind_unset, put_unset_aside};
-use clos_machine::machine::{Doing, Frame, Machine, Repetition};
+use clos_machine::machine::{Beside, Doing, Frame, Machine, Repetition};
 use clos_machine::moves::{begin, split};
 use clos_machine::truth::nil;
 use clos_machine::{ConditionKind, Stop, World, about, plain};
@@ -220,7 +220,19 @@ fn aside_next(
         Some(name) => match split(forms)? {
             None => Err(Stop::Refused(plain(alloc, ConditionKind::ProgramError))),
             Some((init, rest)) => {
-                let frame = Frame::Aside(outer, locals, name, plan, rest);
+                let Ok(beside) = Box::new(
+                    alloc,
+                    Beside {
+                        outer,
+                        locals,
+                        name,
+                        plan,
+                        forms: rest,
+                    },
+                ) else {
+                    return Err(Stop::Storage);
+                };
+                let frame = Frame::Aside(beside);
                 begin(machine, init, frame)
             }
         },
@@ -270,20 +282,23 @@ pub fn next_aside(
     alloc: Global,
     machine: &mut Machine,
     world: &World,
-    outer: usize,
-    mut locals: Locals,
-    name: Name,
-    plan: Plan,
-    forms: &Forms,
+    beside: Box<Beside>,
     value: Value,
 ) -> Result<Doing, Stop>
-    ensures leads { (run : Run) → ((t : ℕ) → aside (meaning machine.old.room) machine.old.context outer plan forms.now
-        ((name, held (value_of value)) ∷ locals) (at machine.old (seen world.now)) t ≡ run
-        (at machine.old (seen world.now)) t) → Leads (inside machine.old run) (seen world.now) result machine.new }
+    ensures leads { (run : Run) → ((t : ℕ) → aside (meaning machine.old.room) machine.old.context beside.value.outer
+        beside.value.plan beside.value.forms ((beside.value.name, held (value_of value)) ∷ beside.value.locals)
+        (at machine.old (seen world.now)) t ≡ run (at machine.old (seen world.now)) t) → Leads (inside machine.old run) (seen world.now) result machine.new }
     ensures small { Grows value_weight machine.old.levels result machine.new }
 {
+    let Beside {
+        outer,
+        mut locals,
+        name,
+        plan,
+        forms,
+    } = Box::into_inner(beside);
     locals.push(name, value)?;
-    set_aside(alloc, machine, world, outer, locals, plan, forms)
+    set_aside(alloc, machine, world, outer, locals, plan, &forms)
 }
 
 /// The form of the number of turns of a loop.
@@ -308,6 +323,9 @@ pub fn start_loop(
                 has_result,
                 forms,
             };
+            let Ok(repetition) = Box::new(alloc, repetition) else {
+                return Err(Stop::Storage);
+            };
             begin(machine, count, Frame::Count(repetition))
         }
     }
@@ -319,11 +337,11 @@ pub fn repeat(
     alloc: Global,
     machine: &mut Machine,
     world: &World,
-    repetition: Repetition,
+    repetition: Box<Repetition>,
     value: Value,
 ) -> Result<Doing, Stop>
     ensures leads { (run : Run) → ((t : ℕ) → repeated (meaning machine.old.room) machine.old.context
-        (loop_of repetition) (value_of value) (at machine.old (seen world.now)) t ≡ run
+        (loop_of repetition.value) (value_of value) (at machine.old (seen world.now)) t ≡ run
         (at machine.old (seen world.now)) t) → Leads (inside machine.old run) (seen world.now) result machine.new }
     ensures small { Grows turn_weight machine.old.levels result machine.new }
 {
@@ -373,13 +391,13 @@ fn body_of(repetition: &Repetition) -> &Forms
 #[tactic(auto, using(clos_machine::proofs::Turns::then_then))]
 pub fn continue_turn(
     machine: &mut Machine,
-    repetition: Repetition,
+    repetition: Box<Repetition>,
     counter: Counter,
     forms: &Forms,
     value: Value,
 ) -> Result<Doing, Stop>
     ensures leads { Does (λ ev env u k. then_do (sequence ev env forms.now (value_of value) u k)
-        (λ v. turns ev env (loop_of repetition) counter.0 counter.1)) machine.old result machine.new }
+        (λ v. turns ev env (loop_of repetition.value) counter.0 counter.1)) machine.old result machine.new }
     ensures small { Grows turn_weight machine.old.levels result machine.new }
 {
     match split(forms)? {
@@ -392,9 +410,13 @@ pub fn continue_turn(
 }
 
 /// The body of a loop, and then the next turn.
-fn run_turn(machine: &mut Machine, repetition: Repetition, counter: Counter) -> Result<Doing, Stop>
-    ensures leads { Does (λ ev env u k. then_do (sequence ev env (body_of repetition.has_result repetition.forms)
-        (list nil) u k) (λ v. turns ev env (loop_of repetition) counter.0 counter.1)) machine.old result machine.new }
+fn run_turn(
+    machine: &mut Machine,
+    repetition: Box<Repetition>,
+    counter: Counter,
+) -> Result<Doing, Stop>
+    ensures leads { Does (λ ev env u k. then_do (sequence ev env (body_of repetition.value.has_result repetition.value.forms)
+        (list nil) u k) (λ v. turns ev env (loop_of repetition.value) counter.0 counter.1)) machine.old result machine.new }
     ensures small { Grows turn_weight machine.old.levels result machine.new }
 {
     let body = body_of(&repetition).copy()?;
@@ -404,14 +426,14 @@ fn run_turn(machine: &mut Machine, repetition: Repetition, counter: Counter) -> 
 /// A turn begins: the variable is set to the number of turns done.
 fn begin_turn(
     machine: &mut Machine,
-    repetition: Repetition,
+    repetition: Box<Repetition>,
     counter: &Counter,
     next: Counter,
 ) -> Result<Doing, Stop>
     ensures leads { (run : Run) (w : State) → ((t : ℕ) → then_do (sequence (meaning machine.old.room)
-        machine.old.context (body_of repetition.has_result repetition.forms) (list nil)
-        (counted (loop_of repetition) (pos counter.now.1) (at machine.old w)) t)
-        (λ v. turns (meaning machine.old.room) machine.old.context (loop_of repetition) next.0 next.1) ≡ run
+        machine.old.context (body_of repetition.value.has_result repetition.value.forms) (list nil)
+        (counted (loop_of repetition.value) (pos counter.now.1) (at machine.old w)) t)
+        (λ v. turns (meaning machine.old.room) machine.old.context (loop_of repetition.value) next.0 next.1) ≡ run
         (at machine.old w) t) → Leads (inside machine.old run) w result machine.new }
     ensures small { Grows turn_weight machine.old.levels result machine.new }
 {
@@ -462,11 +484,11 @@ pub fn turn(
     alloc: Global,
     machine: &mut Machine,
     world: &World,
-    repetition: Repetition,
+    repetition: Box<Repetition>,
     counter: Counter,
     steps: &mut u64,
 ) -> Result<Doing, Stop>
-    ensures turns { Turns (here machine.old (λ ev env. turns ev env (loop_of repetition) counter.0 counter.1))
+    ensures turns { Turns (here machine.old (λ ev env. turns ev env (loop_of repetition.value) counter.0 counter.1))
         (seen world.now) steps.old result machine.new (seen world.now) steps.new }
     ensures small { Shrinks turn_weight steps.old steps.new machine.old.levels result machine.new }
     ensures fewer { steps.new ≤ steps.old }

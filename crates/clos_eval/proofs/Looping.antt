@@ -3,7 +3,6 @@ use Rattle.std.specs.Prelude.{ℤ}
 use Rattle.std.proofs.Common.{◌≡◌, ℕ, ◌+◌, List, [], ◌∷◌, ◌++◌, Some, Result, Ok, Err, ap, append-nil, arith, refl, subst, sym, ◌∙◌}
 use Rattle.lisp_data.specs.ValueView.{value_of}
 use Rattle.clos_forms.specs.Form.{Form}
-use Rattle.clos_machine.specs.clos_meaning.declared.arguments.Context.{Context}
 use Rattle.lisp_data.specs.declared.value.Value.{Value}
 use Rattle.clos_machine.specs.clos_world.Uses.{uses_of}
 use Rattle.clos_machine.specs.clos_world.World.{Local, State, seen, unbound}
@@ -11,7 +10,7 @@ use Rattle.clos_machine.specs.clos_world.declared.condition.Stop.{Stop}
 use Rattle.clos_machine.specs.clos_world.declared.tables.World.{World}
 use Rattle.clos_machine.specs.Machine.{Asks, Leads, Reached, Turns, at, denote, given_to, resume}
 use Rattle.clos_machine.specs.Uses.{Made, Notes, TurnsBy}
-use Rattle.clos_machine.specs.clos_meaning.Contexts.{known}
+use Rattle.clos_machine.specs.clos_meaning.Contexts.{Context, known}
 use Rattle.clos_machine.specs.clos_meaning.Host.{Host, answered_by}
 use Rattle.clos_machine.specs.clos_meaning.Meaning.{closed, evaluation}
 use Rattle.clos_machine.specs.clos_meaning.Outcome.{Gave, Given, Run}

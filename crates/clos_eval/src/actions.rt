@@ -4,13 +4,13 @@ ghost use Rattle.clos_machine.specs.clos_world.Uses.{uses_of};
 ghost use Rattle.clos_machine.specs.clos_world.World.{seen};
 ghost use Rattle.clos_machine.specs.Uses.{TurnsBy};
 ghost use Rattle.clos_machine.specs.clos_meaning.Functions.{called, place_read, place_set};
-ghost use Rattle.clos_machine.specs.Machine.{access_of, acted, act_weight, action_weight, perform_weight, performed, Shrinks, here, visited};
+ghost use Rattle.clos_machine.specs.Machine.{access_of, acted, act_weight, action_weight, perform_weight, performed, Shrinks, here, task_weight, tended, visited};
 
 use clos_calls::functions::{call, call_setter, compute};
 use clos_calls::next_methods::call_next_given;
 use clos_control::output::{end_line, print};
 use clos_forms::{CalledName, Callee, SlotFunction};
-use clos_machine::machine::{Action, BuiltIn, Doing, Machine, Target, Visit};
+use clos_machine::machine::{Action, BuiltIn, Doing, InstanceTask, Machine, Target, Visit};
 use clos_machine::{Arguments, Stop, Values, World};
 use clos_objects::class_change::{change_class, change_to};
 use clos_objects::creation::{allocate, initialize, make_instance};
@@ -165,6 +165,31 @@ fn visit(
     }
 }
 
+/// What is to be done with an instance.
+#[tactic(auto, using(clos_machine::proofs::Uses::turns_none, clos_machine::proofs::Uses::turns_none_of, clos_machine::proofs::Uses::turns_by, clos_machine::proofs::Turns::shrinks_by, crate::proofs::Calling::shrinks_more))]
+pub fn tend(
+    alloc: Global,
+    machine: &mut Machine,
+    world: &mut World,
+    task: InstanceTask,
+    steps: &mut u64,
+) -> Result<Doing, Stop>
+    ensures turns { TurnsBy (here machine.old (λ ev env. tended ev env task)) (seen world.old) steps.old
+        (uses_of world.old) result machine.new (seen world.new) steps.new (uses_of world.new) }
+    ensures small { Shrinks (task_weight task) steps.old steps.new machine.old.levels result machine.new }
+    ensures fewer { steps.new ≤ steps.old }
+{
+    match task {
+        InstanceTask::Fill(filling) => fill(alloc, machine, world, filling, steps),
+        InstanceTask::FillWith(filling, value) => {
+            fill_with(alloc, machine, world, filling, value, steps)
+        }
+        InstanceTask::Visit(id, purpose) => {
+            visit(alloc, machine, world, id, Box::into_inner(purpose), steps)
+        }
+    }
+}
+
 /// An action is done with its values.
 #[tactic(auto, using(clos_machine::proofs::Uses::turns_none, clos_machine::proofs::Uses::turns_none_of, clos_machine::proofs::Uses::turns_by, clos_machine::proofs::Turns::shrinks_by, crate::proofs::Calling::shrinks_more))]
 pub fn act(
@@ -191,7 +216,7 @@ pub fn act(
         Action::Amount(primitive, target, form) => {
             with_amount(
                 machine,
-                Action::ChangePlace(primitive, target),
+                Action::ChangePlace(primitive, Box::into_inner(target)),
                 &form,
                 values,
             )
@@ -205,11 +230,6 @@ pub fn act(
         Action::Initialize(class, effective, id) => {
             initialize(alloc, machine, world, class, &effective, id, values)
         }
-        Action::Fill(filling) => fill(alloc, machine, world, filling, steps),
-        Action::FillWith(filling, value) => {
-            fill_with(alloc, machine, world, filling, value, steps)
-        }
-        Action::Visit(id, task) => visit(alloc, machine, world, id, task, steps),
         Action::Read(target) => read_place(alloc, machine, world, &target, values, steps),
         Action::CallNext => call_next_given(alloc, machine, world, values),
     }

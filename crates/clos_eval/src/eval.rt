@@ -4,7 +4,7 @@ ghost use Rattle.lisp_data.specs.ValueView.{value_of};
 ghost use Rattle.clos_machine.specs.clos_meaning.Meaning.{evaluation};
 ghost use Rattle.clos_eval.specs.Evaluation.{GoesOn, Performs, followed};
 
-use crate::actions::{act, perform};
+use crate::actions::{act, perform, tend};
 use crate::forms::begin_form;
 use crate::frames::give;
 use crate::host::Natives;
@@ -39,7 +39,9 @@ pub fn evaluate<N: Natives>(
     let Ok(arguments) = Arguments::new(alloc, Values::new(alloc)) else {
         return Err(Stop::Storage);
     };
-    let context = Context::of_function(arguments);
+    let Ok(context) = Context::of_function(alloc, arguments) else {
+        return Err(Stop::Storage);
+    };
     let levels = Levels::new(alloc);
     let mut machine = Machine {
         levels,
@@ -64,6 +66,7 @@ pub fn evaluate<N: Natives>(
             Doing::Turn(repetition, counter) => {
                 turn(alloc, &mut machine, world, repetition, counter, steps)
             }
+            Doing::Tend(task) => tend(alloc, &mut machine, world, task, steps),
             Doing::Native(values) => {
                 call_native(alloc, &machine, natives, answers, &values, steps)
             }

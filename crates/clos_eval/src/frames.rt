@@ -9,7 +9,7 @@ use clos_control::arguments::next_value;
 use clos_control::binding::{continue_turn, continue_within, next_aside, next_variable, repeat};
 use clos_control::control::{clause_tested, follow, keep};
 use clos_control::slot_names::bind_slots;
-use clos_machine::machine::{Action, Doing, Frame, Machine};
+use clos_machine::machine::{Doing, Frame, InstanceTask, Machine};
 use clos_machine::truth::is_true;
 use clos_machine::{Stop, Values, World};
 use clos_objects::creation::next_default;
@@ -37,20 +37,12 @@ pub fn give(
         Frame::Body(rest, saved, outer) => {
             next_of_body(machine, world, &rest, saved, outer, value)
         }
-        Frame::Bind(name, plan, body, saved, outer) => {
-            next_parameter(
-                alloc, machine, world, name, plan, &body, saved, outer, value,
-            )
-        }
+        Frame::Bind(defaulted) => next_parameter(alloc, machine, world, defaulted, value),
         Frame::Scope(outer, rest) => continue_within(machine, outer, &rest, value),
         Frame::InOrder(outer, name, plan, rest) => {
             next_variable(alloc, machine, world, outer, name, plan, &rest, value)
         }
-        Frame::Aside(outer, locals, name, plan, rest) => {
-            next_aside(
-                alloc, machine, world, outer, locals, name, plan, &rest, value,
-            )
-        }
+        Frame::Aside(beside) => next_aside(alloc, machine, world, beside, value),
         Frame::Count(repetition) => repeat(alloc, machine, world, repetition, value),
         Frame::Turn(repetition, counter, rest) => {
             continue_turn(machine, repetition, counter, &rest, value)
@@ -63,13 +55,8 @@ pub fn give(
         Frame::Default(class, effective, place, initargs) => {
             next_default(alloc, machine, class, effective, place, initargs, value)
         }
-        Frame::Filled(filling) => Ok(Doing::Act(
-            Action::FillWith(filling, value),
-            Values::new(alloc),
-        )),
-        Frame::Updated(id, visit) => {
-            Ok(Doing::Act(Action::Visit(id, visit), Values::new(alloc)))
-        }
+        Frame::Filled(filling) => { Ok(Doing::Tend(InstanceTask::FillWith(filling, value))) },
+        Frame::Updated(id, visit) => Ok(Doing::Tend(InstanceTask::Visit(id, visit))),
         Frame::Truth => Ok(Doing::Give(truth(is_true(&value)))),
         Frame::Slots(form, body) => bind_slots(alloc, machine, &form, &body, &value),
     }

@@ -58,7 +58,7 @@ fn named_place<'a>(alloc: Global, name: &Name, rest: &'a Data) -> Result<Shape<'
     if is_special_operator(name) || is_definition(name) {
         return Err(SyntaxFault::Program);
     }
-    let place = Place::Call(CalledName::new(name.copy()?));
+    let place = Place::Call(CalledName::new(alloc, name.copy()?)?);
     Ok(operation(alloc, Operator::Place(place), rest)?)
 }
 

@@ -129,7 +129,7 @@ fn call_shape<'a>(
     if calls_method(context, name) {
         return call_method_shape(alloc, rest);
     }
-    let called = CalledName::new(name.copy()?);
+    let called = CalledName::new(alloc, name.copy()?)?;
     Ok(operation(alloc, Operator::Call(called), rest)?)
 }
 

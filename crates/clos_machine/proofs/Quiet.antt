@@ -12,23 +12,23 @@ use Rattle.clos_meaning.specs.clos_world.clos_class.clos_syntax.declared.class.D
 use Rattle.clos_meaning.specs.clos_world.clos_class.declared.effective_slots.EffectiveSlot.{EffectiveSlot}
 use Rattle.clos_forms.specs.clos_names.Callee.{callee_of}
 use Rattle.clos_meaning.specs.Bodies.{parameters_run}
+use Rattle.clos_meaning.specs.Contexts.{Context}
 use Rattle.clos_meaning.specs.Control.{clauses, sequence}
 use Rattle.clos_meaning.specs.Filling.{Subject, fill}
-use Rattle.clos_machine.specs.Machine.{access_of, acted, at, below, after, default_given, doing_run, fill_with, followed, initargs_in, names_in, resume, denote, loop_of, performed, slot_names, slot_visited, slots_left, subject_of, targets, visited}
+use Rattle.clos_machine.specs.Machine.{access_of, acted, at, below, after, default_given, doing_run, fill_with, followed, initargs_in, names_in, resume, denote, loop_of, performed, slot_names, slot_visited, slots_left, subject_of, tended, targets, visited}
 use Rattle.clos_meaning.specs.Meaning.{alone, changed_place, collect, meaning}
 use Rattle.clos_meaning.specs.Functions.{place_set}
 use Rattle.clos_meaning.specs.Outcome.{leaves, Eval, Out, then_do, is_true}
 use Rattle.clos_meaning.specs.SlotNames.{place_denoted}
 use Rattle.clos_meaning.specs.Variables.{binding, in_order, turns}
-use Rattle.clos_meaning.specs.declared.arguments.Context.{Context}
 use Rattle.clos_machine.specs.declared.machine.Action.{Action}
-use Rattle.clos_machine.specs.declared.machine.Action.TheVariants.{Call, Set, Store, Change, NewValue, Amount, ChangePlace, Allocate, Initialize, Fill, FillWith, Visit, Read, CallNext}
+use Rattle.clos_machine.specs.declared.machine.Action.TheVariants.{Call, Set, Store, Change, NewValue, Amount, ChangePlace, Allocate, Initialize, Read, CallNext}
 use Rattle.clos_machine.specs.declared.machine.BuiltIn.{BuiltIn}
 use Rattle.clos_machine.specs.declared.machine.BuiltIn.TheVariants.{Reader, Writer, System}
 use Rattle.clos_machine.specs.declared.machine.Control.{Control}
 use Rattle.clos_machine.specs.declared.machine.Doing.{Doing}
 use Rattle.clos_machine.specs.declared.machine.Control.TheVariants.{Progn, Prog1, If, When, Unless, And, Or}
-use Rattle.clos_machine.specs.declared.machine.Doing.TheVariants.{Start, Act, Invoke, Perform, Native, Give}
+use Rattle.clos_machine.specs.declared.machine.Doing.TheVariants.{Start, Act, Invoke, Perform, Tend, Native, Give}
 use Rattle.clos_machine.specs.declared.machine.Doing.TheVariants as doing
 use Rattle.clos_machine.specs.declared.machine.Frame.{Frame}
 use Rattle.clos_machine.specs.declared.machine.Frame.TheVariants.{Rest, Keep, Clause, Collect, Body, Bind, Scope, InOrder, Aside, Count, Turn, Setq, Setf, Changed, Default, Filled, Updated, Truth, Slots}
@@ -37,6 +37,8 @@ use Rattle.clos_machine.specs.declared.machine.SlotVisit.{SlotVisit}
 use Rattle.clos_machine.specs.declared.machine.SlotVisit.TheVariants as visits
 use Rattle.clos_machine.specs.declared.machine.Visit as visiting
 use Rattle.clos_machine.specs.declared.machine.Visit.TheVariants as visit
+use Rattle.clos_machine.specs.declared.machine.InstanceTask.{InstanceTask}
+use Rattle.clos_machine.specs.declared.machine.InstanceTask.TheVariants.{Fill, FillWith, Visit}
 use Rattle.clos_machine.specs.declared.machine.Level.{Level}
 use Rattle.clos_machine.specs.declared.machine.Machine.{Machine}
 use Rattle.clos_meaning.proofs.Kept.{Keeps, Kept, allocate_kept, amount_kept, and_kept, applied_kept, aside_kept, binding_kept, branch_kept, changed_from_kept, changed_place_kept, changed_to_kept, checked_kept, choice_kept, clauses_kept, collect_kept, defaulted_kept, fill_kept, filled_with_kept, invoked_kept, keeping_kept, meaning_kept, name_changed_kept, name_set_kept, native_kept, next_given_kept, or_kept, order_kept, parameters_kept, read_kept, reader_kept, reinitialize_instance_kept, repeated_kept, restored, sequence_kept, set_kept, setf_kept, setq_kept, slot_answer_kept, slot_put_kept, slots_filled_kept, still, system_kept, then_kept, turns_kept, where_false_kept, where_true_kept, within_kept, within_slots_kept, writer_kept}
@@ -76,14 +78,11 @@ module _ (ev : Eval) (h : Keeps ev) where
   acted_kept env (NewValue t f) vs w k =
       collect_kept ev h env (alone f) vs (λ us u j. place_set ev env (access_of t) us u j) (λ us u j. set_kept ev h env (access_of t) us u j) w k
   acted_kept env (Amount p t fs) vs w k =
-      amount_kept ev h env fs vs (λ us u j. changed_place ev env p (access_of t) (last_first us) u j)
-      (λ us u j. changed_place_kept ev h env p (access_of t) (last_first us) u j) w k
+      amount_kept ev h env fs vs (λ us u j. changed_place ev env p (access_of t.value) (last_first us) u j)
+      (λ us u j. changed_place_kept ev h env p (access_of t.value) (last_first us) u j) w k
   acted_kept env (ChangePlace p t) vs w k = changed_place_kept ev h env p (access_of t) (last_first vs) w k
   acted_kept env (Allocate c e) vs w k = allocate_kept ev h env c.0 e vs w k
   acted_kept env (Initialize c e i) vs w k = checked_kept ev h c.0 e vs i.0 w k
-  acted_kept env (Fill f) vs w k = fill_kept ev h env (subject_of f) (slots_left f) w k
-  acted_kept env (FillWith f v) vs w k = fill_with_kept env (subject_of f) (slots_left f) (value_of v) w k
-  acted_kept env (Visit i v) vs w k = visited_kept env i.0 v w k
   acted_kept env (Read t) vs w k = read_kept ev h env (access_of t) vs w k
   acted_kept env CallNext vs w k = next_given_kept ev h env env.running vs w k
 
@@ -110,25 +109,32 @@ module _ (ev : Eval) (h : Keeps ev) where
       choice_kept (is_true v) w k (sequence ev env fs v w k) (clauses ev env cs w k) (sequence_kept ev h env fs v w k) (clauses_kept ev h env cs w k)
   after_kept env (Collect action rest values) v w k = collect_acted_kept env rest (values ++ v ∷ []) action w k
   after_kept env (Body rest saved locals) v w k = restored locals w k (sequence ev env rest v w k) (sequence_kept ev h env rest v w k)
-  after_kept env (Bind name plan body saved locals) v w k =
-      restored locals w k (binding name v (parameters_run ev env plan body) w k)
-      (binding_kept name v (parameters_run ev env plan body) (λ u j. parameters_kept ev h env plan body u j) w k)
+  after_kept env (Bind b) v w k =
+      restored b.value.outer w k (binding b.value.name v (parameters_run ev env b.value.plan b.value.body) w k)
+      (binding_kept b.value.name v (parameters_run ev env b.value.plan b.value.body) (λ u j. parameters_kept ev h env b.value.plan b.value.body u j) w k)
   after_kept env (Scope outer rest) v w k = within_kept ev h env outer rest v w k
   after_kept env (InOrder outer name plan forms) v w k =
       binding_kept name v (in_order ev env outer plan forms) (λ u j. order_kept ev h env outer plan forms u j) w k
-  after_kept env (Aside outer locals name plan forms) v w k = aside_kept ev h env outer plan forms ((name, held v) ∷ locals) w k
-  after_kept env (Count l) v w k = repeated_kept ev h env (loop_of l) v w k
+  after_kept env (Aside b) v w k = aside_kept ev h env b.value.outer b.value.plan b.value.forms ((b.value.name, held v) ∷ b.value.locals) w k
+  after_kept env (Count l) v w k = repeated_kept ev h env (loop_of l.value) v w k
   after_kept env (Turn l counter rest) v w k =
-      then_kept w k (sequence ev env rest v w k) (λ u. turns ev env (loop_of l) counter.0 counter.1) (sequence_kept ev h env rest v w k)
-      (λ x u j. turns_kept ev h env (loop_of l) counter.0 counter.1 u j)
+      then_kept w k (sequence ev env rest v w k) (λ u. turns ev env (loop_of l.value) counter.0 counter.1) (sequence_kept ev h env rest v w k)
+      (λ x u j. turns_kept ev h env (loop_of l.value) counter.0 counter.1 u j)
   after_kept env (Setq f place rest) v w k = setq_kept ev h env (drop place (targets (operator_in f))) rest v w k
   after_kept env (Setf rest) v w k = setf_kept ev h env rest v w k
   after_kept env (Changed p t vs amount) v w k = changed_from_kept ev h env p (access_of t) vs (value_of amount) v w k
   after_kept env (Default c e place vs) v w k = default_given_kept env c.0 e (drop place e.defaults) vs v w k
-  after_kept env (Filled f) v w k = fill_with_kept env (subject_of f) (slots_left f) v w k
-  after_kept env (Updated i x) v w k = visited_kept env i.0 x w k
+  after_kept env (Filled f) v w k = fill_with_kept env (subject_of f.value) (slots_left f.value) v w k
+  after_kept env (Updated i x) v w k = visited_kept env i.0 x.value w k
   after_kept env Truth v w k = still w k
   after_kept env (Slots f rest) v w k = within_slots_kept ev h env (slot_names (operator_in f)) rest v w k
+
+  -- ---- instances
+
+  tended_kept : (env : Context) (t : InstanceTask) (w : State) (k : ℕ) → Kept w k (tended ev env t w k)
+  tended_kept env (Fill f) w k = fill_kept ev h env (subject_of f.value) (slots_left f.value) w k
+  tended_kept env (FillWith f v) w k = fill_with_kept env (subject_of f.value) (slots_left f.value) (value_of v) w k
+  tended_kept env (Visit i v) w k = visited_kept env i.0 v.value w k
 
   -- ---- methods without forms
 
@@ -151,7 +157,8 @@ run_kept n env (doing.Collect action fs vs) w k = collect_acted_kept (meaning n)
 run_kept n env (Act action vs) w k = acted_kept (meaning n) (meaning_kept n) env action vs w k
 run_kept n env (Invoke f vs) w k = invoked_kept (meaning n) (meaning_kept n) f vs w k
 run_kept n env (Perform b vs) w k = performed_kept (meaning n) (meaning_kept n) env b vs w k
-run_kept n env (doing.Turn l counter) w k = turns_kept (meaning n) (meaning_kept n) env (loop_of l) counter.0 counter.1 w k
+run_kept n env (doing.Turn l counter) w k = turns_kept (meaning n) (meaning_kept n) env (loop_of l.value) counter.0 counter.1 w k
+run_kept n env (Tend task) w k = tended_kept (meaning n) (meaning_kept n) env task w k
 run_kept n env (Native vs) w k = native_kept vs w k
 run_kept n env (Give v) w k = still w k
 

@@ -30,7 +30,6 @@ use Rattle.clos_meaning.specs.Control.{sequence}
 use Rattle.clos_meaning.specs.Variables.{Loop, body_of, counted, found_value, variable_value, leaving, result_value, turns}
 use Rattle.clos_meaning.specs.Outcome.{leaves, ends_in, Asked, Gave, Given, Looked, Noted, Out, Signalled, Stopped, Run, Eval, then_do, step_then, stopped}
 use Rattle.clos_meaning.specs.Output.{written, output_of, line_ended}
-use Rattle.clos_meaning.specs.declared.arguments.Context.{Context}
 use Rattle.clos_forms.specs.clos_names.declared.callee.Output.{Output}
 use Rattle.clos_machine.specs.declared.machine.Doing.{Doing}
 use Rattle.clos_machine.specs.declared.machine.Doing.TheVariants.{Start, Give}
@@ -39,7 +38,7 @@ use Rattle.clos_machine.specs.declared.machine.Machine.{Machine}
 use Rattle.clos_meaning.specs.clos_world.declared.functions.Function.{Function}
 use Rattle.clos_meaning.specs.Bodies.{body_run}
 use Rattle.clos_meaning.specs.Calls.{applied_to}
-use Rattle.clos_meaning.specs.Contexts.{known}
+use Rattle.clos_meaning.specs.Contexts.{Context, known}
 use Rattle.clos_meaning.specs.Parameters.{fits, sources}
 use Rattle.clos_machine.proofs.Turns.{stopped_through, leads_same}
 use Rattle.clos_meaning.proofs.Quiet.{no_step}

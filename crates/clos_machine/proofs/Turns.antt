@@ -11,11 +11,11 @@ use Rattle.clos_meaning.specs.clos_world.declared.condition.Stop.{Stop}
 use Rattle.clos_meaning.specs.clos_world.declared.condition.Stop.TheVariants.{Refused, Storage}
 use Rattle.clos_meaning.specs.clos_world.clos_method.declared.method.Method.{Method}
 use Rattle.clos_meaning.specs.Calls.{method_run}
+use Rattle.clos_meaning.specs.Contexts.{Context}
 use Rattle.clos_meaning.specs.Control.{sequence, while_true, until_true}
 use Rattle.clos_machine.specs.Machine.{after, at, below, resume, inside, Grows, Leads, Shrinks, going}
 use Rattle.clos_meaning.specs.Meaning.{closed, meaning}
 use Rattle.clos_meaning.specs.Outcome.{Note, Noted, Looked, Asked, Out, Run, Eval, Gave, Stopped, then_do, gave}
-use Rattle.clos_meaning.specs.declared.arguments.Context.{Context}
 use Rattle.clos_machine.specs.declared.machine.Control.TheVariants.{Progn, And, Or}
 use Rattle.clos_machine.specs.declared.machine.Doing.{Doing}
 use Rattle.clos_machine.specs.declared.machine.Level.{Level}

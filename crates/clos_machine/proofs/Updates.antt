@@ -1,5 +1,6 @@
 -- Instances that are updated before they are looked at.
 use Rattle.std.proofs.Common.{◌≡◌, ℕ, suc, ◌+◌, List, [], ◌∷◌, Option, Some, None, Result, Ok, Err, arith, refl, ap, sym, subst, ◌∙◌, true≢false}
+use Rattle.std.specs.Global.{Box}
 use Rattle.std.specs.Prelude.{IsSome}
 use Rattle.lisp_data.specs.Name.{Name}
 use Rattle.lisp_data.specs.Value.{Val}
@@ -24,10 +25,10 @@ use Rattle.clos_meaning.specs.clos_world.declared.condition.Stop.{Stop}
 use Rattle.clos_meaning.specs.clos_world.declared.condition.Stop.TheVariants.{Refused, Storage}
 use Rattle.clos_meaning.specs.clos_world.clos_method.declared.system.SystemFunction.TheVariants.{UpdateInstanceForRedefinedClass}
 use Rattle.clos_meaning.specs.ClassFunctions.{Answer, Tells, in_words_of_conditions}
+use Rattle.clos_meaning.specs.Contexts.{Context}
 use Rattle.clos_meaning.specs.Meaning.{meaning}
 use Rattle.clos_meaning.specs.Outcome.{Eval, Run, Stopped}
 use Rattle.clos_meaning.specs.Updating.{arguments_of, due, listed, names_listed, properties, restructured, told, told_if, updated, updated_if, updated_with}
-use Rattle.clos_meaning.specs.declared.arguments.Context.{Context}
 use Rattle.clos_machine.specs.Fault.{Signals}
 use Rattle.clos_machine.specs.Machine.{Turns, at, denote, here, inside, visited}
 use Rattle.clos_machine.specs.Updating.{TellsArguments, TellsValues}
@@ -147,13 +148,14 @@ one_more : (t : ℕ) → 1 + t ≡ suc t
 one_more t = omega arith
 
 -- the instance has its layout, and is told of it
-pub update_goes : (m n : Machine) (id : InstanceId) (l : Layout) (v : Visit) (vs : List Val) (w w' : State) (s s' : ℕ)
-    → n ≡ record m { levels = (record { frame = Updated id v; room = m.room }) ∷ m.levels } → s ≡ 1 + s'
+pub update_goes : (m n : Machine) (id : InstanceId) (l : Layout) (v : Visit) (b : Box Visit) (vs : List Val) (w w' : State) (s s' : ℕ)
+    → b.value ≡ v → n ≡ record m { levels = (record { frame = Updated id b; room = m.room }) ∷ m.levels } → s ≡ 1 + s'
     → w' ≡ record w { store = with_update id.0 l w.store } → Turns (here m (λ ev env. restructured ev id.0 l vs (visited ev env id.0 v))) w s (Ok (Invoke UpdateInstanceForRedefinedClass vs)) n w' s'
-update_goes m n id l v vs w w' s s' e z k = (
+update_goes m n id l v b vs w w' s s' h e z k = (
   1,
   z,
   λ t. ap (λ x. denote x (Invoke UpdateInstanceForRedefinedClass vs) w' t) e
-      ∙ ap (λ u. denote (record m { levels = (record { frame = Updated id v; room = m.room }) ∷ m.levels }) (Invoke UpdateInstanceForRedefinedClass vs) u t) k
+      ∙ ap (λ u. denote (record m { levels = (record { frame = Updated id b; room = m.room }) ∷ m.levels }) (Invoke UpdateInstanceForRedefinedClass vs) u t) k
+      ∙ ap (λ x. inside m (restructured (meaning m.room) id.0 l vs (visited (meaning m.room) m.context id.0 x)) w (suc t)) h
       ∙ sym (ap (λ j. inside m (restructured (meaning m.room) id.0 l vs (visited (meaning m.room) m.context id.0 v)) w j) (one_more t)),
 )

@@ -4,6 +4,7 @@ use Rattle.std.proofs.Common.{inl}
 use Rattle.std.specs.Prelude.{ℤ, Option, Some, None, drop, option_map, take}
 use Rattle.lisp_data.specs.Value.{Val}
 use Rattle.lisp_data.specs.declared.value.Value.{Value}
+use Rattle.clos_meaning.specs.Contexts.{Context}
 use Rattle.clos_meaning.specs.clos_world.clos_cache.Uses.{Uses}
 use Rattle.clos_meaning.specs.clos_world.Uses.{AtMostOneMore}
 use Rattle.clos_meaning.specs.clos_world.Dispatch.{required_by}
@@ -16,7 +17,6 @@ use Rattle.clos_meaning.specs.Host.{Host, answered_by, may_answer}
 use Rattle.clos_meaning.specs.Meaning.{closed}
 use Rattle.clos_meaning.specs.Outcome.{Asked, End, Gave, Given, Looked, Note, Noted, Out, Run, Signalled, Stopped, then_do}
 use Rattle.clos_meaning.specs.Uses.{after_notes, most, notes_by, noted, with_note}
-use Rattle.clos_meaning.specs.declared.arguments.Context.{Context}
 use Rattle.clos_machine.specs.Machine.{Asks, Leads, Turns, at, denote, inside, resume}
 use Rattle.clos_machine.specs.Uses.{KeepsBy, KeptAfter, LeadsBy, Made, MadeSome, Notes, TurnsBy}
 use Rattle.clos_machine.specs.declared.machine.Doing.{Doing}

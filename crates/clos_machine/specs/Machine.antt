@@ -38,23 +38,25 @@ use Rattle.clos_meaning.specs.Outcome.{End, Out, Gave, Given, Signalled, Stopped
 use Rattle.clos_meaning.specs.Parameters.{Sources, argument, refused, init}
 use Rattle.clos_forms.specs.clos_names.declared.callee.SlotFunction.TheVariants.{SlotValue, SlotBoundp}
 use Rattle.clos_meaning.specs.ChangeClass.{changed_to}
+use Rattle.clos_meaning.specs.Contexts.{Context}
 use Rattle.clos_meaning.specs.SlotNames.{name_stored, within_slots}
 use Rattle.clos_meaning.specs.Slots.{slot_answer, slot_put}
 use Rattle.clos_meaning.specs.SystemMethods.{reinitialize_instance, slots_filled, system_method_run}
 use Rattle.clos_meaning.specs.Variables.{Loop, found_value, in_order, binding, within, aside, repeated, turns}
-use Rattle.clos_meaning.specs.declared.arguments.Context.{Context}
 use Rattle.clos_machine.specs.declared.machine.Action.{Action}
-use Rattle.clos_machine.specs.declared.machine.Action.TheVariants.{Call, Set, Store, Change, NewValue, Amount, ChangePlace, Allocate, Initialize, Fill, FillWith, Visit, Read, CallNext}
+use Rattle.clos_machine.specs.declared.machine.Action.TheVariants.{Call, Set, Store, Change, NewValue, Amount, ChangePlace, Allocate, Initialize, Read, CallNext}
 use Rattle.clos_machine.specs.declared.machine.BuiltIn.{BuiltIn}
 use Rattle.clos_machine.specs.declared.machine.BuiltIn.TheVariants.{Reader, Writer, System}
 use Rattle.clos_machine.specs.declared.machine.Control.{Control}
 use Rattle.clos_machine.specs.declared.machine.Control.TheVariants.{Progn, Prog1, If, When, Unless, And, Or}
 use Rattle.clos_machine.specs.declared.machine.Doing.{Doing}
-use Rattle.clos_machine.specs.declared.machine.Doing.TheVariants.{Start, Act, Invoke, Perform, Native, Give}
+use Rattle.clos_machine.specs.declared.machine.Doing.TheVariants.{Start, Act, Invoke, Perform, Tend, Native, Give}
 use Rattle.clos_machine.specs.declared.machine.Doing.TheVariants as doing
 use Rattle.clos_machine.specs.declared.machine.Filling.{Filling}
 use Rattle.clos_machine.specs.declared.machine.Frame.{Frame}
 use Rattle.clos_machine.specs.declared.machine.Frame.TheVariants.{Rest, Keep, Clause, Collect, Body, Bind, Scope, InOrder, Aside, Count, Turn, Setq, Setf, Changed, Default, Filled, Updated, Truth, Slots}
+use Rattle.clos_machine.specs.declared.machine.InstanceTask.{InstanceTask}
+use Rattle.clos_machine.specs.declared.machine.InstanceTask.TheVariants.{Fill, FillWith, Visit}
 use Rattle.clos_machine.specs.declared.machine.Level.{Level}
 use Rattle.clos_machine.specs.declared.machine.Machine.{Machine}
 use Rattle.clos_machine.specs.declared.machine.Repetition.{Repetition}
@@ -116,15 +118,18 @@ acted ev env (Set t) = place_set ev env (access_of t)
 acted ev env (Store name) = name_stored ev env name
 acted ev env (Change p name) = name_changed_by ev env p name
 acted ev env (NewValue t f) = place_set_to ev env (access_of t) f
-acted ev env (Amount p t fs) = place_changed_by ev env p (access_of t) fs
+acted ev env (Amount p t fs) = place_changed_by ev env p (access_of t.value) fs
 acted ev env (ChangePlace p t) = λ vs. changed_place ev env p (access_of t) (last_first vs)
 acted ev env (Allocate c e) = allocate ev env c.0 e
 acted ev env (Initialize c e i) = λ vs. checked ev c.0 e vs i.0
-acted ev env (Fill f) = λ vs. fill ev env (subject_of f) (slots_left f)
-acted ev env (FillWith f v) = λ vs. fill_with ev env (subject_of f) (slots_left f) (value_of v)
-acted ev env (Visit i v) = λ vs. visited ev env i.0 v
 acted ev env (Read t) = place_read ev env (access_of t)
 acted ev env CallNext = next_with ev env
+
+-- what is done with an instance
+abbrev pub tended : Eval → Context → InstanceTask → Run
+tended ev env (Fill f) = fill ev env (subject_of f.value) (slots_left f.value)
+tended ev env (FillWith f v) = fill_with ev env (subject_of f.value) (slots_left f.value) (value_of v)
+tended ev env (Visit i v) = visited ev env i.0 v.value
 
 -- what a method without forms does with the arguments of its call
 abbrev pub performed : Eval → Context → BuiltIn → List Val → Run
@@ -179,10 +184,10 @@ below env (Keep fs v) = env
 below env (Clause fs cs) = env
 below env (Collect action rest values) = env
 below env (Body rest saved locals) = saved
-below env (Bind name plan body saved locals) = saved
+below env (Bind b) = b.value.saved
 below env (Scope outer rest) = env
 below env (InOrder outer name plan forms) = env
-below env (Aside outer locals name plan forms) = env
+below env (Aside b) = env
 below env (Count l) = env
 below env (Turn l counter rest) = env
 below env (Setq f place rest) = env
@@ -201,18 +206,18 @@ after ev env (Keep fs v) = λ u. keeping ev env fs (value_of v)
 after ev env (Clause fs cs) = λ v. tested ev env fs (clauses ev env cs) v
 after ev env (Collect action rest values) = λ v. collect ev env rest (values ++ v ∷ []) (acted ev env action)
 after ev env (Body rest saved locals) = λ v w s. then_do (sequence ev env rest v w s) (restoring locals)
-after ev env (Bind name plan body saved locals) = λ v w s. then_do (binding name v (parameters_run ev env plan body) w s) (restoring locals)
+after ev env (Bind b) = λ v w s. then_do (binding b.value.name v (parameters_run ev env b.value.plan b.value.body) w s) (restoring b.value.outer)
 after ev env (Scope outer rest) = λ v. within ev env outer rest v
 after ev env (InOrder outer name plan forms) = λ v. binding name v (in_order ev env outer plan forms)
-after ev env (Aside outer locals name plan forms) = λ v. aside ev env outer plan forms ((name, held v) ∷ locals)
-after ev env (Count l) = λ v. repeated ev env (loop_of l) v
-after ev env (Turn l counter rest) = λ v w s. then_do (sequence ev env rest v w s) (λ u. turns ev env (loop_of l) counter.0 counter.1)
+after ev env (Aside b) = λ v. aside ev env b.value.outer b.value.plan b.value.forms ((b.value.name, held v) ∷ b.value.locals)
+after ev env (Count l) = λ v. repeated ev env (loop_of l.value) v
+after ev env (Turn l counter rest) = λ v w s. then_do (sequence ev env rest v w s) (λ u. turns ev env (loop_of l.value) counter.0 counter.1)
 after ev env (Setq f place rest) = λ v. setq ev env (drop place (targets (operator_in f))) rest v
 after ev env (Setf rest) = λ v. setf ev env rest v
 after ev env (Changed p t vs amount) = λ old. changed_from ev env p (access_of t) vs (value_of amount) old
 after ev env (Default c e place vs) = λ v. default_given ev env c.0 e (drop place e.defaults) vs v
-after ev env (Filled f) = λ v. fill_with ev env (subject_of f) (slots_left f) v
-after ev env (Updated i v) = λ x. visited ev env i.0 v
+after ev env (Filled f) = λ v. fill_with ev env (subject_of f.value) (slots_left f.value) v
+after ev env (Updated i v) = λ x. visited ev env i.0 v.value
 after ev env Truth = λ v. gave (truth (is_true v))
 after ev env (Slots f rest) = λ v. within_slots ev env (slot_names (operator_in f)) rest v
 
@@ -228,7 +233,8 @@ doing_run room env (Act action values) w s = acted (meaning room) env action val
 doing_run room env (Invoke f values) w s = invoked (meaning room) f values w s
 doing_run room env (Perform b arguments) w s = performed (meaning room) env b arguments w s
 doing_run room env (Native values) w s = native_called values w s
-doing_run room env (doing.Turn l counter) w s = turns (meaning room) env (loop_of l) counter.0 counter.1 w s
+doing_run room env (doing.Turn l counter) w s = turns (meaning room) env (loop_of l.value) counter.0 counter.1 w s
+doing_run room env (Tend task) w s = tended (meaning room) env task w s
 doing_run room env (Give value) w s = Gave (value_of value) w s
 
 -- the state with the machine's variables
@@ -371,9 +377,6 @@ lift (Amount p t fs) = 9
 lift (ChangePlace p t) = 7
 lift (Allocate c e) = 0
 lift (Initialize c e i) = 0
-lift (Fill f) = 0
-lift (FillWith f v) = 0
-lift (Visit i v) = 2
 lift (Read t) = 0
 lift CallNext = 3
 
@@ -383,6 +386,12 @@ action_weight a = act_weight + lift a
 -- an action whose values are collected first
 abbrev pub collect_weight : Action → ℕ
 collect_weight a = 1 + action_weight a
+
+-- what is done with an instance; once it is up to date, that may be the action or the method that it was updated for
+abbrev pub task_weight : InstanceTask → ℕ
+task_weight (Fill f) = act_weight
+task_weight (FillWith f v) = act_weight
+task_weight (Visit i v) = perform_weight
 
 -- what a form adds at most as it begins, with the heaviest of actions
 abbrev pub form_growth : ℕ
@@ -399,10 +408,10 @@ weight_of (Keep fs v) = waiting_weight
 weight_of (Clause fs cs) = waiting_weight
 weight_of (Collect action rest values) = 4 + lift action
 weight_of (Body rest saved locals) = 1
-weight_of (Bind name plan body saved locals) = waiting_weight
+weight_of (Bind b) = waiting_weight
 weight_of (Scope outer rest) = waiting_weight
 weight_of (InOrder outer name plan forms) = waiting_weight
-weight_of (Aside outer locals name plan forms) = waiting_weight
+weight_of (Aside b) = waiting_weight
 weight_of (Count l) = 4
 weight_of (Turn l counter rest) = 4
 weight_of (Setq f place rest) = waiting_weight
@@ -427,6 +436,7 @@ given (Act action values) = action_weight action
 given (Invoke f values) = invoke_weight
 given (Perform b arguments) = perform_weight
 given (doing.Turn l counter) = turn_weight
+given (Tend task) = task_weight task
 given (Native values) = native_weight
 given (Give value) = value_weight
 

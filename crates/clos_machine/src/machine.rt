@@ -69,7 +69,7 @@ pub enum Action {
     /// They are the arguments of a place: the value of this form comes last, and then it is set.
     NewValue(Target, Form),
     /// They are the arguments of a place that is changed by an amount: the value of the form, if there is one, else 1.
-    Amount(Primitive, Target, Forms),
+    Amount(Primitive, Box<Target>, Forms),
     /// The place is read with all but the last as its arguments, and set to what the function of values makes of its value
     /// and the last of them, the amount.
     ChangePlace(Primitive, Target),
@@ -77,12 +77,6 @@ pub enum Action {
     Allocate(ClassId, Finalized),
     /// They are the initargs with which this instance of this class, which has these slots and was just made, is initialized.
     Initialize(ClassId, Finalized, InstanceId),
-    /// The next slot is filled.
-    Fill(Filling),
-    /// The next slot is filled with this value, that of its initform.
-    FillWith(Filling, Value),
-    /// This is done with an instance, which is up to date.
-    Visit(InstanceId, Visit),
     /// They are the arguments of a place, which is read.
     Read(Target),
     /// The next method is called with them.
@@ -110,6 +104,17 @@ pub struct Repetition {
     pub forms: Forms,
 }
 
+/// What is done with an instance, beside calls.
+#[derive(Drop)]
+pub enum InstanceTask {
+    /// The next slot is filled.
+    Fill(Box<Filling>),
+    /// The next slot is filled with this value, that of its initform.
+    FillWith(Box<Filling>, Value),
+    /// This is done with it, which is up to date.
+    Visit(InstanceId, Box<Visit>),
+}
+
 /// What comes next.
 #[derive(Drop)]
 pub enum Doing {
@@ -123,7 +128,9 @@ pub enum Doing {
     /// A method without forms runs on these arguments.
     Perform(BuiltIn, Arguments),
     /// The next turn of a loop, or its end.
-    Turn(Repetition, Counter),
+    Turn(Box<Repetition>, Counter),
+    /// Something is done with an instance.
+    Tend(InstanceTask),
     /// A function that the host stored is called: the first value names it, the others are its arguments.
     Native(Values),
     /// The value goes to the top level.
@@ -149,6 +156,26 @@ pub enum Control {
     Or,
 }
 
+/// A parameter that gets the value of its init form, before these parameters and the body.
+#[derive(Drop)]
+pub struct Defaulted {
+    pub name: Name,
+    pub plan: ParameterPlan,
+    pub body: Forms,
+    pub saved: Context,
+    pub outer: Locals,
+}
+
+/// A variable of a let form.
+#[derive(Drop)]
+pub struct Beside {
+    pub outer: usize,
+    pub locals: Locals,
+    pub name: Name,
+    pub plan: Plan,
+    pub forms: Forms,
+}
+
 /// What is done with a value when it is there.
 #[derive(Drop)]
 pub enum Frame {
@@ -163,20 +190,19 @@ pub enum Frame {
     /// The rest of a body follows, of a function, a method or an effective form; the context and the variables go back to the
     /// caller's.
     Body(Forms, Context, Locals),
-    /// It is the value of the parameter of this name, before these and the body; the context and the variables go back to
-    /// the caller's.
-    Bind(Name, ParameterPlan, Forms, Context, Locals),
+    /// It is the value of a parameter; after the body the context and the variables go back to the caller's.
+    Bind(Box<Defaulted>),
     /// The rest of a body follows; of the variables only so many of the outermost stay.
     Scope(usize, Forms),
     /// It is the value of the variable of this name, before these variables, with the forms left for them and the body.
     InOrder(usize, Name, Plan, Forms),
     /// It is the value of the variable of this name, beside the variables whose values are there, before these, with the
     /// forms left for them and the body.
-    Aside(usize, Locals, Name, Plan, Forms),
+    Aside(Box<Beside>),
     /// It is the number of turns.
-    Count(Repetition),
+    Count(Box<Repetition>),
     /// These forms follow in the turn, and then the next turn.
-    Turn(Repetition, Counter, Forms),
+    Turn(Box<Repetition>, Counter, Forms),
     /// The rest of the variables of a `setq` form, from this one on, and their forms.
     Setq(Form, usize, Forms),
     /// These places and forms follow.
@@ -186,9 +212,9 @@ pub enum Frame {
     /// It is the default initarg at this place of those of a class that has these slots, after these initargs.
     Default(ClassId, Finalized, usize, Values),
     /// It is the value of the initform of the next slot.
-    Filled(Filling),
+    Filled(Box<Filling>),
     /// An instance is up to date with it, and this is done with the instance.
-    Updated(InstanceId, Visit),
+    Updated(InstanceId, Box<Visit>),
     /// T is given for it if it is true, and else NIL.
     Truth,
     /// It is the object for whose slots the names of this `with-slots` form stand, before these forms.

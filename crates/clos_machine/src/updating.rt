@@ -179,6 +179,9 @@ fn restructure(
         return Err(Stop::Refused(plain(alloc, ConditionKind::StepLimit)));
     }
     let room = machine.room;
+    let Ok(visit) = Box::new(alloc, visit) else {
+        return Err(Stop::Storage);
+    };
     let frame = Frame::Updated(id, visit);
     machine.levels.push(Level { frame, room })?;
     let Ok(()) = world.objects.restructure(alloc, id, layout) else {

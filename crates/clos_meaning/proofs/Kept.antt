@@ -48,7 +48,7 @@ use Rattle.clos_meaning.specs.Natives.{answer_given, integers_given, integers_in
 use Rattle.clos_meaning.specs.NextMethods.{next_with, next_by, next_called, next_given, next_in, next_run, none_next}
 use Rattle.clos_meaning.specs.FindMethod.{method_answer}
 use Rattle.clos_meaning.specs.Dispatch.{Dispatch}
-use Rattle.clos_meaning.specs.Contexts.{in_call, known, running, with_arguments}
+use Rattle.clos_meaning.specs.Contexts.{Context, in_call, known, running, with_arguments}
 use Rattle.clos_meaning.specs.GenericCalls.{after_positional, called_generic, combined_run, invoked, keywords_fit, matched_or, unmatched, unmatched_by}
 use Rattle.clos_meaning.specs.SystemMethods.{class_in, checked_shared, different, different_from, different_with, new_slots, redefined, reinitialize_instance, shared_if_valid, shared_initialized, slots_filled, initialize, if_valid, reinitialize, filled_as, initialize_slots, system_method_run}
 use Rattle.clos_meaning.specs.Control.{keeping, sequence, while_true, until_true, branch, branch_by, where_true, where_false, and_then, or_then, first_then, tested, clause, clauses}
@@ -75,7 +75,6 @@ use Rattle.clos_meaning.specs.Output.{WritesMore, output_of, text_by, written, l
 use Rattle.clos_meaning.specs.Parameters.{Sources, argument, refused, init, are_even, are_pairs, fits, sources}
 use Rattle.clos_meaning.specs.Variables.{Loop, found_value, variable_value, inner, leaving, init_form, within, binding, in_order, together, aside, name_in, counted, body_of, result_value, turns, turns_in, repeated}
 use Rattle.clos_meaning.specs.SlotNames.{name_stored, name_read, name_set, place_denoted, slot_locals, within_slots}
-use Rattle.clos_meaning.specs.declared.arguments.Context.{Context}
 use Rattle.clos_meaning.proofs.Quiet.{Quiet}
 use Rattle.clos_meaning.specs.declared.arguments.Running.{Running}
 use Rattle.clos_forms.specs.clos_names.declared.callee.Callee.{Callee}

@@ -3,9 +3,9 @@ use Rattle.std.proofs.Common.{◌≡◌, ℕ, zero, suc, [], refl, sym, subst}
 use Rattle.clos_forms.specs.Form.{Form}
 use Rattle.clos_world.specs.World.{State, unbound}
 use Rattle.clos_world.specs.declared.condition.ConditionKind.TheVariants.{StepLimit}
+use Rattle.clos_meaning.specs.Contexts.{Context}
 use Rattle.clos_meaning.specs.Meaning.{closed, meaning}
 use Rattle.clos_meaning.specs.Outcome.{Out, leaves, stopped}
-use Rattle.clos_meaning.specs.declared.arguments.Context.{Context}
 
 -- the outcome leaves no step, and the state as it was but for variables
 abbrev pub Quiet : Out → State → Type 0

@@ -4,11 +4,11 @@ use Rattle.lisp_data.specs.Name.{Name}
 use Rattle.lisp_data.specs.Value.{Val}
 use Rattle.clos_world.specs.declared.condition.Condition.{Condition}
 use Rattle.clos_world.specs.declared.condition.ConditionKind.TheVariants.{ProgramError}
+use Rattle.clos_meaning.specs.Contexts.{Context}
 use Rattle.clos_meaning.specs.Outcome.{Stopped, Run, Eval, stopped}
 use Rattle.clos_meaning.specs.Slots.{instance_in, slot_answer, slot_put}
 use Rattle.clos_meaning.specs.Updating.{updated}
 use Rattle.clos_forms.specs.clos_names.declared.callee.SlotFunction.TheVariants.{SlotValue}
-use Rattle.clos_meaning.specs.declared.arguments.Context.{Context}
 
 -- ---- a reader is called with an instance
 

@@ -3,11 +3,11 @@ use Rattle.std.specs.Prelude.{List, [], ◌∷◌}
 use Rattle.lisp_data.specs.Value.{Val, list, nil}
 use Rattle.clos_forms.specs.Form.{Forms}
 use Rattle.clos_world.specs.World.{Local, bound_as}
+use Rattle.clos_meaning.specs.Contexts.{Context}
 use Rattle.clos_meaning.specs.Control.{sequence}
 use Rattle.clos_meaning.specs.Outcome.{Gave, Stopped, Run, Eval, then_do}
 use Rattle.clos_meaning.specs.Parameters.{Source, Sources, argument, refused, init}
 use Rattle.clos_meaning.specs.Variables.{binding}
-use Rattle.clos_meaning.specs.declared.arguments.Context.{Context}
 
 -- with these variables and no others; those from before come back
 abbrev pub restoring : List Local → Val → Run

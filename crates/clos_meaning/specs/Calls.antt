@@ -18,12 +18,11 @@ use Rattle.clos_world.specs.declared.condition.ConditionKind.TheVariants.{Progra
 use Rattle.clos_world.specs.declared.functions.Function.{Function}
 use Rattle.clos_meaning.specs.Accessors.{read_by, written_by}
 use Rattle.clos_meaning.specs.Bodies.{body_run, scoped}
-use Rattle.clos_meaning.specs.Contexts.{known, running}
+use Rattle.clos_meaning.specs.Contexts.{Context, known, running}
 use Rattle.clos_meaning.specs.GenericCalls.{called_generic}
 use Rattle.clos_meaning.specs.Outcome.{Run, Eval, stopped}
 use Rattle.clos_meaning.specs.Parameters.{after_optional, are_even, fits, sources}
 use Rattle.clos_meaning.specs.SystemMethods.{system_method_run}
-use Rattle.clos_meaning.specs.declared.arguments.Context.{Context}
 
 -- ---- functions of the program's
 

@@ -4,7 +4,11 @@ use Rattle.lisp_data.specs.Value.{Val}
 use Rattle.clos_forms.specs.Form.{Forms}
 use Rattle.clos_forms.specs.Operator.{Callable}
 use Rattle.clos_meaning.specs.Dispatch.{Dispatch}
-use Rattle.clos_meaning.specs.declared.arguments.Context.{Context}
+use Rattle.clos_meaning.specs.declared.arguments.Known.{Known}
+
+-- what a running body or an effective form knows, and can't change
+abbrev pub Context : Type 0
+Context = Known
 
 -- the body of a function that is no generic function
 abbrev pub known : List Val → Context

@@ -3,8 +3,8 @@ use Rattle.std.specs.Prelude.{Bool, if◌then◌else◌}
 use Rattle.lisp_data.specs.Value.{Val, list, nil}
 use Rattle.clos_forms.specs.Form.{Forms, parts_in}
 use Rattle.clos_forms.specs.Form as form
+use Rattle.clos_meaning.specs.Contexts.{Context}
 use Rattle.clos_meaning.specs.Outcome.{Gave, Run, Eval, then_do, is_true}
-use Rattle.clos_meaning.specs.declared.arguments.Context.{Context}
 
 -- ---- forms one after another (5.3): progn, and what goes on only where values are true or false
 

@@ -9,10 +9,10 @@ use Rattle.clos_forms.specs.Form.{Form}
 use Rattle.clos_world.specs.clos_class.declared.effective_slots.EffectiveSlot.{EffectiveSlot}
 use Rattle.clos_world.specs.clos_store.Store.{slot_found}
 use Rattle.clos_world.specs.World.{State, class_of_instance}
+use Rattle.clos_meaning.specs.Contexts.{Context}
 use Rattle.clos_meaning.specs.Outcome.{Gave, Run, Eval, then_do, step_then}
 use Rattle.clos_meaning.specs.Parameters.{argument_by, is_symbol_named}
 use Rattle.clos_meaning.specs.Slots.{slot_stored}
-use Rattle.clos_meaning.specs.declared.arguments.Context.{Context}
 
 -- an instance, its class, the names of the slots that may take their initforms, and the initargs
 pub record Subject : Type 0 where

@@ -11,6 +11,7 @@ use Rattle.clos_forms.specs.clos_names.Callee.{callee_of}
 use Rattle.clos_meaning.specs.Calls.{called_function, called_setter}
 use Rattle.clos_meaning.specs.ChangeClass.{change_called}
 use Rattle.clos_meaning.specs.ClassFunctions.{class_answer, comes_to}
+use Rattle.clos_meaning.specs.Contexts.{Context}
 use Rattle.clos_meaning.specs.Fault.{answered}
 use Rattle.clos_meaning.specs.FindMethod.{method_answer}
 use Rattle.clos_meaning.specs.Initialization.{instance_made}
@@ -18,7 +19,6 @@ use Rattle.clos_meaning.specs.Natives.{native_called}
 use Rattle.clos_meaning.specs.Outcome.{Run, Eval}
 use Rattle.clos_meaning.specs.Output.{output_of, line_ended}
 use Rattle.clos_meaning.specs.Slots.{slot_called, slot_set}
-use Rattle.clos_meaning.specs.declared.arguments.Context.{Context}
 use Rattle.clos_forms.specs.clos_names.declared.callee.Callee.{Callee}
 use Rattle.clos_forms.specs.clos_names.declared.callee.Callee.TheVariants.{Output, Terpri, Primitive, MakeInstance, ChangeClass, FindMethod, NativeCall, ClassFunction, SlotFunction, Defined}
 use Rattle.clos_forms.specs.clos_names.declared.callee.SlotFunction.TheVariants.{SlotValue}

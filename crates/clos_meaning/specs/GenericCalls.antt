@@ -17,10 +17,9 @@ use Rattle.clos_world.specs.FunctionName.{called_value}
 use Rattle.clos_world.specs.declared.condition.ConditionKind.TheVariants.{AmbiguousMethods, BadExpansion, ExpansionLimit, InvalidMethod, ProgramError, RequiredGroupEmpty}
 use Rattle.clos_meaning.specs.Bodies.{scoped}
 use Rattle.clos_meaning.specs.ClassFunctions.{symbol_in}
-use Rattle.clos_meaning.specs.Contexts.{in_call}
+use Rattle.clos_meaning.specs.Contexts.{Context, in_call}
 use Rattle.clos_meaning.specs.Outcome.{Noted, Run, Eval, stopped, used}
 use Rattle.clos_meaning.specs.Parameters.{are_pairs, is_allowing}
-use Rattle.clos_meaning.specs.declared.arguments.Context.{Context}
 
 -- ---- keyword arguments, where these methods are applicable (7.6.5)
 

@@ -22,13 +22,12 @@ use Rattle.clos_world.specs.declared.condition.ConditionKind.TheVariants.{Progra
 use Rattle.clos_world.specs.clos_method.declared.system.SystemFunction.TheVariants.{InitializeInstance, SharedInitialize}
 use Rattle.clos_meaning.specs.Bodies.{scoped}
 use Rattle.clos_meaning.specs.ClassFunctions.{symbol_in}
-use Rattle.clos_meaning.specs.Contexts.{known}
+use Rattle.clos_meaning.specs.Contexts.{Context, known}
 use Rattle.clos_meaning.specs.GenericCalls.{invoked}
 use Rattle.clos_meaning.specs.Objects.{designated}
 use Rattle.clos_meaning.specs.Outcome.{Note, used, Stopped, Run, Eval, then_do, gave, stopped, step_then}
 use Rattle.clos_meaning.specs.Uses.{noted}
 use Rattle.clos_meaning.specs.Parameters.{are_pairs, argument_named, is_allow_other_keys, is_allowing, is_symbol_named}
-use Rattle.clos_meaning.specs.declared.arguments.Context.{Context}
 
 -- ---- the validity of initargs (7.1.2): each names a slot, is a keyword of one of the methods that they reach, or is :ALLOW-OTHER-KEYS
 

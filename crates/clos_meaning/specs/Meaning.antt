@@ -22,7 +22,7 @@ use Rattle.clos_world.specs.World.{State, unbound}
 use Rattle.clos_world.specs.declared.condition.ConditionKind.TheVariants.{ProgramError, UndefinedFunction, Unsupported, DepthLimit}
 use Rattle.clos_meaning.specs.Assignment.{changed_only}
 use Rattle.clos_meaning.specs.Calls.{method_called}
-use Rattle.clos_meaning.specs.Contexts.{known}
+use Rattle.clos_meaning.specs.Contexts.{Context, known}
 use Rattle.clos_meaning.specs.NextMethods.{has_next, next_called, next_with}
 use Rattle.clos_meaning.specs.Control.{and_then, branch_by, clauses, first_then, keeping, or_then, sequence, where_false, where_true}
 use Rattle.clos_meaning.specs.Fault.{answered}
@@ -30,7 +30,6 @@ use Rattle.clos_meaning.specs.Functions.{Access, call_access, called, place_read
 use Rattle.clos_meaning.specs.Outcome.{Out, Gave, Stopped, Noted, Looked, Asked, Run, Eval, then_do, step_then, gave, stopped}
 use Rattle.clos_meaning.specs.SlotNames.{name_read, name_stored, place_denoted, with_slots}
 use Rattle.clos_meaning.specs.Variables.{in_order, aside, dotimes}
-use Rattle.clos_meaning.specs.declared.arguments.Context.{Context}
 
 -- the values of forms, from left to right
 abbrev pub collect : Eval → Context → Forms → List Val → (List Val → Run) → Run

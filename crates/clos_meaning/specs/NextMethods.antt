@@ -10,12 +10,11 @@ use Rattle.clos_world.specs.Dispatch.{ordered}
 use Rattle.clos_world.specs.Keys.{key_of}
 use Rattle.clos_world.specs.declared.condition.ConditionKind.TheVariants.{NextArguments, ProgramError}
 use Rattle.clos_meaning.specs.Calls.{method_called}
-use Rattle.clos_meaning.specs.Contexts.{with_arguments}
+use Rattle.clos_meaning.specs.Contexts.{Context, with_arguments}
 use Rattle.clos_meaning.specs.Dispatch.{Dispatch}
 use Rattle.clos_meaning.specs.GenericCalls.{invoked}
 use Rattle.clos_meaning.specs.Outcome.{Noted, Run, Eval, stopped, used}
 use Rattle.clos_meaning.specs.Parameters.{is_empty}
-use Rattle.clos_meaning.specs.declared.arguments.Context.{Context}
 use Rattle.clos_meaning.specs.declared.arguments.Running.{Running}
 
 -- ---- next-method-p

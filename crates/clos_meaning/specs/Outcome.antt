@@ -9,7 +9,7 @@ use Rattle.clos_world.specs.clos_cache.Key.{Key}
 use Rattle.clos_world.specs.declared.condition.Condition.{Condition}
 use Rattle.clos_world.specs.declared.condition.ConditionKind.{ConditionKind}
 use Rattle.clos_world.specs.declared.condition.ConditionKind.TheVariants.{StepLimit}
-use Rattle.clos_meaning.specs.declared.arguments.Context.{Context}
+use Rattle.clos_meaning.specs.Contexts.{Context}
 
 -- what is told beside an evaluation, and read by none
 pub data Note : Type 0 where

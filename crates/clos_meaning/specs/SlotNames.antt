@@ -8,10 +8,10 @@ use Rattle.clos_forms.specs.Quotation.{name_value}
 use Rattle.clos_world.specs.Values.{only_value}
 use Rattle.clos_world.specs.World.{State, Denoted, held, in_slot, Local, bound_as, local_named}
 use Rattle.clos_meaning.specs.Assignment.{stored_only}
+use Rattle.clos_meaning.specs.Contexts.{Context}
 use Rattle.clos_meaning.specs.Functions.{place_read, place_set, slot_access}
 use Rattle.clos_meaning.specs.Outcome.{Run, Eval}
 use Rattle.clos_meaning.specs.Variables.{found_value, init_form, variable_value, within}
-use Rattle.clos_meaning.specs.declared.arguments.Context.{Context}
 
 -- ---- with-slots: the first form gives an object, for whose slots the names stand in the body
 

@@ -15,10 +15,10 @@ use Rattle.clos_world.specs.declared.condition.Condition.{Condition}
 use Rattle.clos_world.specs.declared.condition.ConditionKind.TheVariants.{ProgramError}
 use Rattle.clos_world.specs.clos_method.declared.system.SystemFunction.TheVariants.{SlotUnbound, SlotMissing}
 use Rattle.clos_meaning.specs.ClassFunctions.{symbol_in, wrong_type}
+use Rattle.clos_meaning.specs.Contexts.{Context}
 use Rattle.clos_meaning.specs.GenericCalls.{invoked}
 use Rattle.clos_meaning.specs.Outcome.{Gave, Stopped, Run, Eval, then_do, step_then, gave, stopped, is_true}
 use Rattle.clos_meaning.specs.Updating.{updated}
-use Rattle.clos_meaning.specs.declared.arguments.Context.{Context}
 use Rattle.clos_forms.specs.clos_names.declared.callee.SlotFunction.{SlotFunction}
 use Rattle.clos_forms.specs.clos_names.declared.callee.SlotFunction.TheVariants.{SlotValue, SlotBoundp, SlotMakunbound, SlotExistsP}
 

@@ -9,9 +9,9 @@ use Rattle.clos_forms.specs.Quotation.{name_value}
 use Rattle.clos_world.specs.Globals.{is_global, global_value, any_global}
 use Rattle.clos_world.specs.World.{State, Denoted, held, in_slot, Local, bound_as, local_named, outermost}
 use Rattle.clos_world.specs.declared.condition.ConditionKind.TheVariants.{ProgramError, UnboundVariable, TypeError, Unsupported}
+use Rattle.clos_meaning.specs.Contexts.{Context}
 use Rattle.clos_meaning.specs.Control.{sequence}
 use Rattle.clos_meaning.specs.Outcome.{Gave, Run, Eval, then_do, step_then, stopped}
-use Rattle.clos_meaning.specs.declared.arguments.Context.{Context}
 
 -- the innermost lexical variable's value, else the global one's; a name that stands for a slot hides both
 abbrev pub or_global : Option Denoted → Option Val → Option Val

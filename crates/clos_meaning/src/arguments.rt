@@ -1,5 +1,5 @@
 //! The arguments of calls, and what a running body knows of its own.
-ghost use Rattle.std.specs.Prelude.{◌≡◌, IfOk, Some, map};
+ghost use Rattle.std.specs.Prelude.{◌≡◌, IfOk, Some, map, option_copied};
 ghost use Rattle.lisp_data.specs.ValueView.{value_of};
 ghost use Rattle.clos_world.specs.clos_method.MethodIds.{method_numbers};
 ghost use Rattle.clos_meaning.specs.Contexts.{in_call, known, with_arguments};
@@ -136,9 +136,9 @@ impl Running {
     }
 }
 
-/// What a running body or an effective form knows, and can't change.
+/// What a running body or an effective form knows.
 #[derive(Drop)]
-pub struct Context {
+pub struct Known {
     pub arguments: Arguments,
     /// The call of a generic function for which it runs.
     pub call: Option<Dispatch>,
@@ -146,85 +146,128 @@ pub struct Context {
     pub running: Option<Running>,
 }
 
+/// What a running body or an effective form knows, and can't change. It is copied by sharing it.
+#[derive(Drop)]
+pub struct Context {
+    shared: Rc<Known>,
+}
+
+impl Model for Context {
+    ghost use Rattle.clos_meaning.specs.declared.arguments.Known.{Known};
+    ghost use Rattle.clos_meaning.specs.contracts.arguments.Known as known;
+
+    ghost Value = { Known };
+
+    ghost coded = { known.the_row.coded };
+
+    ghost view = { λ a. a.shared.value };
+}
+
 impl Context {
-    /// That of the body of a function that is no generic function.
-    pub fn of_function(arguments: Arguments) -> Context
-        ensures { result ≡ known arguments }
+    fn new(alloc: Global, known: Known) -> Result<Context, AllocError>
+        ensures { IfOk result (λ r. r ≡ known) }
     {
-        Context {
+        Ok(Context {
+            shared: Rc::new(alloc, known)?,
+        })
+    }
+
+    /// That of the body of a function that is no generic function.
+    pub fn of_function(alloc: Global, arguments: Arguments) -> Result<Context, AllocError>
+        ensures { IfOk result (λ r. r ≡ known arguments) }
+    {
+        let known = Known {
             arguments,
             call: None,
             running: None,
-        }
+        };
+        Context::new(alloc, known)
     }
 
     /// That of the effective form of a call.
-    pub fn of_call(call: Dispatch, arguments: Arguments) -> Context
-        ensures { result ≡ in_call call arguments }
+    pub fn of_call(
+        alloc: Global,
+        call: Dispatch,
+        arguments: Arguments,
+    ) -> Result<Context, AllocError>
+        ensures { IfOk result (λ r. r ≡ in_call call arguments) }
     {
-        Context {
+        let known = Known {
             arguments,
             call: Some(call),
             running: None,
-        }
+        };
+        Context::new(alloc, known)
     }
 
     /// The same context, in a few steps.
     pub fn copy(&self) -> Result<Context, AllocError>
         ensures { IfOk result (λ r. r ≡ self.now) }
     {
-        let arguments = self.arguments.copy()?;
-        let call = self.call_copied()?;
         Ok(Context {
-            arguments,
-            call,
-            running: self.running_copied()?,
+            shared: self.shared.clone()?,
         })
+    }
+
+    /// The arguments of the call.
+    pub fn arguments(&self) -> &Arguments
+        ensures { result.now ≡ self.now.arguments }
+    {
+        &self.shared.arguments
+    }
+
+    /// The call of a generic function for which it runs.
+    pub fn call(&self) -> Option<&Dispatch>
+        ensures { option_copied result ≡ self.now.call }
+    {
+        self.shared.call.as_ref()
+    }
+
+    /// The method of which it is the body.
+    pub fn running(&self) -> Option<&Running>
+        ensures { option_copied result ≡ self.now.running }
+    {
+        self.shared.running.as_ref()
     }
 
     /// That of the effective form of the same call with other arguments.
-    pub fn with_arguments(&self, arguments: Arguments) -> Result<Context, AllocError>
+    pub fn with_arguments(&self, alloc: Global, arguments: Arguments) -> Result<Context, AllocError>
         ensures { IfOk result (λ r. r ≡ with_arguments arguments self.now) }
     {
-        Ok(Context {
+        let call = self.call_copied()?;
+        let known = Known {
             arguments,
-            call: self.call_copied()?,
+            call,
             running: None,
-        })
+        };
+        Context::new(alloc, known)
     }
 
-    /// That of the body of a method that runs in this one.
-    pub fn with_running(&self, running: Running) -> Result<Context, AllocError>
-        ensures { IfOk result (λ r. r ≡ record self.now { running = Some running }) }
+    /// That of the body of a method that runs on these arguments in the same call.
+    pub fn with_running(
+        &self,
+        alloc: Global,
+        arguments: Arguments,
+        running: Running,
+    ) -> Result<Context, AllocError>
+        ensures { IfOk result (λ r. r ≡ record (with_arguments arguments self.now) { running = Some running }) }
     {
-        let arguments = self.arguments.copy();
-        let call = self.call_copied();
-        match (arguments, call) {
-            (Ok(arguments), Ok(call)) => Ok(Context {
-                arguments,
-                call,
-                running: Some(running),
-            }),
-            _ => {
-                drop(running);
-                Err(AllocError)
-            }
-        }
-    }
-
-    fn running_copied(&self) -> Result<Option<Running>, AllocError>
-        ensures { IfOk result (λ r. r ≡ self.now.running) }
-    {
-        match &self.running {
-            None => Ok(None),
-            Some(running) => Ok(Some(running.copy()?)),
-        }
+        let Ok(call) = self.call_copied() else {
+            drop(running);
+            return Err(AllocError);
+        };
+        let known = Known {
+            arguments,
+            call,
+            running: Some(running),
+        };
+        Context::new(alloc, known)
     }
 
     fn call_copied(&self) -> Result<Option<Dispatch>, AllocError>
         ensures { IfOk result (λ r. r ≡ self.now.call) }
     {
-        match &self.call {
+        match &self.shared.call {
             None => Ok(None),
             Some(call) => Ok(Some(call.copy()?)),
         }

@@ -4,13 +4,20 @@ ghost use Rattle.clos_names.specs.Callee.{callee_of};
 
 use crate::callee::{Callee, callee_named};
 use lisp_data::Name;
-use std::alloc::AllocError;
+use std::alloc::{AllocError, Global};
 use std::marker::Model;
+use std::rc::Rc;
 
 /// The name of a function that is called. It keeps what it calls, which is looked up once, when the form is parsed (HyperSpec
 /// 3.1.2.1.2.3).
 #[derive(Drop)]
 pub struct CalledName {
+    shared: Rc<Called>,
+}
+
+/// A name, and what it calls.
+#[derive(Drop)]
+struct Called {
     name: Name,
     callee: Callee,
 }
@@ -25,32 +32,33 @@ impl Model for CalledName {
 
     ghost coded = { name_code };
 
-    ghost view = { λ a. a.name };
+    ghost view = { λ a. a.shared.value.name };
 
-    ghost invariant = { λ a. a.callee ≡ callee_of a.name };
+    ghost invariant = { λ a. a.shared.value.callee ≡ callee_of a.shared.value.name };
 }
 
 impl CalledName {
     /// A name that is called.
-    pub fn new(name: Name) -> CalledName
-        ensures { result ≡ name }
+    pub fn new(alloc: Global, name: Name) -> Result<CalledName, AllocError>
+        ensures { IfOk result (λ r. r ≡ name) }
     {
         let callee = callee_named(&name);
-        CalledName { name, callee }
+        let shared = Rc::new(alloc, Called { name, callee })?;
+        Ok(CalledName { shared })
     }
 
     /// The name alone.
     pub fn name(&self) -> &Name
         ensures { result.now ≡ self.now }
     {
-        &self.name
+        &self.shared.name
     }
 
     /// What it calls.
     pub fn callee(&self) -> Callee
         ensures { result ≡ callee_of self.now }
     {
-        self.callee
+        self.shared.callee
     }
 
     /// The same, in a few steps whatever the name's length.
@@ -58,8 +66,7 @@ impl CalledName {
         ensures { IfOk result (λ r. r ≡ self.now) }
     {
         Ok(CalledName {
-            name: self.name.copy()?,
-            callee: self.callee,
+            shared: self.shared.clone()?,
         })
     }
 }

@@ -17,7 +17,7 @@ use Rattle.clos_machine.specs.clos_world.declared.condition.ConditionKind.TheVar
 use Rattle.clos_machine.specs.clos_world.declared.condition.Stop.{Stop}
 use Rattle.clos_machine.specs.clos_world.declared.condition.Stop.TheVariants.{Refused, Storage}
 use Rattle.clos_machine.specs.clos_meaning.Bodies.{restoring}
-use Rattle.clos_machine.specs.clos_meaning.Contexts.{known}
+use Rattle.clos_machine.specs.clos_meaning.Contexts.{Context, known}
 use Rattle.clos_machine.specs.clos_meaning.GenericCalls.{invoked}
 use Rattle.clos_machine.specs.clos_meaning.Initialization.{allocate, checked, defaulted, instance_made, making, initialized, invalid_for, invalid_initarg, is_given, made, making_of, methods_reached, reaching}
 use Rattle.clos_machine.specs.Machine.{apart, Designates, Leads, Turns, at, inside, resume, default_given, Shrinks, act_weight, given, load, step_weight, value_weight}
@@ -28,7 +28,6 @@ use Rattle.clos_machine.specs.clos_meaning.Outcome.{Note, Run, Eval, Stopped, ga
 use Rattle.clos_machine.specs.clos_meaning.Uses.{after_notes, noted}
 use Rattle.clos_machine.specs.Uses.{LeadsBy, MadeSome}
 use Rattle.clos_machine.specs.clos_world.clos_cache.Uses.{Uses}
-use Rattle.clos_machine.specs.clos_meaning.declared.arguments.Context.{Context}
 use Rattle.clos_machine.specs.declared.finalized.Finalized.{Finalized}
 use Rattle.clos_machine.specs.declared.machine.Action.TheVariants.{Initialize}
 use Rattle.clos_machine.specs.declared.machine.Doing.{Doing}

@@ -1,4 +1,5 @@
 -- Slots that are filled one after another.
+use Rattle.std.specs.Global.{Box}
 use Rattle.std.proofs.Common.{◌≡◌, ℕ, suc, ◌+◌, ◌<◌, ◌≤◌, List, [], ◌∷◌, false, Some, Result, Ok, Err, drop, get_or, length, arith, add-one, refl, ap, sym, subst, ◌∙◌}
 use Rattle.std.specs.Prelude.{if◌then◌else◌}
 use Rattle.std.proofs.Math.ListN.{drop_of_length-le}
@@ -14,11 +15,12 @@ use Rattle.clos_machine.specs.clos_world.declared.condition.ConditionKind.TheVar
 use Rattle.clos_machine.specs.clos_world.declared.condition.Stop.{Stop}
 use Rattle.clos_machine.specs.clos_world.declared.condition.Stop.TheVariants.{Refused}
 use Rattle.clos_machine.specs.Machine.{Leads, Turns, at, denote, inside, resume, slots_left, subject_of, fill_with}
+use Rattle.clos_machine.specs.clos_meaning.Contexts.{Context}
 use Rattle.clos_machine.specs.clos_meaning.Meaning.{closed, meaning}
-use Rattle.clos_machine.specs.declared.machine.Action.TheVariants.{Fill}
 use Rattle.clos_machine.specs.declared.machine.Doing.{Doing}
-use Rattle.clos_machine.specs.declared.machine.Doing.TheVariants.{Act, Give}
+use Rattle.clos_machine.specs.declared.machine.Doing.TheVariants.{Tend, Give}
 use Rattle.clos_machine.specs.declared.machine.Filling.{Filling}
+use Rattle.clos_machine.specs.declared.machine.InstanceTask.TheVariants.{Fill}
 use Rattle.clos_machine.specs.declared.machine.Machine.{Machine}
 use Rattle.clos_machine.proofs.Runs.{turns_of_leads, stops_at_once, turns_same}
 use Rattle.clos_machine.proofs.Turns.{leads_same}
@@ -27,7 +29,6 @@ use Rattle.clos_machine.specs.clos_world.World.{State, Local, bound_as}
 use Rattle.clos_machine.specs.clos_meaning.Filling.{Filler, Subject, fill, filled_by, filler, nothing, initform}
 use Rattle.clos_machine.specs.clos_meaning.Filling as filler
 use Rattle.clos_machine.specs.clos_meaning.Outcome.{Gave, Stopped, Run, Eval, then_do}
-use Rattle.clos_machine.specs.clos_meaning.declared.arguments.Context.{Context}
 use Rattle.clos_objects.specs.Objects.{Fills, Finds, filler_in, first_filled, is_nothing, pending}
 use Rattle.clos_objects.specs.declared.filling.Found.{Found}
 use Rattle.clos_objects.specs.declared.filling.Found.TheVariants as found
@@ -146,15 +147,15 @@ module _ (m : Machine) (f : Subject) where
       stops_at_once m n (filling_first slots v) w s c
       (ap (λ l. filling_first l v (at m w) s) e ∙ ap (filling_first (slot ∷ rest) v (at m w)) z ∙ ap (λ x. Stopped x (at m w) 0) (sym k) ∙ ap (Stopped c (at m w)) (sym z))
 
-  pub first_next : (slots : List EffectiveSlot) (slot : EffectiveSlot) (rest : List EffectiveSlot) (v : Val) (g : Filling) (us : List Val) (w w' : State) (s s' : ℕ)
-      → slots ≡ slot ∷ rest → subject_of g ≡ f → slots_left g ≡ rest → s ≡ 1 + s' → w' ≡ record w { store = with_slot f.instance slot.name (Some v) w.store }
-      → Turns (inside m (filling_first slots v)) w s (Ok (Act (Fill g) us)) m w' s'
-  first_next slots slot rest v g us w w' s s' e i j z k = (
+  pub first_next : (slots : List EffectiveSlot) (slot : EffectiveSlot) (rest : List EffectiveSlot) (v : Val) (g : Box Filling) (w w' : State) (s s' : ℕ)
+      → slots ≡ slot ∷ rest → subject_of g.value ≡ f → slots_left g.value ≡ rest → s ≡ 1 + s' → w' ≡ record w { store = with_slot f.instance slot.name (Some v) w.store }
+      → Turns (inside m (filling_first slots v)) w s (Ok (Tend (Fill g))) m w' s'
+  first_next slots slot rest v g w w' s s' e i j z k = (
     1,
     z,
-    λ t. ap (λ u. denote m (Act (Fill g) us) u t) k
+    λ t. ap (λ u. denote m (Tend (Fill g)) u t) k
         ∙ ap (λ o. closed (resume m.levels m.context o))
-        (ap (λ x. fill (meaning m.room) m.context x (slots_left g) (record (at m w) { store = with_slot f.instance slot.name (Some v) w.store }) t) i
+        (ap (λ x. fill (meaning m.room) m.context x (slots_left g.value) (record (at m w) { store = with_slot f.instance slot.name (Some v) w.store }) t) i
         ∙ ap (λ l. filling_slots l (record (at m w) { store = with_slot f.instance slot.name (Some v) w.store }) t) j
         ∙ ap (filling_first (slot ∷ rest) v (at m w)) (sym (one_more t)) ∙ ap (λ l. filling_first l v (at m w) (1 + t)) (sym e)),
   )

@@ -9,13 +9,12 @@ use Rattle.clos_machine.specs.clos_world.declared.condition.Condition.{Condition
 use Rattle.clos_machine.specs.clos_meaning.Filling.{Filler, Subject, fill, filled, filler, nothing, value, initform}
 use Rattle.clos_class.specs.Slots.{Effective}
 use Rattle.clos_forms.specs.Form.{Form}
-use Rattle.clos_machine.specs.clos_meaning.Contexts.{known}
+use Rattle.clos_machine.specs.clos_meaning.Contexts.{Context, known}
 use Rattle.clos_machine.specs.clos_meaning.Initialization.{is_given}
 use Rattle.clos_machine.specs.clos_meaning.Outcome.{Gave, Run, Eval, then_do, stopped}
 use Rattle.clos_machine.specs.Machine.{apart, default_given}
 use Rattle.clos_machine.specs.declared.machine.Machine.{Machine}
 use Rattle.clos_machine.specs.clos_world.declared.condition.ConditionKind.TheVariants.{NoNextMethod, ProgramError}
-use Rattle.clos_machine.specs.clos_meaning.declared.arguments.Context.{Context}
 use Rattle.clos_objects.specs.declared.filling.Found.{Found}
 use Rattle.clos_objects.specs.declared.filling.Found.TheVariants as found
 

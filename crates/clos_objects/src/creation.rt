@@ -97,7 +97,8 @@ pub fn enter(alloc: Global, machine: &mut Machine) -> Result<(), AllocError>
     ensures { IfOk result (λ u. Enters machine.old machine.new) }
 {
     let arguments = Arguments::new(alloc, Values::new(alloc))?;
-    set_apart(alloc, machine, Context::of_function(arguments))
+    let context = Context::of_function(alloc, arguments)?;
+    set_apart(alloc, machine, context)
 }
 
 #[tactic(auto, using(clos_machine::proofs::Turns::shrinks_by))]

@@ -15,7 +15,7 @@ use crate::initargs::initarg_for;
 use crate::slot_names::{initargs_in, is_named, names_in};
 use clos_class::EffectiveSlot;
 use clos_forms::Form;
-use clos_machine::machine::{Action, Doing, Filling, Frame, Machine};
+use clos_machine::machine::{Doing, Filling, Frame, InstanceTask, Machine};
 use clos_machine::moves::begin;
 use clos_machine::{ConditionKind, Stop, Values, World, plain};
 use lisp_data::{InstanceId, Value};
@@ -88,15 +88,23 @@ fn next_filler(world: &World, filling: &Filling) -> Result<Option<(usize, Found)
     Ok(None)
 }
 
+/// The slot at this place comes next.
+fn at_place(mut filling: Box<Filling>, place: usize) -> Box<Filling>
+    ensures { result.value ≡ record filling.value { place = place } }
+{
+    filling.place = place;
+    filling
+}
+
 /// The next slot is filled, or the instance is given.
 pub fn fill(
     alloc: Global,
     machine: &mut Machine,
     world: &mut World,
-    mut filling: Filling,
+    filling: Box<Filling>,
     steps: &mut u64,
 ) -> Result<Doing, Stop>
-    ensures turns { Turns (here machine.old (λ ev env. fill ev env (subject_of filling) (slots_left filling)))
+    ensures turns { Turns (here machine.old (λ ev env. fill ev env (subject_of filling.value) (slots_left filling.value)))
         (seen world.old) steps.old result machine.new (seen world.new) steps.new }
     ensures small { Shrinks act_weight steps.old steps.new machine.old.levels result machine.new }
     ensures fewer { steps.new ≤ steps.old }
@@ -105,7 +113,7 @@ pub fn fill(
     match next_filler(world, &filling)? {
         None => Ok(Doing::Give(Value::Instance(filling.instance))),
         Some((place, found)) => {
-            filling.place = place;
+            let filling = at_place(filling, place);
             match found {
                 Found::Value(value) => fill_first(alloc, machine, world, filling, value, steps),
                 Found::Initform(form) => { begin(machine, form, Frame::Filled(filling)) }
@@ -119,11 +127,11 @@ fn fill_first(
     alloc: Global,
     machine: &Machine,
     world: &mut World,
-    mut filling: Filling,
+    mut filling: Box<Filling>,
     value: Value,
     steps: &mut u64,
 ) -> Result<Doing, Stop>
-    ensures turns { Turns (here machine.now (λ ev env. first_filled ev env (subject_of filling) (slots_left filling)
+    ensures turns { Turns (here machine.now (λ ev env. first_filled ev env (subject_of filling.value) (slots_left filling.value)
         (value_of value))) (seen world.old) steps.old result machine.now (seen world.new) steps.new }
     ensures small { Shrinks act_weight steps.old steps.new machine.now.levels result machine.now }
     ensures fewer { steps.new ≤ steps.old }
@@ -141,7 +149,7 @@ fn fill_first(
         .set_slot(filling.instance, &slot.name, Some(value));
     *steps -= 1;
     filling.place = next;
-    Ok(Doing::Act(Action::Fill(filling), Values::new(alloc)))
+    Ok(Doing::Tend(InstanceTask::Fill(filling)))
 }
 
 /// The slot that comes next, and the place after it.
@@ -162,11 +170,11 @@ pub fn fill_with(
     alloc: Global,
     machine: &mut Machine,
     world: &mut World,
-    filling: Filling,
+    filling: Box<Filling>,
     value: Value,
     steps: &mut u64,
 ) -> Result<Doing, Stop>
-    ensures turns { Turns (here machine.old (λ ev env. fill_with ev env (subject_of filling) (slots_left filling)
+    ensures turns { Turns (here machine.old (λ ev env. fill_with ev env (subject_of filling.value) (slots_left filling.value)
         (value_of value))) (seen world.old) steps.old result machine.new (seen world.new) steps.new }
     ensures small { Shrinks act_weight steps.old steps.new machine.old.levels result machine.new }
     ensures fewer { steps.new ≤ steps.old }

@@ -18,7 +18,7 @@ use crate::shared::{check_shared, class_in, initialize_shared};
 use crate::slot_names::are_slot_names;
 use crate::updates::{update_different, update_redefined};
 use clos_machine::fault::{instance_in, wrong_type};
-use clos_machine::machine::{Action, Doing, Filling, Machine, Visit};
+use clos_machine::machine::{Doing, Filling, InstanceTask, Machine, Visit};
 use clos_machine::parameters::are_even;
 use clos_machine::truth::{nil, t};
 use clos_machine::updating::{due, update};
@@ -282,7 +282,10 @@ pub fn fill_instance(
                 place: 0,
             };
             enter(alloc, machine)?;
-            Ok(Doing::Act(Action::Fill(filling), Values::new(alloc)))
+            let Ok(filling) = Box::new(alloc, filling) else {
+                return Err(Stop::Storage);
+            };
+            Ok(Doing::Tend(InstanceTask::Fill(filling)))
         }
     }
 }

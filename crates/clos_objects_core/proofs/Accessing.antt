@@ -10,12 +10,12 @@ use Rattle.clos_machine.specs.clos_world.declared.condition.ConditionKind.TheVar
 use Rattle.clos_machine.specs.clos_world.declared.condition.Stop.{Stop}
 use Rattle.clos_machine.specs.clos_world.declared.condition.Stop.TheVariants.{Refused, Storage}
 use Rattle.clos_machine.specs.clos_meaning.Accessors.{read_by, read_of, written_by, written_of}
+use Rattle.clos_machine.specs.clos_meaning.Contexts.{Context}
 use Rattle.clos_machine.specs.Machine.{DesignatesInstance, Turns, at, inside, resume}
 use Rattle.clos_machine.specs.clos_meaning.Meaning.{closed}
 use Rattle.clos_machine.specs.clos_meaning.Outcome.{Eval, Stopped, stopped}
 use Rattle.clos_machine.specs.clos_meaning.Slots.{instance_in, slot_answer, slot_put}
 use Rattle.clos_machine.specs.clos_meaning.Updating.{updated}
-use Rattle.clos_machine.specs.clos_meaning.declared.arguments.Context.{Context}
 use Rattle.clos_forms.specs.clos_names.declared.callee.SlotFunction.TheVariants.{SlotValue}
 use Rattle.clos_machine.specs.declared.machine.Doing.{Doing}
 use Rattle.clos_machine.specs.declared.machine.Machine.{Machine}

@@ -13,11 +13,11 @@ use Rattle.clos_machine.specs.clos_world.declared.condition.ConditionKind.TheVar
 use Rattle.clos_machine.specs.clos_world.declared.condition.Stop.{Stop}
 use Rattle.clos_machine.specs.clos_world.declared.condition.Stop.TheVariants.{Refused, Storage}
 use Rattle.clos_machine.specs.Machine.{Leads, Turns, at, denote, inside, resume}
+use Rattle.clos_machine.specs.clos_meaning.Contexts.{Context}
 use Rattle.clos_machine.specs.clos_meaning.Meaning.{closed, meaning}
 use Rattle.clos_machine.specs.clos_meaning.Outcome.{Run, Eval, Stopped, step_then, stopped}
 use Rattle.clos_machine.specs.clos_meaning.Slots.{slot_applied, slot_asked, slot_called, slot_changed, slot_designated, slot_given, slot_put, slot_set, slot_stored}
 use Rattle.clos_machine.specs.clos_meaning.Updating.{updated}
-use Rattle.clos_machine.specs.clos_meaning.declared.arguments.Context.{Context}
 use Rattle.clos_forms.specs.clos_names.declared.callee.SlotFunction.{SlotFunction}
 use Rattle.clos_machine.specs.declared.machine.Doing.{Doing}
 use Rattle.clos_machine.specs.declared.machine.Doing.TheVariants.{Give}

@@ -1,17 +1,10 @@
 -- Answers of functions of classes.
-use Rattle.std.proofs.Common.{◌≡◌, List, Result, Ok, Err, refl, ap, sym, ◌∙◌}
+use Rattle.std.proofs.Common.{◌≡◌, List, Err, ap, sym, ◌∙◌}
 use Rattle.lisp_data.specs.Value.{Val}
-use Rattle.lisp_data.specs.ValueView.{value_of}
-use Rattle.lisp_data.specs.declared.value.Value.{Value}
-use Rattle.lisp_prims.specs.Fault as prims
-use Rattle.lisp_prims.specs.Fault.{AnswersUnlessMemory, StandsFor}
-use Rattle.lisp_prims.specs.declared.fault.PrimFault.{PrimFault}
-use Rattle.lisp_prims.specs.declared.fault.PrimFault.TheVariants as fault
 use Rattle.clos_machine.specs.clos_world.World.{State, class_of}
 use Rattle.clos_machine.specs.clos_world.declared.condition.Stop.{Stop}
 use Rattle.clos_machine.specs.clos_world.declared.condition.Stop.TheVariants.{Refused, Storage}
-use Rattle.clos_machine.specs.clos_meaning.ClassFunctions.{Tells, class_answer, comes_to, in_words_of_conditions}
-use Rattle.clos_machine.specs.Fault.{Signals}
+use Rattle.clos_machine.specs.clos_meaning.ClassFunctions.{Tells, class_answer, comes_to}
 use Rattle.clos_machine.specs.Machine.{Leads, at, inside, resume}
 use Rattle.clos_machine.specs.clos_meaning.Meaning.{closed}
 use Rattle.clos_forms.specs.clos_names.declared.callee.ClassFunction.{ClassFunction}

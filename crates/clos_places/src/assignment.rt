@@ -11,7 +11,7 @@ ghost use Rattle.clos_machine.specs.clos_world.World.{State, seen};
 ghost use Rattle.clos_machine.specs.clos_meaning.Assignment.{stored, stored_globally, stored_only, made_of, changed, changed_only};
 ghost use Rattle.clos_machine.specs.clos_meaning.Fault.{answered};
 ghost use Rattle.clos_machine.specs.Machine.{access_of, Leads, Turns, Grows, Becomes, at, inside, targets, acted, collected, act_weight, collect_weight, form_growth, value_weight, waiting_weight, here, Does, follow_growth};
-ghost use Rattle.clos_machine.specs.clos_meaning.Meaning.{meaning, alone, setq, setf, assigned, with_amount, changed_from, set_place, changing, changed_by, place_in};
+ghost use Rattle.clos_machine.specs.clos_meaning.Meaning.{meaning, alone, setq, setf, assigned, with_amount, changed_from, set_place, changing, changed_by, place_in, collect, place_changed_by};
 ghost use Rattle.clos_machine.specs.clos_meaning.Outcome.{Run, then_do};
 ghost use Rattle.clos_machine.specs.declared.machine.Action.TheVariants.{Amount, NewValue, Store};
 
@@ -355,10 +355,13 @@ fn change_through(
     parts: &Forms,
     amount: &Forms,
 ) -> Result<Doing, Stop>
-    ensures leads { Does (λ ev env. collected ev env parts.now (Amount primitive target amount.now)) machine.old result
+    ensures leads { Does (λ ev env. collect ev env parts.now [] (place_changed_by ev env primitive (access_of target) amount.now)) machine.old result
         machine.new }
     ensures small { Grows form_growth machine.old.levels result machine.new }
 {
+    let Ok(target) = Box::new(alloc, target) else {
+        return Err(Stop::Storage);
+    };
     let action = Action::Amount(primitive, target, amount.copy()?);
     collect_next(machine, action, parts, Values::new(alloc))
 }

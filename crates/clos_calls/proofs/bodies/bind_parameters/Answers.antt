@@ -4,7 +4,7 @@ use Rattle.clos_machine.specs.Machine.{Leads, given_to, resume, with_init}
 use Rattle.clos_machine.specs.clos_meaning.Meaning.{closed, meaning}
 use Rattle.clos_machine.specs.clos_meaning.Parameters.{init}
 use Rattle.clos_machine.specs.declared.machine.Doing.TheVariants.{Start}
-use Rattle.clos_machine.specs.declared.machine.Frame.TheVariants.{Bind, Body}
+use Rattle.clos_machine.specs.declared.machine.Frame.TheVariants.{Body}
 use Rattle.clos_calls.proofs.Settled.{settled_stops, settled_goes, init_begins}
 use Rattle.clos_calls.proofs.bodies.bind_parameters.Goals as goal
 
@@ -28,7 +28,7 @@ returns-in_ok-push-in-Ok-Some-clause-leads c =
     (record c.args.machine.now { levels = c.push.new.self; locals = c.settle.new.locals })
     (c.in-Ok-Some.ensures ∙ ap (λ n. Ok (c.settle.new.locals, with_init n c.settle.new.plan)) c.in-Ok-Some.field-0-is)
     (λ t. ap (λ l. closed (resume l c.args.machine.now.context (meaning c.args.machine.now.room c.args.machine.now.context c.in-Ok-Some.form (bound_as c.settle.new.locals (seen c.args.world.now)) t)))
-    (c.in_ok-push-in-Ok-Some.ensures.ok
-    ∙ ap (λ b. (record { frame = Bind c.in-Ok-Some.name c.settle.new.plan b c.args.saved c.args.outer; room = c.args.machine.now.room }) ∷ c.args.machine.now.levels) c.in_ok-body-in-Ok-Some.ensures)
-    ∙ init_begins (record c.args.machine.now { locals = c.settle.new.locals }) c.args.saved c.args.outer c.in-Ok-Some.name c.in-Ok-Some.form c.settle.new.plan c.args.body.now
-    (seen c.args.world.now) t)
+    c.in_ok-push-in-Ok-Some.ensures.ok
+    ∙ init_begins (record c.args.machine.now { locals = c.settle.new.locals }) c.in-Ok.defaulted
+    (record { name = c.in-Ok-Some.name; plan = c.settle.new.plan; body = c.args.body.now; saved = c.args.saved; outer = c.args.outer }) c.in-Ok-Some.form (seen c.args.world.now) t
+    (c.in-Ok.ensures.ok ∙ ap (λ b. record { name = c.in-Ok-Some.name; plan = c.settle.new.plan; body = b; saved = c.args.saved; outer = c.args.outer }) c.in_ok-body-in-Ok-Some.ensures))

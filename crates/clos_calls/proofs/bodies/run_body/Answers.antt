@@ -17,4 +17,4 @@ pub returns-clause-leads : goal.returns-clause-leads
 returns-clause-leads c =
     subst (λ ps. Leads (inside c.args.machine.now (body_run (meaning c.args.machine.now.room) c.args.context ps c.args.body.now)) (seen c.args.world.now)
     c.run_planned.result c.run_planned.new.machine)
-    (c.in_ok-plan.ensures ∙ ap (sources c.args.lambda_list.now) c.as_slice.ensures) c.run_planned.ensures.leads
+    (c.in_ok-plan.ensures ∙ ap (sources c.args.lambda_list.now) (c.as_slice.ensures ∙ c.arguments.ensures)) c.run_planned.ensures.leads

@@ -13,4 +13,4 @@ returns-clause-leads c =
     c.run_body.result c.run_body.new.machine c.in_ok-arguments.ensures
     (sym c.if-not-fits.false ∙ c.fits.ensures ∙ ap (λ vs. fits c.args.function.now.lambda_list vs) c.as_slice.ensures)
     (subst (λ x. Leads (inside c.args.machine.now (body_run (meaning c.args.machine.now.room) x (sources c.args.function.now.lambda_list x.arguments) c.args.function.now.body))
-    (seen c.args.world.now) c.run_body.result c.run_body.new.machine) c.of_function-context.ensures c.run_body.ensures.leads)
+    (seen c.args.world.now) c.run_body.result c.run_body.new.machine) c.in_ok-context.ensures c.run_body.ensures.leads)

@@ -1,3 +1,4 @@
+use Rattle.std.proofs.Common.{◌∙◌}
 use Rattle.clos_machine.specs.clos_world.World.{seen}
 use Rattle.clos_machine.specs.Machine.{at}
 use Rattle.clos_machine.specs.clos_meaning.Meaning.{meaning, next_method}
@@ -13,4 +14,4 @@ returns-in-Some-clause-leads c =
 pub returns-in_ok-arguments-in-None-clause-leads : goal.returns-in_ok-arguments-in-None-clause-leads
 returns-in_ok-arguments-in-None-clause-leads c =
     none_given c.args.machine.now c.run_next.new.machine c.in_ok-arguments-in-None.arguments (seen c.args.world.now) c.args.forms.now c.run_next.result
-    c.in-None.ensures c.in_ok-arguments-in-None.ensures c.run_next.ensures.leads
+    c.in-None.ensures (c.in_ok-arguments-in-None.ensures ∙ c.arguments.ensures) c.run_next.ensures.leads

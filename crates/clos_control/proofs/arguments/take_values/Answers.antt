@@ -2,9 +2,9 @@ use Rattle.std.proofs.Common.{◌∷◌, ◌++◌, [], arith, ap, sym, subst, �
 use Rattle.lisp_data.specs.ValueView.{value_of}
 use Rattle.clos_machine.specs.clos_world.World.{State, seen}
 use Rattle.clos_machine.specs.Machine.{Took, at, at_once}
-use Rattle.clos_machine.specs.clos_meaning.declared.arguments.Context.{Context}
 use Rattle.clos_control.proofs.Taken.{took_one}
 use Rattle.clos_control.proofs.arguments.take_values.Goals as goal
+use Rattle.clos_machine.specs.clos_meaning.Contexts.{Context}
 
 pub loop-first-preserved : goal.loop-first-preserved
 loop-first-preserved c =

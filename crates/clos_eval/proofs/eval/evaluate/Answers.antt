@@ -4,14 +4,14 @@ use Rattle.clos_machine.specs.clos_world.World.{seen}
 use Rattle.clos_machine.specs.clos_meaning.Contexts.{known}
 use Rattle.clos_machine.specs.clos_meaning.Meaning.{evaluation}
 use Rattle.clos_machine.specs.Machine.{denote}
-use Rattle.clos_machine.specs.declared.machine.Doing.TheVariants.{Start, Act, Invoke, Perform, Native, Give}
+use Rattle.clos_machine.specs.declared.machine.Doing.TheVariants.{Start, Act, Invoke, Perform, Tend, Native, Give}
 use Rattle.clos_machine.specs.declared.machine.Doing.TheVariants as doing
 use Rattle.clos_machine.proofs.clos_meaning.Quiet.{evaluation_quiet}
 use Rattle.clos_machine.proofs.Runs.{quiet_answered}
 use Rattle.clos_machine.proofs.Uses.{nothing_kept, turns_by}
 use Rattle.clos_eval.proofs.Looping.{Did, begun, did, finished, finished_after, gave, goes_on, stops, turned, went}
 use Rattle.clos_eval.proofs.eval.evaluate.Goals as goal
-use Rattle.clos_eval.proofs.eval.evaluate.Goals.{in-Start, in-Collect, in-Act, in-Invoke, in-Perform, in-Turn, in-Native, in-Give+in-Some}
+use Rattle.clos_eval.proofs.eval.evaluate.Goals.{in-Start, in-Collect, in-Act, in-Invoke, in-Perform, in-Turn, in-Tend, in-Native, in-Give+in-Some}
 
 pub returns-in_default-clause-performs : goal.returns-in_default-clause-performs
 returns-in_default-clause-performs g c =
@@ -54,6 +54,9 @@ loop-doing-preserved g c =
       | in-Turn x ↦
           went host m d world s past (doing.Turn x.in-Turn.repetition x.in-Turn.counter) x.in-Turn.is x.came-is x.machine-is x.world-is
           x.steps-is (ap (λ v. v.items) x.answers-is) x.turn-came.ensures.turns
+      | in-Tend x ↦
+          turned host m d world s past (Tend x.in-Tend.task) x.in-Tend.is x.came-is x.machine-is x.world-is x.steps-is
+          (ap (λ v. v.items) x.answers-is) x.tend-came.ensures.turns
       | in-Native x ↦
           did host m d world s past (Native x.in-Native.values) x.in-Native.is x.came-is x.machine-is x.world-is x.steps-is
           (ap (λ v. v.items) x.answers-is)
@@ -96,6 +99,9 @@ returns-in-Err-clause-performs g c =
       | in-Turn x ↦
           went host m d world s past (doing.Turn x.in-Turn.repetition x.in-Turn.counter) x.in-Turn.is x.came-is x.machine-is x.world-is
           x.steps-is (ap (λ v. v.items) x.answers-is) x.turn-came.ensures.turns
+      | in-Tend x ↦
+          turned host m d world s past (Tend x.in-Tend.task) x.in-Tend.is x.came-is x.machine-is x.world-is x.steps-is
+          (ap (λ v. v.items) x.answers-is) x.tend-came.ensures.turns
       | in-Native x ↦
           did host m d world s past (Native x.in-Native.values) x.in-Native.is x.came-is x.machine-is x.world-is x.steps-is
           (ap (λ v. v.items) x.answers-is)
@@ -110,7 +116,7 @@ returns-in-Err-clause-performs g c =
 
 pub loop-doing-init : goal.loop-doing-init
 loop-doing-init g c =
-    begun (g.N.Natives.host c.args.natives.now) c.args.form c.args.room c.new-levels.result c.of_function-context.result c.new-3.result
+    begun (g.N.Natives.host c.args.natives.now) c.args.form c.args.room c.new-levels.result c.in-Ok-of_function.context c.new-3.result
     c.args.world.now c.args.steps.now c.args.answers.now.items (search rules) (search rules) (search rules)
 
 pub returns-in-None : goal.returns-in-None

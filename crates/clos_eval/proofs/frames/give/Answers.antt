@@ -39,7 +39,7 @@ returns-in-InOrder-clause-leads c =
 pub returns-in-Aside-clause-leads : goal.returns-in-Aside-clause-leads
 returns-in-Aside-clause-leads c =
     subst (λ f. Leads (given_to c.args.machine.now f (value_of c.args.value)) (seen c.args.world.now) c.next_aside.result c.next_aside.new.machine) (sym c.in-Aside.is)
-    (c.next_aside.ensures.leads (λ u k. after (meaning c.args.machine.now.room) c.args.machine.now.context (Aside c.in-Aside.outer c.in-Aside.locals c.in-Aside.name c.in-Aside.plan c.in-Aside.rest) (value_of c.args.value) u k) (λ t. refl))
+    (c.next_aside.ensures.leads (λ u k. after (meaning c.args.machine.now.room) c.args.machine.now.context (Aside c.in-Aside.beside) (value_of c.args.value) u k) (λ t. refl))
 
 pub returns-in-Count-clause-leads : goal.returns-in-Count-clause-leads
 returns-in-Count-clause-leads c =

@@ -13,10 +13,10 @@ returns-then-steps-eq0-clause-turns c =
 pub returns-clause-turns : goal.returns-clause-turns
 returns-clause-turns c =
     let m : Machine = c.args.machine.now in
-    update_goes m (record m { levels = c.push.new.self }) c.args.id c.args.layout.now c.args.visit c.args.arguments (seen c.args.world.now)
+    update_goes m (record m { levels = c.push.new.self }) c.args.id c.args.layout.now c.args.visit c.in-Ok.visit c.args.arguments (seen c.args.world.now)
     (record (seen c.args.world.now) { classes = c.restructure.new.self.classes; store = c.restructure.new.self.contents }) c.args.steps.now (c.args.steps.now - 1)
-    (ap (λ ls. record m { levels = ls }) c.in_ok-push.ensures.ok) (omega (arith, c.if-steps-eq0.false))
-    (ap (λ o. record (seen c.args.world.now) { classes = o.classes; store = o.contents }) c.in-Ok.ensures.ok)
+    c.in-Ok.ensures.ok (ap (λ ls. record m { levels = ls }) c.in_ok-push.ensures.ok) (omega (arith, c.if-steps-eq0.false))
+    (ap (λ o. record (seen c.args.world.now) { classes = o.classes; store = o.contents }) c.in-Ok-restructure.ensures.ok)
 
 pub invariant_of-world : goal.invariant_of-world
 invariant_of-world c = record {

@@ -1,4 +1,4 @@
-use Rattle.std.proofs.Common.{◌≡◌, ◌∙◌, ap, sym, option_map, Some}
+use Rattle.std.proofs.Common.{◌∙◌, ap, sym, option_map, Some}
 use Rattle.std.proofs.lemmas.Option.{slice_get-get_or}
 use Rattle.clos_names.proofs.Lists.{name_at}
 use Rattle.clos_names.proofs.special.name_at.Goals as goal
