@@ -24,6 +24,17 @@ returns-in_default-clause-performs g c =
       uses = nothing_kept host run w s past (uses_of c.args.world.now);
     }
 
+pub returns-in_default-of_function-clause-performs : goal.returns-in_default-of_function-clause-performs
+returns-in_default-of_function-clause-performs g c =
+    let host = g.N.Natives.host c.args.natives.now in
+    let run = evaluation c.args.room c.args.form in
+    let w = seen c.args.world.now in
+    let s = c.args.steps.now in
+    let past = c.args.answers.now.items in record {
+      answer = ([], sym (append-nil past), 0, omega arith, quiet_answered host (run w 0) w 0 (evaluation_quiet c.args.room (known []) c.args.form w));
+      uses = nothing_kept host run w s past (uses_of c.args.world.now);
+    }
+
 -- what the handler of each did, and that the loop goes on from there
 pub loop-doing-preserved : goal.loop-doing-preserved
 loop-doing-preserved g c =
