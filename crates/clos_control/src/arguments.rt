@@ -9,7 +9,7 @@ ghost use Rattle.clos_machine.specs.clos_meaning.Meaning.{collect};
 use clos_forms::{Forms, Operator};
 use clos_machine::machine::{Action, Doing, Frame, Machine};
 use clos_machine::moves::{begin, give_up, split};
-use clos_machine::names::value_of_variable;
+use clos_machine::names::value_of_read;
 use clos_machine::{Stop, Values, World};
 use lisp_data::Value;
 use std::alloc::AllocError;
@@ -25,7 +25,7 @@ fn value_at_once<'a>(
 {
     match operator {
         Operator::Constant(value) => Some(value),
-        Operator::Variable(name) => value_of_variable(machine, world, name),
+        Operator::Variable(variable) => value_of_read(machine, world, variable),
         _ => None,
     }
 }

@@ -9,11 +9,11 @@ ghost use Rattle.clos_machine.specs.clos_meaning.SlotNames.{name_read, place_den
 ghost use Rattle.clos_machine.specs.clos_meaning.Variables.{found_value};
 
 use crate::binding::run_beside;
-use clos_forms::{Form, Forms, Operator, SlotBinding};
+use clos_forms::{Form, Forms, Operator, SlotBinding, Variable};
 use clos_machine::locals::slots_of;
 use clos_machine::machine::{Action, Doing, Frame, Machine, Target};
 use clos_machine::moves::{begin, split};
-use clos_machine::names::{place_denoted, value_of_variable};
+use clos_machine::names::{place_denoted, value_of_read};
 use clos_machine::{ConditionKind, Stop, World, about_name, plain};
 use lisp_data::{Name, Value};
 use std::alloc::Global;
@@ -23,15 +23,15 @@ pub fn read_name(
     alloc: Global,
     machine: &mut Machine,
     world: &World,
-    name: &Name,
+    variable: &Variable,
 ) -> Result<Doing, Stop>
-    ensures leads { Leads (here machine.old (λ ev env w. name_read ev env name.now (place_denoted w name.now) w))
+    ensures leads { Leads (here machine.old (λ ev env w. name_read ev env variable.now (place_denoted w variable.now) w))
         (seen world.now) result machine.new }
     ensures small { Grows act_weight machine.old.levels result machine.new }
 {
-    match value_of_variable(machine, world, name) {
+    match value_of_read(machine, world, variable) {
         Some(value) => Ok(Doing::Give(value.copy()?)),
-        None => read_place(alloc, machine, name),
+        None => read_place(alloc, machine, variable.name()),
     }
 }
 

@@ -2,6 +2,7 @@
 
 use crate::bound::{Bindings, Names, SlotBindings};
 use crate::call_method::{CalledMethod, NextMethods};
+use crate::variable::Variable;
 use clos_names::CalledName;
 use lisp_data::{Name, Value};
 
@@ -31,7 +32,7 @@ pub enum Operator {
     /// A `quote` form of a datum that is no value: of a dotted list, of one past the limits, or of a method. No parts.
     NoValue,
     /// No parts (HyperSpec 3.1.2.1.1).
-    Variable(Name),
+    Variable(Variable),
     /// What a `function` form names. No parts (HyperSpec 5.3).
     Function(FunctionName),
     /// The test, what is evaluated where it holds, and else where there is one (HyperSpec 5.3).
@@ -86,7 +87,7 @@ impl Drop for Operator {
     fn drop(self) {
         match self {
             Operator::Constant(value) => drop(value),
-            Operator::Variable(name) => drop(name),
+            Operator::Variable(variable) => drop(variable),
             Operator::Function(name) => drop(name),
             Operator::Let(bindings) => drop(bindings),
             Operator::LetInOrder(bindings) => drop(bindings),

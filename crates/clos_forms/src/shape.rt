@@ -18,7 +18,9 @@ use crate::operator::Operator;
 use crate::part::{Context, Part, Role, Shape, atom, in_roles, only, operation};
 use crate::place::{change_shape, place_shape, setf_shape};
 use crate::quotation::{quoted_value, value_named};
+use crate::scope::Scope;
 use crate::slots::with_slots_shape;
+use crate::variable::Variable;
 use clos_names::{CalledName, Special, is_definition, is_the, names_constant};
 use lisp_data::{Data, Datum, Items, Name, Value};
 use std::alloc::{AllocError, Global};
@@ -27,27 +29,29 @@ use std::alloc::{AllocError, Global};
 pub(crate) fn shape_of<'a>(
     alloc: Global,
     context: Context,
+    scope: &Scope,
     part: Part<'a>,
 ) -> Result<Shape<'a>, SyntaxFault>
     ensures { Gives shape_told result (shape_of context part.entry.role (datum_of part.entry.datum.now)) }
 {
     match part.role {
-        Role::Expression => expression_shape(alloc, context, part.datum),
+        Role::Expression => expression_shape(alloc, context, scope, part.datum),
         Role::Clause => clause_shape(alloc, part.datum),
         Role::Place => place_shape(alloc, part.datum),
     }
 }
 
-fn expression_shape(
+fn expression_shape<'a>(
     alloc: Global,
     context: Context,
-    datum: &Datum,
-) -> Result<Shape<'_>, SyntaxFault>
+    scope: &Scope,
+    datum: &'a Datum,
+) -> Result<Shape<'a>, SyntaxFault>
     ensures { Gives shape_told result (expression_shape context (datum_of datum.now)) }
 {
     match datum {
         Datum::Int(number) => Ok(constant(alloc, Value::Int(*number))),
-        Datum::Sym(name) => Ok(atom(alloc, symbol_operator(name)?)),
+        Datum::Sym(name) => Ok(atom(alloc, symbol_operator(scope, name)?)),
         Datum::Str(text) => Ok(constant(alloc, Value::Str(text.copy()?))),
         Datum::List(elements) => listed_shape(alloc, context, elements),
         Datum::Dotted(_) => Err(SyntaxFault::Program),
@@ -55,13 +59,14 @@ fn expression_shape(
     }
 }
 
-fn symbol_operator(name: &Name) -> Result<Operator, AllocError>
+fn symbol_operator(scope: &Scope, name: &Name) -> Result<Operator, AllocError>
     ensures { IfOk result (λ o. operator_of o ≡ symbol_operator name.now) }
 {
     if names_constant(name) {
         return Ok(Operator::Constant(value_named(name)?));
     }
-    Ok(Operator::Variable(name.copy()?))
+    let variable = Variable::new(name.copy()?, scope.find(name));
+    Ok(Operator::Variable(variable))
 }
 
 /// The empty list is NIL, any other a form of the operator at its head.

@@ -2,4 +2,4 @@
 pub mod TableCode
 pub mod Reserved
 pub mod AccessorMethods
-pub mod EqlPlaces
+pub mod EqlObjects

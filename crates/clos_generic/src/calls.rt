@@ -1,9 +1,12 @@
 //! What calls of a generic function ask of the table.
-ghost use Rattle.std.specs.Prelude.{◌≡◌, IfOk, length};
+ghost use Rattle.std.specs.Prelude.{◌≡◌, IfOk, IsTrue, length, true};
 ghost use Rattle.lisp_data.specs.ValueView.{value_of};
+ghost use Rattle.clos_method.specs.Applicable as among;
 ghost use Rattle.clos_method.specs.MethodIds.{method_numbers};
 ghost use Rattle.clos_generic.specs.Calls.{IsInOrder, accepts, allows_all, checks_keywords, has_eql, ordered, required_of};
+ghost use Rattle.clos_generic.specs.TableView.{function_of};
 
+use crate::function::Function;
 use crate::table::Generics;
 use clos_method::{Arguments, MethodIds, ordered_methods};
 use lisp_data::{GenericId, MethodId, Name, Value};
@@ -39,13 +42,28 @@ impl Generics {
     pub fn has_eql(&self, id: GenericId, place: usize, object: &Value) -> bool
         ensures { result ≡ has_eql self.now.table id.0 place (value_of object.now) }
     {
-        if !self.may_have_eql(id, place) {
+        if !self.may_have_eql(id, place, object) {
             return false;
         }
         match self.function(id) {
             None => false,
             Some(function) => {
-                clos_method::has_eql(self.methods(), function.methods(), place, object)
+                self.latest_has_eql(function, place, object)
+                    || clos_method::has_eql(self.methods(), function.methods(), place, object)
+            }
+        }
+    }
+
+    /// Whether the latest method that was noted to have an eql specializer of this object is still there, and has it at this
+    /// place. It looks at a few methods, however many there are.
+    fn latest_has_eql(&self, function: &Function, place: usize, object: &Value) -> bool
+        ensures { IsTrue result → among.has_eql self.now.table.methods (function_of function.now).methods place
+            (value_of object.now) ≡ true }
+    {
+        match function.latest_eql(place, object) {
+            None => false,
+            Some(id) => {
+                function.has(id) && clos_method::has_eql(self.methods(), &[id], place, object)
             }
         }
     }

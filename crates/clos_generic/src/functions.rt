@@ -1,7 +1,7 @@
 //! One of the functions in their list.
-ghost use Rattle.std.specs.Prelude.{◌≡◌, ◌==◌, ◌<◌, ◌+◌, ℕ, true, IfOk, IsOk, OnOk, OnErr, option_map, slice_get, vec_len, vec_capacity};
+ghost use Rattle.std.specs.Prelude.{◌≡◌, ◌==◌, ◌<◌, ◌+◌, ℕ, false, true, IfOk, IsOk, OnOk, OnErr, option_map, slice_get, vec_len, vec_capacity};
 ghost use Rattle.std.specs.List.{find};
-ghost use Rattle.clos_generic.specs.inner.EqlPlaces.{KeepNotes, NotesEql, is_noted_in};
+ghost use Rattle.clos_generic.specs.inner.EqlObjects.{KeepNotes, NotesEql, is_noted_in};
 ghost use Rattle.clos_generic.specs.inner.Reserved.{HasRoom, is_added};
 ghost use Rattle.clos_generic.specs.Table.{added, is_alike_at, methods_in, redefined, with_changed, with_methods, without};
 ghost use Rattle.clos_generic.specs.TableView.{functions_in};
@@ -9,7 +9,7 @@ ghost use Rattle.clos_generic.specs.TableView.{functions_in};
 use crate::function::Function;
 use crate::options::Options;
 use clos_method::Method;
-use lisp_data::{GenericId, MethodId};
+use lisp_data::{GenericId, MethodId, Value};
 use std::alloc::AllocError;
 use std::collections::VecDeque;
 
@@ -100,12 +100,12 @@ pub fn reserve_each(
     Ok(())
 }
 
-/// Whether a method of a function may have an eql specializer for the parameter at this place.
-pub fn may_have_eql(functions: &[Function], id: GenericId, place: usize) -> bool
-    ensures { result ≡ is_noted_in (slice_get functions.now id.0) place }
+/// Whether a method of a function may have an eql specializer of this object for the parameter at this place.
+pub fn may_have_eql(functions: &[Function], id: GenericId, place: usize, object: &Value) -> bool
+    ensures { result ≡ false → is_noted_in (slice_get functions.now id.0) place object.now ≡ false }
 {
     match functions.get(id.0 as usize) {
         None => false,
-        Some(function) => function.eql_places.may_have(place),
+        Some(function) => function.may_have_eql(place, object),
     }
 }

@@ -4,7 +4,7 @@
 mod accessors;
 mod calls;
 mod changes;
-mod eql_places;
+mod eql_objects;
 mod fault;
 mod function;
 mod functions;

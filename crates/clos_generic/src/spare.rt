@@ -5,6 +5,7 @@ ghost use Rattle.clos_generic.specs.Held.{after_first};
 ghost use Rattle.clos_generic.specs.Table.{same_function};
 
 use crate::changes::{Addition, Definition};
+use crate::eql_objects::EqlObjects;
 use crate::names::{copy_name, is_same};
 use clos_forms::FunctionName;
 use lisp_data::{GenericId, MethodId};
@@ -18,6 +19,7 @@ pub struct Spare {
     pub(crate) key: FunctionName,
     /// Room for its methods.
     pub(crate) methods: Vec<MethodId>,
+    pub(crate) eql_objects: EqlObjects,
 }
 
 impl Spare {
@@ -29,6 +31,7 @@ impl Spare {
         Ok(Spare {
             key: copy_name(name)?,
             methods: Vec::with_capacity(alloc, methods)?,
+            eql_objects: EqlObjects::new(alloc),
         })
     }
 }

@@ -1,7 +1,7 @@
 //! The generic functions of a session and their methods.
 ghost use Rattle.std.specs.Prelude.{◌≡◌, ◌==◌, ◌<◌, ◌-◌, ◌∷◌, ◌||◌, [], ℕ, false, true, None, IfOk, IsOk, IfErr, OnOk, OnErr, MatchResult, is_some, length, option_map, option_copied, slice_get};
 ghost use Rattle.std.specs.List.{list_any};
-ghost use Rattle.lisp_data.specs.Value.{Val};
+ghost use Rattle.lisp_data.specs.ValueView.{value_of};
 ghost use Rattle.clos_forms.specs.declared.operator.FunctionName.TheVariants.{Symbol, Setf};
 ghost use Rattle.clos_generic.specs.Accessors.{is_accessor_in};
 ghost use Rattle.clos_generic.specs.Calls.{has_eql};
@@ -28,7 +28,7 @@ use crate::spare::{Spare, functions_of, pass_addition, spares_for, take_spare};
 use crate::system::system_options;
 use clos_forms::FunctionName;
 use clos_method::{Method, Qualifiers, Shape, Specializers, SystemFunction, is_congruent};
-use lisp_data::{ClassId, GenericId, MethodId, Name};
+use lisp_data::{ClassId, GenericId, MethodId, Name, Value};
 use std::alloc::{AllocError, Global};
 use std::collections::{HashMap, VecDeque};
 use std::marker::Model;
@@ -64,7 +64,7 @@ impl Model for Generics {
     ghost use Rattle.std.specs.HashMap.{get, spare};
     ghost use Rattle.std.specs.Prelude.{length};
     ghost use Rattle.clos_generic.specs.inner.AccessorMethods.{HasPlaces, IsKept};
-    ghost use Rattle.clos_generic.specs.inner.EqlPlaces.{AreNoted};
+    ghost use Rattle.clos_generic.specs.inner.EqlObjects.{AreNoted};
     ghost use Rattle.clos_generic.specs.inner.Reserved.{IsReady, ids_of, keys_of};
     ghost use Rattle.lisp_data.specs.Name.{same_name};
     ghost use Rattle.clos_forms.specs.declared.operator.FunctionName.TheVariants.{Symbol, Setf};
@@ -177,11 +177,12 @@ impl Generics {
         }
     }
 
-    /// Whether a method of a function may have an eql specializer for the parameter at this place. It walks no methods.
-    pub(crate) fn may_have_eql(&self, id: GenericId, place: usize) -> bool
-        ensures { result ≡ false → (v : Val) → has_eql self.now.table id.0 place v ≡ false }
+    /// Whether a method of a function may have an eql specializer of this object for the parameter at this place. It walks
+    /// no methods.
+    pub(crate) fn may_have_eql(&self, id: GenericId, place: usize, object: &Value) -> bool
+        ensures { result ≡ false → has_eql self.now.table id.0 place (value_of object.now) ≡ false }
     {
-        may_have_eql(&self.functions, id, place)
+        may_have_eql(&self.functions, id, place, object)
     }
 
     /// The latest method that came with an accessor of a class.
@@ -281,8 +282,12 @@ impl Generics {
         let Ok(()) = note_function(&mut self.symbols, &mut self.setters, spare.key, id) else {
             unreachable!()
         };
-        self.functions
-            .push_reserved(Function::new(name, options, spare.methods));
+        self.functions.push_reserved(Function::new(
+            name,
+            options,
+            spare.methods,
+            spare.eql_objects,
+        ));
     }
 
     /// Makes a function, which comes last.

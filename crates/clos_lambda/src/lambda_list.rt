@@ -8,11 +8,15 @@ ghost use Rattle.clos_forms.specs.Fault.{Gives};
 ghost use Rattle.clos_lambda.specs.LambdaList.{all_variables, allowing, bare, entries_of, generic_lambda_list_in, given_in, has_init, has_inits, if_distinct, key_in, key_variables, key_with, keyed, keyword_of, keys_from, lambda_list_in, listed_key, listed_optional, named_key, names_in, optional_in, optional_variables, optional_with, optionals_in, ordinary, parameter_in, plain_key, rest_in, unless_keyword, variables_of, with_keys, with_optionals, with_rest};
 ghost use Rattle.clos_lambda.specs.Lists.{the_one};
 
-use crate::kind::{Kind, parse_front, parse_plain_form, parse_symbol};
+use crate::kind::{Kind, parse_front, parse_symbol};
 use crate::list::parse_list;
+use crate::parameter::{Parameter, parse_parameters};
 use crate::section::{after, back, is_lambda_list_keyword, is_symbol_called, past};
 use crate::sequence::Sequence;
-use clos_forms::{Form, SyntaxFault, are_distinct, at_most_one, only, variable_name};
+use clos_forms::{
+    Context, Form, Scope, SyntaxFault, are_distinct, at_most_one, only, parse_form_within,
+    variable_name,
+};
 use lisp_data::{Data, Datum, Name};
 use std::alloc::{AllocError, Global};
 
@@ -78,23 +82,41 @@ impl Kind for Variables {
     }
 }
 
-impl Kind for Optionals {
+impl Parameter for Optionals {
     type Item = Optional;
 
     ghost item_in = { optional_in };
 
-    fn parse(alloc: Global, datum: &Datum) -> Result<Optional, SyntaxFault> {
-        parse_optional(alloc, datum)
+    fn parse(alloc: Global, scope: &mut Scope, datum: &Datum) -> Result<Optional, SyntaxFault> {
+        let optional = parse_optional(alloc, scope, datum)?;
+        bind_variables(scope, &optional)?;
+        Ok(optional)
     }
 }
 
-impl Kind for KeyEntries {
+impl Parameter for KeyEntries {
     type Item = Key;
 
     ghost item_in = { key_in };
 
-    fn parse(alloc: Global, datum: &Datum) -> Result<Key, SyntaxFault> {
-        parse_key(alloc, datum)
+    fn parse(alloc: Global, scope: &mut Scope, datum: &Datum) -> Result<Key, SyntaxFault> {
+        let key = parse_key(alloc, scope, datum)?;
+        bind_variables(scope, &key.variable)?;
+        Ok(key)
+    }
+}
+
+/// The variables of a parameter come into scope.
+fn bind_variables(scope: &mut Scope, entry: &Optional) -> Result<(), AllocError> {
+    scope.bind_parameter(&entry.name)?;
+    bind_optional(scope, &entry.given)
+}
+
+/// A variable comes into scope, where there is one.
+fn bind_optional(scope: &mut Scope, name: &Option<Name>) -> Result<(), AllocError> {
+    match name {
+        None => Ok(()),
+        Some(name) => scope.bind_parameter(name),
     }
 }
 
@@ -134,7 +156,7 @@ fn bare(name: Name) -> Optional
 }
 
 /// `v`, `(v)`, `(v init)` or `(v init given)`.
-fn parse_optional(alloc: Global, datum: &Datum) -> Result<Optional, SyntaxFault>
+fn parse_optional(alloc: Global, scope: &mut Scope, datum: &Datum) -> Result<Optional, SyntaxFault>
     ensures { Gives (λ o. o) result (optional_in (datum_of datum.now)) }
 {
     match datum {
@@ -142,7 +164,7 @@ fn parse_optional(alloc: Global, datum: &Datum) -> Result<Optional, SyntaxFault>
             let name = parse_parameter(datum)?;
             Ok(bare(name))
         }
-        Datum::List(elements) => parse_listed_optional(alloc, elements),
+        Datum::List(elements) => parse_listed_optional(alloc, scope, elements),
         Datum::Int(_) => Err(SyntaxFault::Program),
         Datum::Str(_) => Err(SyntaxFault::Program),
         Datum::Dotted(_) => Err(SyntaxFault::Program),
@@ -150,26 +172,35 @@ fn parse_optional(alloc: Global, datum: &Datum) -> Result<Optional, SyntaxFault>
     }
 }
 
-fn parse_listed_optional(alloc: Global, elements: &Data) -> Result<Optional, SyntaxFault>
+fn parse_listed_optional(
+    alloc: Global,
+    scope: &mut Scope,
+    elements: &Data,
+) -> Result<Optional, SyntaxFault>
     ensures { Gives (λ o. o) result (listed_optional elements.now) }
 {
     match elements.split_first() {
         None => Err(SyntaxFault::Program),
         Some((variable, rest)) => {
             let name = parse_parameter(variable)?;
-            parse_optional_with(alloc, name, rest)
+            parse_optional_with(alloc, scope, name, rest)
         }
     }
 }
 
 /// What may follow the variable: an init form, and then a variable that tells whether there is an argument.
-fn parse_optional_with(alloc: Global, name: Name, rest: &Data) -> Result<Optional, SyntaxFault>
+fn parse_optional_with(
+    alloc: Global,
+    scope: &mut Scope,
+    name: Name,
+    rest: &Data,
+) -> Result<Optional, SyntaxFault>
     ensures { Gives (λ o. o) result (optional_with name rest.now) }
 {
     match rest.split_first() {
         None => Ok(bare(name)),
         Some((init, rest)) => {
-            let init = parse_plain_form(alloc, init)?;
+            let init = parse_form_within(alloc, Context::Plain, scope, init)?;
             match at_most_one(rest) {
                 None => Err(SyntaxFault::Program),
                 Some(given) => {
@@ -196,17 +227,17 @@ pub fn parse_given(datum: Option<&Datum>) -> Result<Option<Name>, SyntaxFault>
 }
 
 /// As of `&optional`, where the variable may be `(name v)`.
-fn parse_key(alloc: Global, datum: &Datum) -> Result<Key, SyntaxFault>
+fn parse_key(alloc: Global, scope: &mut Scope, datum: &Datum) -> Result<Key, SyntaxFault>
     ensures { Gives (λ k. k) result (key_in (datum_of datum.now)) }
 {
     match datum {
         Datum::Sym(_) => {
             let name = parse_parameter(datum)?;
-            parse_plain_key(alloc, name, &Data::new())
+            parse_plain_key(alloc, scope, name, &Data::new())
         }
         Datum::List(elements) => match elements.split_first() {
             None => Err(SyntaxFault::Program),
-            Some((variable, rest)) => parse_key_with(alloc, variable, rest),
+            Some((variable, rest)) => parse_key_with(alloc, scope, variable, rest),
         },
         Datum::Int(_) => Err(SyntaxFault::Program),
         Datum::Str(_) => Err(SyntaxFault::Program),
@@ -216,15 +247,20 @@ fn parse_key(alloc: Global, datum: &Datum) -> Result<Key, SyntaxFault>
 }
 
 /// A variable or `(name v)`, and what follows it.
-fn parse_key_with(alloc: Global, variable: &Datum, rest: &Data) -> Result<Key, SyntaxFault>
+fn parse_key_with(
+    alloc: Global,
+    scope: &mut Scope,
+    variable: &Datum,
+    rest: &Data,
+) -> Result<Key, SyntaxFault>
     ensures { Gives (λ k. k) result (key_with (datum_of variable.now) rest.now) }
 {
     match variable {
         Datum::Sym(_) => {
             let name = parse_parameter(variable)?;
-            parse_plain_key(alloc, name, rest)
+            parse_plain_key(alloc, scope, name, rest)
         }
-        Datum::List(elements) => parse_named_key(alloc, elements, rest),
+        Datum::List(elements) => parse_named_key(alloc, scope, elements, rest),
         Datum::Int(_) => Err(SyntaxFault::Program),
         Datum::Str(_) => Err(SyntaxFault::Program),
         Datum::Dotted(_) => Err(SyntaxFault::Program),
@@ -233,11 +269,16 @@ fn parse_key_with(alloc: Global, variable: &Datum, rest: &Data) -> Result<Key, S
 }
 
 /// A variable whose keyword has its characters.
-fn parse_plain_key(alloc: Global, name: Name, rest: &Data) -> Result<Key, SyntaxFault>
+fn parse_plain_key(
+    alloc: Global,
+    scope: &mut Scope,
+    name: Name,
+    rest: &Data,
+) -> Result<Key, SyntaxFault>
     ensures { Gives (λ k. k) result (plain_key name rest.now) }
 {
     let keyword = keyword_of(alloc, &name)?;
-    let variable = parse_optional_with(alloc, name, rest)?;
+    let variable = parse_optional_with(alloc, scope, name, rest)?;
     Ok(Key { keyword, variable })
 }
 
@@ -248,7 +289,12 @@ fn keyword_of(alloc: Global, name: &Name) -> Result<Name, AllocError>
 }
 
 /// `(name v)`, and what follows it.
-fn parse_named_key(alloc: Global, elements: &Data, rest: &Data) -> Result<Key, SyntaxFault>
+fn parse_named_key(
+    alloc: Global,
+    scope: &mut Scope,
+    elements: &Data,
+    rest: &Data,
+) -> Result<Key, SyntaxFault>
     ensures { Gives (λ k. k) result (named_key elements.now rest.now) }
 {
     match elements.split_first() {
@@ -259,7 +305,7 @@ fn parse_named_key(alloc: Global, elements: &Data, rest: &Data) -> Result<Key, S
                 None => Err(SyntaxFault::Program),
                 Some(variable) => {
                     let name = parse_parameter(variable)?;
-                    let variable = parse_optional_with(alloc, name, rest)?;
+                    let variable = parse_optional_with(alloc, scope, name, rest)?;
                     Ok(Key { keyword, variable })
                 }
             }
@@ -268,12 +314,16 @@ fn parse_named_key(alloc: Global, elements: &Data, rest: &Data) -> Result<Key, S
 }
 
 /// The section of `&optional`.
-fn parse_optionals(alloc: Global, section: Option<&Data>) -> Result<Sequence<Optional>, SyntaxFault>
+fn parse_optionals(
+    alloc: Global,
+    scope: &mut Scope,
+    section: Option<&Data>,
+) -> Result<Sequence<Optional>, SyntaxFault>
     ensures { Gives (λ os. os) result (optionals_in (option_copied section.entry)) }
 {
     match section {
         None => Ok(Sequence::new(alloc)),
-        Some(section) => parse_front::<Optionals>(alloc, section),
+        Some(section) => parse_parameters::<Optionals>(alloc, scope, section),
     }
 }
 
@@ -294,6 +344,7 @@ fn parse_rest(alloc: Global, section: Option<&Data>) -> Result<Option<Name>, Syn
 /// The section of `&key`, and nothing more than `&allow-other-keys` after it. Where there is none, nothing more.
 fn parse_keys(
     alloc: Global,
+    scope: &mut Scope,
     section: Option<&Data>,
     rest: &Data,
 ) -> Result<Option<Keys>, SyntaxFault>
@@ -305,7 +356,7 @@ fn parse_keys(
             Some(_) => Err(SyntaxFault::Program),
         },
         Some(section) => {
-            let entries = parse_front::<KeyEntries>(alloc, section)?;
+            let entries = parse_parameters::<KeyEntries>(alloc, scope, section)?;
             match allowing(back(section)) {
                 None => Err(SyntaxFault::Program),
                 Some(allow_other_keys) => Ok(Some(Keys {
@@ -415,21 +466,24 @@ fn if_distinct(alloc: Global, list: LambdaList) -> Result<LambdaList, SyntaxFaul
     Ok(list)
 }
 
-/// The lambda list of these required parameters, from the first lambda list keyword on.
+/// The lambda list of these required parameters, from the first lambda list keyword on. Its variables come into scope.
 pub fn parse_with_optionals(
     alloc: Global,
+    scope: &mut Scope,
     required: Sequence<Name>,
     elements: &Data,
 ) -> Result<LambdaList, SyntaxFault>
     ensures { Gives (λ l. l) result (with_optionals required elements.now) }
 {
+    scope.bind_parameters(required.as_slice())?;
     let section = after("&OPTIONAL", elements);
-    let optional = parse_optionals(alloc, section)?;
-    parse_with_rest(alloc, required, optional, past(elements, section))
+    let optional = parse_optionals(alloc, scope, section)?;
+    parse_with_rest(alloc, scope, required, optional, past(elements, section))
 }
 
 fn parse_with_rest(
     alloc: Global,
+    scope: &mut Scope,
     required: Sequence<Name>,
     optional: Sequence<Optional>,
     elements: &Data,
@@ -438,11 +492,20 @@ fn parse_with_rest(
 {
     let section = after("&REST", elements);
     let rest = parse_rest(alloc, section)?;
-    parse_with_keys(alloc, required, optional, rest, past(elements, section))
+    bind_optional(scope, &rest)?;
+    parse_with_keys(
+        alloc,
+        scope,
+        required,
+        optional,
+        rest,
+        past(elements, section),
+    )
 }
 
 fn parse_with_keys(
     alloc: Global,
+    scope: &mut Scope,
     required: Sequence<Name>,
     optional: Sequence<Optional>,
     rest: Option<Name>,
@@ -450,7 +513,7 @@ fn parse_with_keys(
 ) -> Result<LambdaList, SyntaxFault>
     ensures { Gives (λ l. l) result (with_keys required optional rest elements.now) }
 {
-    let keys = parse_keys(alloc, after("&KEY", elements), elements)?;
+    let keys = parse_keys(alloc, scope, after("&KEY", elements), elements)?;
     let list = LambdaList {
         required,
         optional,
@@ -460,13 +523,17 @@ fn parse_with_keys(
     if_distinct(alloc, list)
 }
 
-/// An ordinary lambda list (HyperSpec 3.4.1).
-pub fn parse_lambda_list(alloc: Global, datum: &Datum) -> Result<LambdaList, SyntaxFault>
+/// An ordinary lambda list (HyperSpec 3.4.1). Its variables come into scope.
+pub fn parse_lambda_list(
+    alloc: Global,
+    scope: &mut Scope,
+    datum: &Datum,
+) -> Result<LambdaList, SyntaxFault>
     ensures { Gives (λ l. l) result (lambda_list_in (datum_of datum.now)) }
 {
     let elements = parse_list(datum)?;
     let required = parse_front::<Variables>(alloc, &elements)?;
-    parse_with_optionals(alloc, required, back(&elements))
+    parse_with_optionals(alloc, scope, required, back(&elements))
 }
 
 fn has_init(entry: &Optional) -> bool
@@ -497,7 +564,7 @@ fn has_inits(list: &LambdaList) -> bool
 pub fn parse_generic_lambda_list(alloc: Global, datum: &Datum) -> Result<LambdaList, SyntaxFault>
     ensures { Gives (λ l. l) result (generic_lambda_list_in (datum_of datum.now)) }
 {
-    let list = parse_lambda_list(alloc, datum)?;
+    let list = parse_lambda_list(alloc, &mut Scope::new(alloc), datum)?;
     if has_inits(&list) {
         return Err(SyntaxFault::Program);
     }

@@ -4,6 +4,7 @@
 mod kind;
 pub mod lambda_list;
 mod list;
+mod parameter;
 mod property;
 mod section;
 pub mod sequence;

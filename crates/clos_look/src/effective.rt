@@ -147,7 +147,7 @@ fn begin(
 ) -> Result<(), AllocError> {
     match form.operator() {
         Operator::Constant(value) => push_constant(page, world, value),
-        Operator::Variable(name) => page.name(world, name),
+        Operator::Variable(variable) => page.name(world, variable.name()),
         Operator::Call(called) => begin_call(page, world, called.name(), form.parts(), pieces),
         Operator::CallMethod(called, next) => {
             page.text("(CALL-METHOD")?;

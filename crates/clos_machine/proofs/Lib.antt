@@ -1,4 +1,5 @@
 pub mod Lists
+pub mod Apart
 pub mod Turns
 pub mod Quiet
 pub mod Runs

@@ -26,7 +26,7 @@ last_mapped f (z ∷ xs) x ys = ap (λ l. f z ∷ l) (last_mapped f xs x ys)
 -- ---- the lexical names, the innermost first
 
 -- past other names
-named_past : (name : Name) (xs ys : List (Name × Denoted)) → local_named xs name ≡ None → local_named (xs ++ ys) name ≡ local_named ys name
+pub named_past : (name : Name) (xs ys : List (Name × Denoted)) → local_named xs name ≡ None → local_named (xs ++ ys) name ≡ local_named ys name
 named_past name [] ys h = refl
 named_past name (x ∷ xs) ys h =
     elim (same_name x.0 name)
@@ -41,7 +41,7 @@ set_past name v (x ∷ xs) ys h =
     [ true ↦ λ e. absurd (cc e) | false ↦ λ e. ap (λ l. x ∷ l) (set_past name v xs ys e) ] h
 
 -- the names round one of them
-turned_round : (before : List Local) (x : Local) (after : List Local) → reverse (map local_of (before ++ x ∷ after)) ≡ reverse (map local_of after) ++ local_of x ∷ reverse (map local_of before)
+pub turned_round : (before : List Local) (x : Local) (after : List Local) → reverse (map local_of (before ++ x ∷ after)) ≡ reverse (map local_of after) ++ local_of x ∷ reverse (map local_of before)
 turned_round before x after =
     ap reverse (map-append local_of before (x ∷ after)) ∙ reverse-append (map local_of before) (local_of x ∷ map local_of after)
     ∙ ap (λ l. l ++ reverse (map local_of before)) (reverse-append (local_of x ∷ []) (map local_of after))
@@ -73,7 +73,7 @@ set_split [] i y h = absurd (omega (arith, h))
 set_split (x ∷ xs) zero y h = refl
 set_split (x ∷ xs) (suc i) y h = ap (λ l. x ∷ l) (set_split xs i y (omega (arith, h)))
 
-split_at : {A : Type 0} (xs : List A) (i : ℕ) (x : A) → i < length xs → get_or xs i x ≡ x → xs ≡ take i xs ++ x ∷ drop (suc i) xs
+pub split_at : {A : Type 0} (xs : List A) (i : ℕ) (x : A) → i < length xs → get_or xs i x ≡ x → xs ≡ take i xs ++ x ∷ drop (suc i) xs
 split_at [] i x h e = absurd (omega (arith, h))
 split_at (y ∷ xs) zero x h e = ap (λ z. z ∷ xs) e
 split_at (y ∷ xs) (suc i) x h e = ap (λ l. y ∷ l) (split_at xs i x (omega (arith, h)) e)

@@ -1,11 +1,11 @@
 //! The lexical names of the body that runs: variables (HyperSpec 3.1.2.1.1), and names that stand for slots (7.7).
-ghost use Rattle.std.specs.Prelude.{◌≡◌, ◌∷◌, ◌++◌, [], IfOk, OnOk, MatchOption, map, option_map, length, is_some, true, false};
+ghost use Rattle.std.specs.Prelude.{◌≡◌, ◌∷◌, ◌++◌, [], IfOk, OnOk, MatchOption, map, option_map, length, is_some, true, false, IsTrue};
 ghost use Rattle.lisp_data.specs.ValueView.{value_of};
 ghost use Rattle.clos_forms.specs.BoundView.{bound, bound_slot};
 ghost use Rattle.clos_meaning.specs.clos_world.Globals.{any_global};
 ghost use Rattle.clos_meaning.specs.clos_world.World.{seen, held, in_slot, local_named, outermost};
 ghost use Rattle.clos_meaning.specs.Assignment.{with_local};
-ghost use Rattle.clos_machine.specs.LocalsView.{denoted_of};
+ghost use Rattle.clos_machine.specs.LocalsView.{AreApart, AreOthers, denoted_of};
 ghost use Rattle.clos_machine.specs.Machine.{Binds, Settles, Skips, settled, unset, unset_aside, with_next};
 ghost use Rattle.clos_meaning.specs.Parameters.{required_sources};
 ghost use Rattle.clos_meaning.specs.SlotNames.{slot_locals};
@@ -35,10 +35,14 @@ pub struct Local {
     pub denotation: Denotation,
 }
 
-/// The lexical names in scope. Contracts see the list, the innermost first.
+/// Of so many names at most it is known whether they differ.
+const FEW: usize = 16;
+
+/// The lexical names in scope, and whether it is known that they differ. Contracts see the list, the innermost first.
 #[derive(Drop)]
 pub struct Locals {
     locals: Vec<Local>,
+    apart: bool,
 }
 
 impl Model for Locals {
@@ -53,6 +57,11 @@ impl Model for Locals {
     ghost use Rattle.clos_machine.specs.LocalsView.{local_of};
 
     ghost view = { λ a. reverse (map local_of a.locals.items) };
+
+    ghost use Rattle.std.specs.Prelude.{◌≡◌, true};
+    ghost use Rattle.clos_machine.specs.LocalsView.{AreApart};
+
+    ghost invariant = { λ a. a.apart ≡ true → AreApart (reverse (map local_of a.locals.items)) };
 }
 
 impl Locals {
@@ -62,6 +71,7 @@ impl Locals {
     {
         Locals {
             locals: Vec::new(alloc),
+            apart: true,
         }
     }
 
@@ -69,7 +79,14 @@ impl Locals {
     pub fn push(&mut self, name: Name, value: Value) -> Result<(), AllocError>
         ensures { OnOk result (self.new ≡ (name, held (value_of value)) ∷ self.old) }
     {
-        let denotation = Denotation::Held(value);
+        self.push_local(name, Denotation::Held(value))
+    }
+
+    /// One more name, within the others, which denotes this.
+    fn push_local(&mut self, name: Name, denotation: Denotation) -> Result<(), AllocError>
+        ensures { OnOk result (self.new ≡ (name, denoted_of denotation) ∷ self.old) }
+    {
+        self.apart = self.apart && self.locals.len() < FEW && self.get(&name).is_none();
         self.locals.push(Local { name, denotation })?;
         Ok(())
     }
@@ -78,9 +95,7 @@ impl Locals {
     fn push_slot(&mut self, name: Name, slot: Name, object: Value) -> Result<(), AllocError>
         ensures { OnOk result (self.new ≡ (name, in_slot slot (value_of object)) ∷ self.old) }
     {
-        let denotation = Denotation::InSlot(slot, object);
-        self.locals.push(Local { name, denotation })?;
-        Ok(())
+        self.push_local(name, Denotation::InSlot(slot, object))
     }
 
     /// How many they are.
@@ -112,6 +127,16 @@ impl Locals {
             }
         }
         None
+    }
+
+    /// What the innermost of this name denotes, which is looked for at this place first, counted from the outermost.
+    pub fn get_at(&self, name: &Name, place: usize) -> Option<&Denotation>
+        ensures { option_map (λ d. denoted_of d.now) result ≡ local_named self.now name.now }
+    {
+        if self.apart && place < self.locals.len() && self.locals[place].name.is(name) {
+            return Some(&self.locals[place].denotation);
+        }
+        self.get(name)
     }
 
     /// Makes the innermost of this name hold this value; where there is none, the value comes back.
@@ -150,8 +175,37 @@ impl Locals {
     pub fn append(&mut self, mut more: Locals) -> Result<(), AllocError>
         ensures { OnOk result (self.new ≡ more ++ self.old) }
     {
+        let apart = self.stay_apart(&more);
         self.locals.append(&mut more.locals)?;
+        self.apart = apart;
         Ok(())
+    }
+
+    /// Whether it is known that they and these names differ.
+    fn stay_apart(&self, more: &Locals) -> bool
+        ensures { IsTrue result → AreApart (more.now ++ self.now) }
+    {
+        if !self.apart || !more.apart {
+            return false;
+        }
+        self.lacks(more)
+    }
+
+    /// Whether none of these names is among them, of few.
+    fn lacks(&self, more: &Locals) -> bool
+        ensures { IsTrue result → AreOthers more.now self.now }
+    {
+        let mut place = more.len();
+        if place > FEW || self.len() > FEW {
+            return false;
+        }
+        while place > 0 {
+            place -= 1;
+            if self.get(&more.locals[place].name).is_some() {
+                return false;
+            }
+        }
+        true
     }
 }
 

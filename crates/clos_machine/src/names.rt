@@ -4,12 +4,14 @@ ghost use Rattle.lisp_data.specs.ValueView.{value_of};
 ghost use Rattle.clos_forms.specs.Quotation.{name_value};
 ghost use Rattle.clos_meaning.specs.clos_world.World.{State, seen};
 ghost use Rattle.clos_meaning.specs.SlotNames.{place_denoted};
-ghost use Rattle.clos_meaning.specs.Variables.{found_value};
+ghost use Rattle.clos_meaning.specs.Variables.{found_value, or_global};
+ghost use Rattle.clos_meaning.specs.clos_world.Globals.{global_value};
+ghost use Rattle.clos_machine.specs.LocalsView.{denoted_of};
 ghost use Rattle.clos_machine.specs.Machine.{at};
 
 use crate::locals::Denotation;
 use crate::machine::Machine;
-use clos_forms::value_named;
+use clos_forms::{Variable, value_named};
 use clos_meaning::{Values, World};
 use lisp_data::{Name, Value};
 use std::alloc::{AllocError, Global};
@@ -23,7 +25,34 @@ pub fn value_of_variable<'a>(
 ) -> Option<&'a Value>
     ensures { option_map (λ v. value_of v.now) result ≡ found_value (at machine.now (seen world.now)) name.now }
 {
-    match machine.locals.get(name) {
+    value_denoted(machine.locals.get(name), world, name)
+}
+
+/// The value of a variable that is read, in the same way.
+pub fn value_of_read<'a>(
+    machine: &'a Machine,
+    world: &'a World,
+    variable: &Variable,
+) -> Option<&'a Value>
+    ensures { option_map (λ v. value_of v.now) result ≡ found_value (at machine.now (seen world.now)) variable.now }
+{
+    let found = match variable.position() {
+        Some(position) => machine.locals.get_at(variable.name(), position.place),
+        None => machine.locals.get(variable.name()),
+    };
+    value_denoted(found, world, variable.name())
+}
+
+/// The value of a variable whose name denotes this.
+fn value_denoted<'a>(
+    found: Option<&'a Denotation>,
+    world: &'a World,
+    name: &Name,
+) -> Option<&'a Value>
+    ensures { option_map (λ v. value_of v.now) result ≡ or_global (option_map (λ d. denoted_of d.now) found.entry)
+        (global_value (seen world.now).globals name.now) }
+{
+    match found {
         Some(Denotation::Held(value)) => Some(value),
         Some(Denotation::InSlot(_, _)) => None,
         None => world.globals.value(name),

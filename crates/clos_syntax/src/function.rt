@@ -5,7 +5,7 @@ ghost use Rattle.clos_forms.specs.Fault.{Gives};
 ghost use Rattle.clos_syntax.specs.Function.{function_in, function_with};
 
 use crate::function_name::parse_new_function;
-use clos_forms::{Context, Forms, FunctionName, SyntaxFault, parse_body};
+use clos_forms::{Context, Forms, FunctionName, Scope, SyntaxFault, parse_body};
 use clos_lambda::{LambdaList, parse_lambda_list};
 use lisp_data::{Data, Datum};
 use std::alloc::Global;
@@ -41,8 +41,9 @@ fn parse_function_with(
     ensures { Gives (λ d. d) result (function_with (datum_of name.now) (datum_of parameters.now) body.now) }
 {
     let name = parse_new_function(name)?;
-    let lambda_list = parse_lambda_list(alloc, parameters)?;
-    let body = parse_body(alloc, Context::Plain, body)?;
+    let mut scope = Scope::new(alloc);
+    let lambda_list = parse_lambda_list(alloc, &mut scope, parameters)?;
+    let body = parse_body(alloc, Context::Plain, &mut scope, body)?;
     Ok(FunctionDefinition {
         name,
         lambda_list,

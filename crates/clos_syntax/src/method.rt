@@ -6,7 +6,7 @@ ghost use Rattle.clos_forms.specs.Fault.{Gives};
 ghost use Rattle.clos_lambda.specs.Lists.{ahead};
 ghost use Rattle.clos_syntax.specs.Method.{eql_specializer, is_qualifier, listed_specializer, method_in, method_with, past_qualifiers, qualified, qualifiers_in, required_in, specialized, specialized_name, specializer_in, specializer_named, specializers_in, t_name};
 
-use clos_forms::{Context, Form, Forms, SyntaxFault, is_the, only, parse_body};
+use clos_forms::{Context, Form, Forms, Scope, SyntaxFault, is_the, only, parse_body};
 use clos_lambda::{
     Kind, LambdaList, Sequence, back, is_symbol_called, parse_front, parse_list, parse_parameter,
     parse_plain_form, parse_with_optionals,
@@ -240,9 +240,10 @@ fn parse_method_with(
 ) -> Result<MethodDefinition, SyntaxFault>
     ensures { Gives (λ m. m) result (method_with qualifiers parameters.now body.now) }
 {
-    let lambda_list = parse_specialized(alloc, parameters)?;
+    let mut scope = Scope::new(alloc);
+    let lambda_list = parse_specialized(alloc, &mut scope, parameters)?;
     let specializers = parse_front::<Specializers>(alloc, parameters)?;
-    let body = parse_body(alloc, Context::Method, body)?;
+    let body = parse_body(alloc, Context::Method, &mut scope, body)?;
     Ok(MethodDefinition {
         qualifiers,
         lambda_list,
@@ -251,10 +252,14 @@ fn parse_method_with(
     })
 }
 
-/// The lambda list without the specializers (HyperSpec 3.4.3).
-fn parse_specialized(alloc: Global, parameters: &Data) -> Result<LambdaList, SyntaxFault>
+/// The lambda list without the specializers (HyperSpec 3.4.3). Its variables come into scope.
+fn parse_specialized(
+    alloc: Global,
+    scope: &mut Scope,
+    parameters: &Data,
+) -> Result<LambdaList, SyntaxFault>
     ensures { Gives (λ l. l) result (specialized parameters.now) }
 {
     let required = parse_front::<RequiredNames>(alloc, parameters)?;
-    parse_with_optionals(alloc, required, back(parameters))
+    parse_with_optionals(alloc, scope, required, back(parameters))
 }

@@ -3,7 +3,7 @@ use Rattle.std.specs.Prelude.{vec_len, vec_capacity}
 use Rattle.clos_generic.proofs.Rooms.{room_changed}
 use Rattle.clos_generic.specs.Table.{redefined}
 use Rattle.clos_generic.specs.TableView.{function_of}
-use Rattle.clos_generic.specs.inner.EqlPlaces.{is_noted}
+use Rattle.clos_generic.specs.inner.EqlObjects.{is_noted}
 use Rattle.clos_generic.proofs.Changed.{changed_at}
 use Rattle.clos_generic.proofs.EqlNoted.{notes_kept}
 use Rattle.clos_generic.proofs.functions.redefine_at.Goals as goal
@@ -19,4 +19,4 @@ returns-clause-rooms c = λ n g h.
 pub returns-clause-notes : goal.returns-clause-notes
 returns-clause-notes c =
     notes_kept c.args.functions.now.items c.args.id.0 c.index_mut.result.now c.redefine.new.self c.index_mut.ensures.value
-    (λ place h. ap (λ x. is_noted x place) c.redefine.ensures.eql_places ∙ h)
+    (λ place v h. ap (λ x. is_noted x place v) c.redefine.ensures.eql_objects ∙ h)

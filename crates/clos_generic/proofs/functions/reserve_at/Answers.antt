@@ -1,6 +1,6 @@
 use Rattle.std.proofs.Common.{ap, arith, ◌∙◌}
 use Rattle.clos_generic.specs.TableView.{function_of}
-use Rattle.clos_generic.specs.inner.EqlPlaces.{is_noted}
+use Rattle.clos_generic.specs.inner.EqlObjects.{is_noted}
 use Rattle.clos_generic.proofs.Changed.{on_ok, unchanged_at}
 use Rattle.clos_generic.proofs.EqlNoted.{notes_kept}
 use Rattle.clos_generic.proofs.Rooms.{no_room, room_changed, room_set}
@@ -22,7 +22,7 @@ returns-then-id-len-clause-rooms c = λ n g h.
 pub returns-then-id-len-clause-notes : goal.returns-then-id-len-clause-notes
 returns-then-id-len-clause-notes c =
     notes_kept c.args.functions.now.items c.args.id.0 c.index_mut.result.now c.reserve.new.self c.index_mut.ensures.value
-    (λ place h. ap (λ x. is_noted x place) c.reserve.ensures.eql_places ∙ h)
+    (λ place v h. ap (λ x. is_noted x place v) c.reserve.ensures.eql_objects ∙ h)
 
 pub returns-clause-ok : goal.returns-clause-ok
 returns-clause-ok c = no_room c.args.methods c.args.functions.now.items c.args.id.0 (omega (arith, c.args.functions.now.ok.0))

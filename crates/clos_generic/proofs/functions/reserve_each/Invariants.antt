@@ -1,6 +1,6 @@
 use Rattle.std.proofs.Common.{◌≡◌, ℕ, take, true}
 use Rattle.std.specs.Prelude.{slice_get, vec_len, vec_capacity}
-use Rattle.clos_generic.specs.inner.EqlPlaces.{KeepNotes}
+use Rattle.clos_generic.specs.inner.EqlObjects.{KeepNotes}
 use Rattle.clos_generic.specs.inner.Reserved.{HasRoom, is_added}
 use Rattle.clos_generic.specs.TableView.{functions_in}
 use Rattle.clos_generic.proofs.functions.reserve_each.Given as goal

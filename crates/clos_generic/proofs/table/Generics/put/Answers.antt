@@ -8,7 +8,7 @@ use Rattle.clos_generic.specs.Sound.{AreSound}
 use Rattle.clos_generic.specs.Table.{added, with_changed, with_methods}
 use Rattle.clos_generic.specs.TableView.{AreThere, functions_in}
 use Rattle.clos_generic.specs.inner.AccessorMethods.{HasPlaces, IsKept}
-use Rattle.clos_generic.specs.inner.EqlPlaces.{AreNoted}
+use Rattle.clos_generic.specs.inner.EqlObjects.{AreNoted}
 use Rattle.clos_generic.proofs.EqlNoted.{noted_added, noted_same}
 use Rattle.clos_generic.proofs.Kept.{first_place, kept_more, kept_same, places_after}
 use Rattle.clos_generic.proofs.Named.{same_indexed, still_indexed}

@@ -7,7 +7,7 @@ use Rattle.clos_generic.specs.inner.AccessorMethods.{IsKept}
 use Rattle.clos_generic.specs.inner.Reserved.{HasSpare}
 use Rattle.clos_generic.specs.Table.{named_in}
 use Rattle.clos_generic.specs.TableView.{functions_in}
-use Rattle.clos_generic.specs.inner.EqlPlaces.{KeepNotes}
+use Rattle.clos_generic.specs.inner.EqlObjects.{KeepNotes}
 use Rattle.clos_generic.proofs.EqlNoted.{noted_same}
 use Rattle.clos_generic.proofs.Kept.{kept_same}
 use Rattle.clos_generic.proofs.Ready.{no_additions, no_spares, ready_idle}
