@@ -2,6 +2,7 @@
 use clos_forms::{Form, Forms, Operator, Variable};
 use clos_syntax::{LambdaList, Optional};
 use clos_top::{Top, parse_top};
+use lisp_data::Datum;
 use lisp_reader::read_form;
 use std::alloc::{AllocError, Global};
 use std::test::Fail;
@@ -43,20 +44,7 @@ fn tell(alloc: Global, line: &mut String, variable: &Variable) -> Result<(), All
     line.push_str(text.as_str())
 }
 
-/// Adds the variables of a form and of its parts, which nest no deeper than this.
-#[cycle(told)]
-fn tell_form(alloc: Global, line: &mut String, depth: u64, form: &Form) -> Result<(), AllocError> {
-    if let Operator::Variable(variable) = form.operator() {
-        tell(alloc, line, variable)?;
-    }
-    if depth == 0 {
-        return Ok(());
-    }
-    tell_forms(alloc, line, depth - 1, form.parts())
-}
-
-/// Adds those of these forms.
-#[cycle(told)]
+/// Adds the variables of these forms and of their parts, which nest no deeper than this.
 fn tell_forms(
     alloc: Global,
     line: &mut String,
@@ -65,16 +53,33 @@ fn tell_forms(
 ) -> Result<(), AllocError> {
     let mut rest = forms;
     while let Some((first, others)) = rest.split_first() {
-        tell_form(alloc, line, depth, first)?;
+        tell_variable(alloc, line, first)?;
+        if depth > 0 {
+            tell_forms(alloc, line, depth - 1, first.parts())?;
+        }
         rest = others;
     }
     Ok(())
 }
 
+/// Adds a form that is a variable.
+fn tell_variable(alloc: Global, line: &mut String, form: &Form) -> Result<(), AllocError> {
+    match form.operator() {
+        Operator::Variable(variable) => tell(alloc, line, variable),
+        _ => Ok(()),
+    }
+}
+
+/// Adds the variables of a form and of its parts.
+fn tell_form(alloc: Global, line: &mut String, form: &Form) -> Result<(), AllocError> {
+    tell_variable(alloc, line, form)?;
+    tell_forms(alloc, line, DEPTH, form.parts())
+}
+
 fn tell_init(alloc: Global, line: &mut String, entry: &Optional) -> Result<(), AllocError> {
     match &entry.init {
         None => Ok(()),
-        Some(form) => tell_form(alloc, line, DEPTH, form),
+        Some(form) => tell_form(alloc, line, form),
     }
 }
 
@@ -103,10 +108,18 @@ fn tell_top(alloc: Global, line: &mut String, top: &Top) -> Result<(), AllocErro
         Top::DefMethod(_, method) => tell_body(alloc, line, &method.lambda_list, &method.body),
         Top::DefVar(variable) => match &variable.form {
             None => Ok(()),
-            Some(form) => tell_form(alloc, line, DEPTH, form),
+            Some(form) => tell_form(alloc, line, form),
         },
-        Top::Expr(form) => tell_form(alloc, line, DEPTH, form),
+        Top::Expr(form) => tell_form(alloc, line, form),
         _ => line.push_str(" another form"),
+    }
+}
+
+/// Adds those of the top-level form that a datum is.
+fn tell_datum(alloc: Global, line: &mut String, datum: &Datum) -> Result<(), AllocError> {
+    match parse_top(alloc, datum) {
+        Err(_) => line.push_str(" no form"),
+        Ok(top) => tell_top(alloc, line, &top),
     }
 }
 
@@ -118,10 +131,7 @@ fn told(alloc: Global, text: &str) -> Result<String, AllocError> {
         line.push_str(" no datum")?;
         return Ok(line);
     };
-    match parse_top(alloc, &datum) {
-        Err(_) => line.push_str(" no form")?,
-        Ok(top) => tell_top(alloc, &mut line, &top)?,
-    }
+    tell_datum(alloc, &mut line, &datum)?;
     Ok(line)
 }
 
