@@ -14,8 +14,8 @@ ghost use Rattle.clos_machine.specs.declared.machine.Frame.TheVariants.{Bind, Bo
 use clos_forms::{Form, Forms};
 use clos_lambda::LambdaList;
 use clos_machine::locals::{Locals, bind, settle};
-use clos_machine::machine::{Defaulted, Doing, Frame, Level, Machine};
-use clos_machine::moves::{done, split};
+use clos_machine::machine::{Defaulted, Doing, Frame, Level, Machine, none_left};
+use clos_machine::moves::{begin_body, done, enter, split};
 use clos_machine::parameters::{ParameterPlan, plan_for, requires_only};
 use clos_machine::truth::nil;
 use clos_machine::{ConditionKind, Context, Stop, World, plain};
@@ -163,18 +163,8 @@ fn run_scoped(
     }
 }
 
-/// The machine's context and variables are now these; the others come back.
-fn enter(machine: &mut Machine, context: Context, locals: Locals) -> (Context, Locals)
-    ensures left { (result.0 ≡ machine.old.context) × (result.1 ≡ machine.old.locals) }
-    ensures entered { machine.new ≡ record machine.old { context = context; locals = locals } }
-{
-    let saved = mem::replace(&mut machine.context, context);
-    let outer = mem::replace(&mut machine.locals, locals);
-    (saved, outer)
-}
-
 /// Evaluates the forms of a body, of which this is the first, in a context of their own and with these variables.
-#[tactic(auto, using(clos_machine::proofs::Turns::then_then))]
+#[tactic(auto, using(clos_machine::proofs::Turns::grows_more))]
 fn enter_body(
     machine: &mut Machine,
     context: Context,
@@ -188,15 +178,16 @@ fn enter_body(
         (at machine.old w) t) → Leads (inside machine.old run) w result machine.new }
     ensures small { Grows value_weight machine.old.levels result machine.new }
 {
-    let (saved, outer) = enter(machine, context, locals);
-    let room = machine.room;
-    let frame = Frame::Body(rest, saved, outer);
-    machine.levels.push(Level { frame, room })?;
-    Ok(Doing::Start(first))
+    if none_left(&rest) {
+        return enter(machine, context, locals, first);
+    }
+    let saved = mem::replace(&mut machine.context, context);
+    let outer = mem::replace(&mut machine.locals, locals);
+    begin_body(machine, first, rest, saved, outer)
 }
 
 /// The rest of a body follows the value of one of its forms.
-#[tactic(auto, using(clos_machine::proofs::Turns::then_then))]
+#[tactic(auto, using(clos_machine::proofs::Turns::grows_more))]
 pub fn next_of_body(
     machine: &mut Machine,
     world: &World,
@@ -218,10 +209,7 @@ pub fn next_of_body(
         }
         Some((first, rest)) => {
             drop(value);
-            let room = machine.room;
-            let frame = Frame::Body(rest, saved, outer);
-            machine.levels.push(Level { frame, room })?;
-            Ok(Doing::Start(first))
+            begin_body(machine, first, rest, saved, outer)
         }
     }
 }

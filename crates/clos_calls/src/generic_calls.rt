@@ -17,8 +17,9 @@ ghost use Rattle.clos_calls.specs.GenericCalls.{about_function, takes_in};
 use crate::keywords::keywords_fit;
 use clos_comb::Outcome;
 use clos_forms::Form;
+use clos_machine::locals::Locals;
 use clos_machine::machine::{Doing, Machine};
-use clos_machine::moves::set_apart;
+use clos_machine::moves::enter;
 use clos_machine::{
     Arguments, Condition, ConditionKind, Context, Dispatch, EffectiveMethod, Stop, Values, World,
     about, about_both, called_value, plain,
@@ -229,6 +230,5 @@ pub fn enter_effect(
     ensures leads { Does (λ ev env. scoped (meaning machine.old.room context next) []) machine.old result machine.new }
     ensures small { Grows call_growth machine.old.levels result machine.new }
 {
-    set_apart(alloc, machine, context)?;
-    Ok(Doing::Start(next))
+    enter(machine, context, Locals::new(alloc), next)
 }

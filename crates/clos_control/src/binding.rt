@@ -1,7 +1,8 @@
 //! Variables, and what binds them (HyperSpec 5.3 `let`, `let*`, 6.2 `dotimes`).
 ghost use Rattle.std.specs.Prelude.{◌≡◌, ◌∷◌, ◌++◌, [], ℕ, ◌≤◌, length, OnOk, pos};
-ghost use Rattle.lisp_data.specs.Value.{list, nil};
+ghost use Rattle.lisp_data.specs.Value.{Val, list, nil};
 ghost use Rattle.lisp_data.specs.ValueView.{value_of};
+ghost use Rattle.clos_forms.specs.Form.{Forms, cons};
 ghost use Rattle.clos_machine.specs.clos_world.World.{State, seen, held, bound_as};
 ghost use Rattle.clos_machine.specs.clos_meaning.Control.{sequence};
 ghost use Rattle.clos_machine.specs.Machine.{Leads, Turns, Grows, Shrinks, at, with_next, inside, loop_of, turn_weight, value_weight, here, Does};
@@ -9,10 +10,10 @@ ghost use Rattle.clos_machine.specs.clos_meaning.Meaning.{meaning};
 ghost use Rattle.clos_machine.specs.clos_meaning.Outcome.{Run, then_do};
 ghost use Rattle.clos_machine.specs.clos_meaning.Variables.{in_order, binding, within, leaving, aside, together, dotimes, repeated, turns, result_value, body_of, counted, with_count};
 
-use clos_forms::{Bindings, Forms};
+use clos_forms::{Bindings, Form, Forms};
 use clos_machine::counter::Counter;
 use clos_machine::locals::{Locals, Plan, bind_unset, put_unset_aside};
-use clos_machine::machine::{Beside, Doing, Frame, Machine, Repetition};
+use clos_machine::machine::{Beside, Doing, Frame, Machine, Repetition, none_left};
 use clos_machine::moves::{begin, split};
 use clos_machine::truth::nil;
 use clos_machine::{ConditionKind, Stop, World, about, plain};
@@ -45,9 +46,27 @@ pub fn continue_within(
         }
         Some((first, rest)) => {
             drop(value);
-            begin(machine, first, Frame::Scope(outer, rest))
+            begin_within(machine, outer, first, rest)
         }
     }
+}
+
+/// Evaluates a form of such a body next. In tail position its names need not go: the caller's come back.
+#[tactic(auto, using(clos_machine::proofs::Tails::within_last, clos_machine::proofs::Turns::then_then))]
+fn begin_within(
+    machine: &mut Machine,
+    outer: usize,
+    first: Form,
+    rest: Forms,
+) -> Result<Doing, Stop>
+    ensures leads { (fs : Forms) (v : Val) → fs ≡ cons first rest → Does (λ ev env. within ev env outer fs v) machine.old
+        result machine.new }
+    ensures small { Grows value_weight machine.old.levels result machine.new }
+{
+    if none_left(&rest) && machine.levels.ends_body() {
+        return Ok(Doing::Start(first));
+    }
+    begin(machine, first, Frame::Scope(outer, rest))
 }
 
 /// A `let*` form begins.

@@ -1,11 +1,14 @@
 //! Forms one after another, and conditionals (HyperSpec 5.3).
+ghost use Rattle.std.specs.Prelude.{◌≡◌};
+ghost use Rattle.lisp_data.specs.Value.{Val};
 ghost use Rattle.lisp_data.specs.ValueView.{value_of};
+ghost use Rattle.clos_forms.specs.Form.{Forms, cons};
 ghost use Rattle.clos_machine.specs.clos_meaning.Control.{branch, keeping, clauses, clause, tested};
 ghost use Rattle.clos_machine.specs.Machine.{Grows, followed, going, value_weight, Does};
 
-use clos_forms::Forms;
+use clos_forms::{Form, Forms};
 use clos_machine::Stop;
-use clos_machine::machine::{Control, Doing, Frame, Machine};
+use clos_machine::machine::{Control, Doing, Frame, Machine, none_left};
 use clos_machine::moves::{begin, done, split, turn_to};
 use clos_machine::truth::{is_true, nil};
 use lisp_data::Value;
@@ -24,9 +27,27 @@ pub fn go_on(
         None => Ok(done(machine, value)),
         Some((first, rest)) => {
             drop(value);
-            begin(machine, first, Frame::Rest(control, rest))
+            go_on_with(machine, control, first, rest)
         }
     }
+}
+
+/// Evaluates the next of some forms. The last of them needs no level where its value is given as it is.
+#[tactic(auto, using(clos_machine::proofs::Tails::last_alone))]
+fn go_on_with(
+    machine: &mut Machine,
+    control: Control,
+    first: Form,
+    rest: Forms,
+) -> Result<Doing, Stop>
+    ensures leads { (fs : Forms) (v : Val) → fs ≡ cons first rest → Does (λ ev env. going ev env control fs v) machine.old
+        result machine.new }
+    ensures small { Grows value_weight machine.old.levels result machine.new }
+{
+    if control.gives_last() && none_left(&rest) {
+        return Ok(turn_to(machine, first));
+    }
+    begin(machine, first, Frame::Rest(control, rest))
 }
 
 /// What follows the value of a form, with these forms left.

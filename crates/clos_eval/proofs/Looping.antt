@@ -95,13 +95,11 @@ module _ (host : Host) (run : Run) (start : World) (s0 : ℕ) (past0 : List ℤ)
   }
 
 -- a form begins by itself
-pub begun : (host : Host) (f : Form) (room : ℕ) (ls : List Level) (env : Context) (locals : List Local) (world : World) (s : ℕ) (past : List ℤ)
-    → ls ≡ [] → env ≡ known [] → locals ≡ []
-    → Came host (evaluation room f) world s past (record { levels = ls; context = env; locals = locals; room = room }) (Start f) world s past
-begun host f room ls env locals world s past e h g =
-    subst (λ x. Came host (evaluation room f) world s past (record { levels = x; context = env; locals = locals; room = room }) (Start f) world s past) (sym e)
-    (subst (λ x. Came host (evaluation room f) world s past (record { levels = []; context = x; locals = locals; room = room }) (Start f) world s past) (sym h)
-    (subst (λ x. Came host (evaluation room f) world s past (record { levels = []; context = known []; locals = x; room = room }) (Start f) world s past) (sym g)
+pub begun : (host : Host) (f : Form) (room : ℕ) (m : Machine) (world : World) (s : ℕ) (past : List ℤ)
+    → m ≡ record { levels = []; context = known []; locals = []; room = room }
+    → Came host (evaluation room f) world s past m (Start f) world s past
+begun host f room m world s past e =
+    subst (λ x. Came host (evaluation room f) world s past x (Start f) world s past) (sym e)
     (record {
       reached = record {
         taken = 0;
@@ -119,7 +117,7 @@ begun host f room ls env locals world s past e h g =
         same = λ t more. ap (λ k. notes_by host (evaluation room f (seen world) k) more) (omega arith);
         kept = refl;
       };
-    })))
+    })
 
 -- a value is given, and no level waits for it
 module _ (host : Host) (run : Run) (start : World) (s0 : ℕ) (past0 : List ℤ) (m : Machine) (d : Doing) (world : World) (s : ℕ) (past : List ℤ)

@@ -13,9 +13,8 @@ use clos_calls::generic_calls::invoke;
 use clos_control::arguments::collect_values;
 use clos_control::binding::turn;
 use clos_forms::Form;
-use clos_machine::locals::Locals;
-use clos_machine::machine::{Doing, Level, Levels, Machine};
-use clos_machine::{Arguments, Context, Stop, Values, World};
+use clos_machine::machine::{Doing, Level, Machine};
+use clos_machine::{Stop, World};
 use lisp_data::Value;
 use std::alloc::Global;
 
@@ -36,18 +35,8 @@ pub fn evaluate<N: Natives>(
     ensures taken { IfOk result (λ v. GoesOn (N.host natives.now) (followed (evaluation room form)) world.old steps.old
         answers.old.items (value_of v) world.new steps.new answers.new.items) }
 {
-    let Ok(arguments) = Arguments::new(alloc, Values::new(alloc)) else {
+    let Ok(mut machine) = Machine::new(alloc, room) else {
         return Err(Stop::Storage);
-    };
-    let Ok(context) = Context::of_function(alloc, arguments) else {
-        return Err(Stop::Storage);
-    };
-    let levels = Levels::new(alloc);
-    let mut machine = Machine {
-        levels,
-        context,
-        locals: Locals::new(alloc),
-        room,
     };
     let mut doing = Doing::Start(form);
     loop {

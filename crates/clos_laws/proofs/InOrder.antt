@@ -1,5 +1,5 @@
 -- In each state that a session comes to, calls find the methods in order.
-use Rattle.std.proofs.Common.{◌≡◌, ℕ, List, subst}
+use Rattle.std.proofs.Common.{◌≡◌, List, length, subst, sym}
 use Rattle.lisp_data.specs.Name.{Name}
 use Rattle.lisp_data.specs.ValueView.{value_of}
 use Rattle.clos_generic.specs.Sound.{IsSound}
@@ -10,13 +10,44 @@ use Rattle.clos_session.specs.clos_world.declared.limits.Limits.{Limits}
 use Rattle.clos_session.specs.declared.session.Reply.TheVariants.{Value, Condition, Storage}
 use Rattle.clos_session.proofs.clos_machine.clos_meaning.clos_world.InOrder as in_order
 use Rattle.clos_laws.specs.Laws.{CallsAreInOrder, RepliesReach}
-use Rattle.clos_laws.specs.Reached.{IsReached, begins, performs, state_in}
-use Rattle.clos_laws.proofs.Sessions.{form_keeps_sound, same_sound}
+use Rattle.clos_laws.specs.Reached.{IsReached, performs, state_in}
+use Rattle.clos_session.proofs.WellRead.{well_read}
+use Rattle.clos_session.proofs.clos_definition.WellMade.{class_sound, generic_sound, method_sound, removal_sound}
+use Rattle.clos_session.specs.Read.{IsWellRead}
+use Rattle.clos_session.specs.clos_world.Definitions.{Same}
+use Rattle.clos_top.specs.declared.top.Top.{Top}
+use Rattle.clos_top.specs.declared.top.Top.TheVariants.{DefClass, DefGeneric, DefMethod, DefCombination, Defun, DefVar, RemoveMethod, AddDependent, RemoveDependent, InPackage, Expr}
+use Rattle.clos_laws.proofs.Sessions.{Stays, StaysWith, always}
 
-pub reached_sound : (limits : Limits) (names : List Name) (w : State) → IsReached limits names w → IsSound w.generics
-reached_sound limits names _ begins = initial_sound limits.generics limits.methods
-reached_sound limits names _ (performs w d k host used e r h) =
-    form_keeps_sound host d w k used e (reached_sound limits names w r) h
+-- ---- the generic functions stay sound
+
+abbrev HasSound : State → Type 0
+HasSound w = IsSound w.generics
+
+same_sound : (w u : State) → Same w u → HasSound w → HasSound u
+same_sound w u h s = subst IsSound (sym h.1) s
+
+sound_stays : Stays HasSound
+sound_stays = record { same = same_sound; combination = λ d u h. h; change = λ c m n u h. h; removal = removal_sound }
+
+stays_with : (top : Top) → IsWellRead top → StaysWith HasSound top
+stays_with (DefClass d) h = λ vs u none s. class_sound d (length vs) vs u s none
+stays_with (DefGeneric d) h = λ vs u none s. generic_sound d vs u h s none
+stays_with (DefMethod name m) h = λ vs u none s. method_sound name m vs u h s none
+stays_with (DefCombination c) h = tt
+stays_with (Defun f) h = λ name u s. (s, s)
+stays_with (DefVar v) h = tt
+stays_with (RemoveMethod f g) h = tt
+stays_with (AddDependent f g) h = tt
+stays_with (RemoveDependent f g) h = tt
+stays_with InPackage h = tt
+stays_with (Expr f) h = tt
+
+reached_sound : (limits : Limits) (names : List Name) (w : State) → IsReached limits names w → HasSound w
+reached_sound limits names w r =
+    always HasSound sound_stays (λ d top e. stays_with top (well_read d top e)) limits names (initial_sound limits.generics limits.methods) w r
+
+-- ---- calls
 
 pub calls_are_in_order : CallsAreInOrder
 calls_are_in_order limits names w u r same = in_order.calls_are_in_order u (same_sound w u same (reached_sound limits names w r))

@@ -2,3 +2,5 @@ pub mod Predefined
 pub mod Reached
 pub mod Laws
 pub mod Names
+pub mod Shapes
+pub mod WellFormed

@@ -1,6 +1,7 @@
 pub mod Lists
 pub mod Apart
 pub mod Turns
+pub mod Tails
 pub mod Quiet
 pub mod Runs
 pub mod Answering

@@ -1,5 +1,5 @@
 -- What a state of the machine stands for: the rest of the definition.
-use Rattle.std.specs.Prelude.{◌≡◌, ℕ, suc, ℤ, ◌+◌, ◌*◌, ◌≤◌, ◌<◌, List, [], ◌∷◌, ◌++◌, Result, Ok, Err, Option, Some, None, drop, option_map, slice_get, true, if◌then◌else◌}
+use Rattle.std.specs.Prelude.{◌≡◌, ℕ, suc, ℤ, ◌+◌, ◌*◌, ◌≤◌, ◌<◌, List, [], ◌∷◌, ◌++◌, Result, Ok, Err, Option, Some, None, drop, option_map, slice_get, Bool, true, false, if◌then◌else◌}
 use Rattle.lisp_data.specs.Name.{Name}
 use Rattle.lisp_data.specs.Value.{Val, instance, list, nil}
 use Rattle.lisp_data.specs.ValueView.{value_of}
@@ -220,6 +220,33 @@ after ev env (Filled f) = λ v. fill_with ev env (subject_of f.value) (slots_lef
 after ev env (Updated i v) = λ x. visited ev env i.0 v.value
 after ev env Truth = λ v. gave (truth (is_true v))
 after ev env (Slots f rest) = λ v. within_slots ev env (slot_names (operator_in f)) rest v
+
+-- ---- tail position: of the body on top nothing is left but that its caller goes on
+
+-- no forms are left
+abbrev pub none_left : Forms → Bool
+none_left form.nil = true
+none_left (form.cons f fs) = false
+
+-- the end of a body: after it the caller's context and variables come back
+abbrev pub is_end : Frame → Bool
+is_end (Body rest saved locals) = none_left rest
+is_end frame = false
+
+-- such an end is on top
+abbrev pub ends_body : List Level → Bool
+ends_body [] = false
+ends_body (l ∷ ls) = is_end l.frame
+
+-- what follows so gives the value of the last form as it is
+abbrev pub gives_last : Control → Bool
+gives_last Progn = true
+gives_last Prog1 = true
+gives_last If = false
+gives_last When = false
+gives_last Unless = false
+gives_last And = true
+gives_last Or = true
 
 -- what the levels do with an outcome, the top one first
 abbrev pub resume : List Level → Context → Out → Out

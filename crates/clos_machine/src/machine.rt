@@ -1,5 +1,7 @@
 //! The machine that evaluates forms without recursion: what comes next, and the levels that wait for values.
-ghost use Rattle.std.specs.Prelude.{◌≡◌, ◌∷◌, [], ◌<◌, OnOk, OnErr, MatchOption};
+ghost use Rattle.std.specs.Prelude.{◌≡◌, ◌∷◌, [], ◌<◌, IfOk, OnOk, OnErr, MatchOption};
+ghost use Rattle.clos_meaning.specs.Contexts.{known};
+ghost use Rattle.clos_machine.specs.Machine.{ends_body, gives_last, is_end, none_left};
 
 use crate::counter::Counter;
 use crate::finalized::Finalized;
@@ -156,6 +158,18 @@ pub enum Control {
     Or,
 }
 
+impl Control {
+    /// Whether the value of the last form is given as it is.
+    pub fn gives_last(self) -> bool
+        ensures { result ≡ gives_last self }
+    {
+        match self {
+            Control::Progn | Control::Prog1 | Control::And | Control::Or => true,
+            Control::If | Control::When | Control::Unless => false,
+        }
+    }
+}
+
 /// A parameter that gets the value of its init form, before these parameters and the body.
 #[derive(Drop)]
 pub struct Defaulted {
@@ -221,6 +235,28 @@ pub enum Frame {
     Slots(Form, Forms),
 }
 
+impl Frame {
+    /// Whether it is the end of a body, after which its caller goes on.
+    fn is_end(&self) -> bool
+        ensures { result ≡ is_end self.now }
+    {
+        match self {
+            Frame::Body(rest, _, _) => none_left(rest),
+            _ => false,
+        }
+    }
+}
+
+/// Whether these are no forms.
+pub fn none_left(forms: &Forms) -> bool
+    ensures { result ≡ none_left forms.now }
+{
+    match forms.split_first() {
+        None => true,
+        Some(_) => false,
+    }
+}
+
 /// A frame, and the room for depth of what it waits for.
 #[derive(Drop)]
 pub struct Level {
@@ -266,6 +302,16 @@ impl Levels {
         Ok(())
     }
 
+    /// Whether the end of a body is on top: what is evaluated under it stands in tail position, and needs no level of its own.
+    pub fn ends_body(&self) -> bool
+        ensures { result ≡ ends_body self.now }
+    {
+        match self.levels.last() {
+            None => false,
+            Some(level) => level.frame.is_end(),
+        }
+    }
+
     /// Takes off the top level.
     pub fn pop(&mut self) -> Option<Level>
         ensures { MatchOption result ((self.old ≡ []) × (self.new ≡ [])) (λ l. self.old ≡ l ∷ self.new) }
@@ -283,4 +329,20 @@ pub struct Machine {
     pub locals: Locals,
     /// How many more forms may nest.
     pub room: u64,
+}
+
+impl Machine {
+    /// A machine without levels and variables, with this much room for depth, before any call.
+    pub fn new(alloc: Global, room: u64) -> Result<Machine, AllocError>
+        ensures { IfOk result (λ m. m ≡ record { levels = []; context = known []; locals = []; room = room }) }
+    {
+        let arguments = Arguments::new(alloc, Values::new(alloc))?;
+        let context = Context::of_function(alloc, arguments)?;
+        Ok(Machine {
+            levels: Levels::new(alloc),
+            context,
+            locals: Locals::new(alloc),
+            room,
+        })
+    }
 }

@@ -1,16 +1,19 @@
 //! What many handlers do next: begin a form, act or call under a frame, give a value.
-ghost use Rattle.std.specs.Prelude.{◌≡◌, ℕ, ◌+◌, ◌∷◌, IfOk, OnOk, Ok, MatchOption};
+ghost use Rattle.std.specs.Prelude.{◌≡◌, ℕ, ◌+◌, ◌∷◌, IfOk, OnOk, Ok, MatchOption, true};
+ghost use Rattle.lisp_data.specs.Value.{Val};
 ghost use Rattle.lisp_data.specs.ValueView.{value_of};
 ghost use Rattle.clos_forms.specs.Form.{cons, nil};
+ghost use Rattle.clos_meaning.specs.Bodies.{scoped};
 ghost use Rattle.clos_meaning.specs.clos_world.World.{State};
 ghost use Rattle.clos_meaning.specs.clos_world.declared.condition.Stop.TheVariants.{Storage};
 ghost use Rattle.clos_meaning.specs.GenericCalls.{invoked};
-ghost use Rattle.clos_machine.specs.Machine.{apart, Leads, Grows, at, inside, below, after, weight_of, acted, action_weight, collect_weight, invoke_weight, value_weight};
+ghost use Rattle.clos_machine.specs.Machine.{apart, call_growth, Does, ends_body, given_to, Leads, Grows, at, inside, below, after, weight_of, acted, action_weight, collect_weight, invoke_weight, value_weight};
+ghost use Rattle.clos_machine.specs.declared.machine.Frame.TheVariants.{Body};
 ghost use Rattle.clos_meaning.specs.Meaning.{collect, meaning};
 ghost use Rattle.clos_meaning.specs.Outcome.{Run, Gave, then_do};
 
 use crate::locals::Locals;
-use crate::machine::{Action, Doing, Frame, Level, Levels, Machine};
+use crate::machine::{Action, Doing, Frame, Level, Levels, Machine, none_left};
 use clos_forms::{Form, Forms};
 use clos_meaning::{Context, Stop, SystemFunction, Values};
 use lisp_data::Value;
@@ -49,6 +52,60 @@ pub fn set_apart(alloc: Global, machine: &mut Machine, context: Context) -> Resu
     let frame = Frame::Body(Forms::new(), saved, outer);
     let room = machine.room;
     machine.levels.push(Level { frame, room })
+}
+
+/// Evaluates this next in this context and with these variables; the machine's come back after it. In tail position they do
+/// not: those of the caller of the body that ends there do.
+pub fn enter(
+    machine: &mut Machine,
+    context: Context,
+    locals: Locals,
+    next: Form,
+) -> Result<Doing, Stop>
+    ensures leads { Does (λ ev env. scoped (meaning machine.old.room context next) locals) machine.old result machine.new }
+    ensures small { Grows call_growth machine.old.levels result machine.new }
+{
+    if machine.levels.ends_body() {
+        return Ok(enter_last(machine, context, locals, next));
+    }
+    let saved = mem::replace(&mut machine.context, context);
+    let outer = mem::replace(&mut machine.locals, locals);
+    begin_body(machine, next, Forms::new(), saved, outer)
+}
+
+/// The same in tail position.
+#[tactic(auto, using(crate::proofs::Tails::entered_last))]
+fn enter_last(machine: &mut Machine, context: Context, locals: Locals, last: Form) -> Doing
+    requires { ends_body machine.old.levels ≡ true }
+    ensures leads { Does (λ ev env. scoped (meaning machine.old.room context last) locals) machine.old (Ok result)
+        machine.new }
+    ensures small { Grows call_growth machine.old.levels (Ok result) machine.new }
+{
+    machine.context = context;
+    machine.locals = locals;
+    Doing::Start(last)
+}
+
+/// Evaluates a form of a body next, which these forms follow; then this context and these variables come back.
+#[tactic(auto, using(crate::proofs::Tails::begun_last, crate::proofs::Turns::then_then))]
+pub fn begin_body(
+    machine: &mut Machine,
+    next: Form,
+    rest: Forms,
+    saved: Context,
+    outer: Locals,
+) -> Result<Doing, Stop>
+    ensures leads { (v : Val) (w : State) → Leads (given_to machine.old (Body (cons next rest) saved outer) v) w result
+        machine.new }
+    ensures small { Grows call_growth machine.old.levels result machine.new }
+{
+    if none_left(&rest) && machine.levels.ends_body() {
+        return Ok(Doing::Start(next));
+    }
+    let room = machine.room;
+    let frame = Frame::Body(rest, saved, outer);
+    machine.levels.push(Level { frame, room })?;
+    Ok(Doing::Start(next))
 }
 
 /// Evaluates this next, and then does what the frame does with its value.

@@ -24,17 +24,6 @@ returns-in_default-clause-performs g c =
       uses = nothing_kept host run w s past (uses_of c.args.world.now);
     }
 
-pub returns-in_default-of_function-clause-performs : goal.returns-in_default-of_function-clause-performs
-returns-in_default-of_function-clause-performs g c =
-    let host = g.N.Natives.host c.args.natives.now in
-    let run = evaluation c.args.room c.args.form in
-    let w = seen c.args.world.now in
-    let s = c.args.steps.now in
-    let past = c.args.answers.now.items in record {
-      answer = ([], sym (append-nil past), 0, omega arith, quiet_answered host (run w 0) w 0 (evaluation_quiet c.args.room (known []) c.args.form w));
-      uses = nothing_kept host run w s past (uses_of c.args.world.now);
-    }
-
 -- what the handler of each did, and that the loop goes on from there
 pub loop-doing-preserved : goal.loop-doing-preserved
 loop-doing-preserved g c =
@@ -127,8 +116,8 @@ returns-in-Err-clause-performs g c =
 
 pub loop-doing-init : goal.loop-doing-init
 loop-doing-init g c =
-    begun (g.N.Natives.host c.args.natives.now) c.args.form c.args.room c.new-levels.result c.in-Ok-of_function.context c.new-3.result
-    c.args.world.now c.args.steps.now c.args.answers.now.items (search rules) (search rules) (search rules)
+    begun (g.N.Natives.host c.args.natives.now) c.args.form c.args.room c.in-Ok.machine c.args.world.now c.args.steps.now
+    c.args.answers.now.items c.in-Ok.ensures
 
 pub returns-in-None : goal.returns-in-None
 returns-in-None g c =
