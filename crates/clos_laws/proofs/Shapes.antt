@@ -80,10 +80,10 @@ setf_shape nil h = record { pairs = []; parts = refl; means = λ ev env v w s. r
 setf_shape (cons p nil) h = absurd (cc h)
 setf_shape (cons p (cons f fs)) h =
     let it : IsTarget p =
-        target_of p (first_of (is_place (role_of (operator_in p))) (is_expression (role_of (operator_in f)) && assignments (roles_of fs)) h) in
+    target_of p (first_of (is_place (role_of (operator_in p))) (is_expression (role_of (operator_in f)) && assignments (roles_of fs)) h) in
     let rest : SetfShape fs =
-        setf_shape fs (second_of (is_expression (role_of (operator_in f))) (assignments (roles_of fs))
-        (second_of (is_place (role_of (operator_in p))) (is_expression (role_of (operator_in f)) && assignments (roles_of fs)) h)) in record {
+    setf_shape fs (second_of (is_expression (role_of (operator_in f))) (assignments (roles_of fs))
+    (second_of (is_place (role_of (operator_in p))) (is_expression (role_of (operator_in f)) && assignments (roles_of fs)) h)) in record {
       pairs = (it.target, f) ∷ rest.pairs;
       parts = λ i. cons (it.is i) (cons f (rest.parts i));
       means = λ ev env v w s. (λ i. then_do (assigned ev env (place_in (operator_in (it.is i))) (parts_in (it.is i)) f w s) (λ u x k. rest.means ev env u x k i));
@@ -102,11 +102,11 @@ change_shape : (fs : Forms) → place_and_amount (roles_of fs) ≡ true → Chan
 change_shape nil h = absurd (cc h)
 change_shape (cons p fs) h =
     let is_target : is_place (role_of (operator_in p)) ≡ true =
-        first_of (is_place (role_of (operator_in p))) (are_expressions (roles_of fs) && nat_le (length (roles_of fs)) 1) h in
+    first_of (is_place (role_of (operator_in p))) (are_expressions (roles_of fs) && nat_le (length (roles_of fs)) 1) h in
     let it : IsTarget p = target_of p is_target in
     let rest : IsOptional fs =
-        optional_has fs (second_of (are_expressions (roles_of fs)) (nat_le (length (roles_of fs)) 1)
-        (second_of (is_place (role_of (operator_in p))) (are_expressions (roles_of fs) && nat_le (length (roles_of fs)) 1) h)) in record {
+    optional_has fs (second_of (are_expressions (roles_of fs)) (nat_le (length (roles_of fs)) 1)
+    (second_of (is_place (role_of (operator_in p))) (are_expressions (roles_of fs) && nat_le (length (roles_of fs)) 1) h)) in record {
       target = it.target;
       amount = rest.amount;
       parts = λ i. cons (it.is i) (rest.is i);

@@ -124,17 +124,20 @@ class_well : (d : ClassDefinition) (vs : List (Option Val)) (w : State) → Each
 class_well d vs w h g s =
     let told : State = noting (class_notices d w) w in
     let m : AreWellFormed (with_accessors d told) =
-        changing_well (class_removals d told) (class_functions d told) (class_methods d told) told s
-        (each_map HasBody (λ a. accessor_method (class_number d told) (number_after told.generics (class_functions d told) (function_of a)) a)
-        (λ a. accessor_well (class_number d told) (number_after told.generics (class_functions d told) (function_of a)) a) (accessors_of d.slots)) in
+    changing_well (class_removals d told) (class_functions d told) (class_methods d told) told s
+    (each_map HasBody (λ a. accessor_method (class_number d told) (number_after told.generics (class_functions d told) (function_of a)) a)
+    (λ a. accessor_well (class_number d told) (number_after told.generics (class_functions d told) (function_of a)) a) (accessors_of d.slots)) in
     (m.0, m.1, m.2, row_well _ _ _ m.3 (said_well d _ h g))
 
 -- ---- sessions
 
 same_well : (w u : State) → Same w u → AreWellFormed w → AreWellFormed u
-same_well w u h s =
-    (subst (Each (λ p. OfFunction p.1)) (sym h.3) s.0, subst (Each (λ p. OfFunction p.1)) (sym h.4) s.1,
-    subst (λ t. Each HasBody t.methods) (sym h.1) s.2, subst (λ t. Each OfClass t.slots) (sym h.0) s.3)
+same_well w u h s = (
+  subst (Each (λ p. OfFunction p.1)) (sym h.3) s.0,
+  subst (Each (λ p. OfFunction p.1)) (sym h.4) s.1,
+  subst (λ t. Each HasBody t.methods) (sym h.1) s.2,
+  subst (λ t. Each OfClass t.slots) (sym h.0) s.3,
+)
 
 well_stays : Stays AreWellFormed
 well_stays = record { same = same_well; combination = λ d u h. h; change = λ c m n u h. h; removal = λ g m u h. h }
