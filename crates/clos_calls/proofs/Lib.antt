@@ -1,5 +1,3 @@
 pub mod Settled
 pub mod Dispatching
 pub mod Counted
-pub mod Accessing
-pub mod Nexting

@@ -1,3 +1,1 @@
 pub mod GenericCalls
-pub mod Methods
-pub mod NextMethods

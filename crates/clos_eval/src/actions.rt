@@ -6,12 +6,12 @@ ghost use Rattle.clos_machine.specs.Uses.{TurnsBy};
 ghost use Rattle.clos_machine.specs.clos_meaning.Functions.{called, place_read, place_set};
 ghost use Rattle.clos_machine.specs.Machine.{access_of, acted, act_weight, action_weight, perform_weight, performed, Shrinks, here, task_weight, tended, visited};
 
-use clos_calls::functions::{call, call_setter, compute};
-use clos_calls::next_methods::call_next_given;
 use clos_control::output::{end_line, print};
 use clos_forms::{CalledName, Callee, SlotFunction};
 use clos_machine::machine::{Action, BuiltIn, Doing, InstanceTask, Machine, Target, Visit};
 use clos_machine::{Arguments, Stop, Values, World};
+use clos_next_methods::functions::{call, call_setter, compute};
+use clos_next_methods::next_methods::call_next_given;
 use clos_objects::class_change::{change_class, change_to};
 use clos_objects::creation::{allocate, initialize, make_instance};
 use clos_objects::filling::{fill, fill_with};

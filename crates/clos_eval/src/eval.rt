@@ -9,12 +9,12 @@ use crate::forms::begin_form;
 use crate::frames::give;
 use crate::host::Natives;
 use crate::natives::call_native;
-use clos_calls::generic_calls::invoke;
 use clos_control::arguments::collect_values;
 use clos_control::binding::turn;
 use clos_forms::Form;
 use clos_machine::machine::{Doing, Level, Machine};
 use clos_machine::{Stop, World};
+use clos_next_methods::generic_calls::invoke;
 use lisp_data::Value;
 use std::alloc::Global;
 

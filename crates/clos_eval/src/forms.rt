@@ -7,9 +7,6 @@ ghost use Rattle.clos_machine.specs.Machine.{denote, form_growth, Grows, Leads, 
 ghost use Rattle.clos_machine.specs.clos_meaning.Meaning.{body, operated};
 ghost use Rattle.clos_machine.specs.declared.machine.Doing.TheVariants.{Start};
 
-use clos_calls::functions::{function_named, start_call};
-use clos_calls::methods::call_method;
-use clos_calls::next_methods::{call_next_method, has_next};
 use clos_control::binding::{start_let, start_let_in_order, start_loop};
 use clos_control::control::{go_on, next_clause};
 use clos_control::slot_names::{read_name, start_slots};
@@ -17,6 +14,9 @@ use clos_forms::{Form, Forms, Operator};
 use clos_machine::machine::{Control, Doing, Machine};
 use clos_machine::truth::{nil, t};
 use clos_machine::{ConditionKind, Stop, World, plain};
+use clos_next_methods::functions::{function_named, start_call};
+use clos_next_methods::methods::call_method;
+use clos_next_methods::next_methods::{call_next_method, has_next};
 use clos_objects_core::class_functions::truth;
 use clos_places::assignment::{change, set_next, set_next_place};
 use lisp_prims::Primitive;

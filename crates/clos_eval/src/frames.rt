@@ -4,7 +4,6 @@ ghost use Rattle.lisp_data.specs.ValueView.{value_of};
 ghost use Rattle.clos_machine.specs.clos_world.World.{seen};
 ghost use Rattle.clos_machine.specs.Machine.{follow_growth, given_to, Grows, Leads, weight_of};
 
-use clos_calls::bodies::{next_of_body, next_parameter};
 use clos_control::arguments::next_value;
 use clos_control::binding::{continue_turn, continue_within, next_aside, next_variable, repeat};
 use clos_control::control::{clause_tested, follow, keep};
@@ -12,6 +11,7 @@ use clos_control::slot_names::bind_slots;
 use clos_machine::machine::{Doing, Frame, InstanceTask, Machine};
 use clos_machine::truth::is_true;
 use clos_machine::{Stop, Values, World};
+use clos_next_methods::bodies::{next_of_body, next_parameter};
 use clos_objects::creation::next_default;
 use clos_objects_core::class_functions::truth;
 use clos_places::assignment::{change_from, set_next, set_next_place};

@@ -1,6 +1,7 @@
 -- The parts of well-formed forms can be told so that they can't be malformed.
-use Rattle.std.proofs.Common.{◌≡◌, ◌+◌, Bool, true, false, List, [], ◌∷◌, Option, Some, None, length, refl, ap, sym, arith, true≢false}
+use Rattle.std.proofs.Common.{◌≡◌, ◌+◌, Bool, true, false, List, [], ◌∷◌, Option, Some, None, length, refl, ap, arith}
 use Rattle.std.proofs.lemmas.Bool.{eqb-true, leb-true}
+use Rattle.std.specs.Cmp.{first_so, second_so}
 use Rattle.std.specs.Prelude.{nat_le, ◌&&◌}
 use Rattle.lisp_data.specs.Name.{Name}
 use Rattle.lisp_data.specs.Value.{list, nil as no_values}
@@ -16,14 +17,6 @@ use Rattle.clos_meaning.specs.Variables.{binding}
 use Rattle.clos_meaning.specs.clos_world.World.{held}
 use Rattle.clos_laws.specs.Shapes.{ChangeShape, DotimesShape, FormsAreShaped, HasItsForm, IsShaped, LetShape, SetfShape, SetqShape, Target, form_of, with_form}
 
-first_of : (a b : Bool) → (a && b) ≡ true → a ≡ true
-first_of true b h = refl
-first_of false b h = h
-
-second_of : (a b : Bool) → (a && b) ≡ true → b ≡ true
-second_of true b h = h
-second_of false b h = absurd (true≢false (sym h))
-
 -- ---- setq
 
 setq_shape : (ns : List Name) (fs : Forms) → values ns (roles_of fs) ≡ true → SetqShape ns fs
@@ -31,7 +24,7 @@ setq_shape [] nil h = record { pairs = []; their_names = refl; their_forms = ref
 setq_shape [] (cons f fs) h = absurd (cc h)
 setq_shape (n ∷ ns) nil h = absurd (cc h)
 setq_shape (n ∷ ns) (cons f fs) h =
-    let rest : SetqShape ns fs = setq_shape ns fs (second_of (is_expression (role_of (operator_in f))) (values ns (roles_of fs)) h) in record {
+    let rest : SetqShape ns fs = setq_shape ns fs (second_so (is_expression (role_of (operator_in f))) (values ns (roles_of fs)) h) in record {
       pairs = (n, f) ∷ rest.pairs;
       their_names = ap (λ xs. n ∷ xs) rest.their_names;
       their_forms = ap (cons f) rest.their_forms;
@@ -80,10 +73,10 @@ setf_shape nil h = record { pairs = []; parts = refl; means = λ ev env v w s. r
 setf_shape (cons p nil) h = absurd (cc h)
 setf_shape (cons p (cons f fs)) h =
     let it : IsTarget p =
-    target_of p (first_of (is_place (role_of (operator_in p))) (is_expression (role_of (operator_in f)) && assignments (roles_of fs)) h) in
+    target_of p (first_so (is_place (role_of (operator_in p))) (is_expression (role_of (operator_in f)) && assignments (roles_of fs)) h) in
     let rest : SetfShape fs =
-    setf_shape fs (second_of (is_expression (role_of (operator_in f))) (assignments (roles_of fs))
-    (second_of (is_place (role_of (operator_in p))) (is_expression (role_of (operator_in f)) && assignments (roles_of fs)) h)) in record {
+    setf_shape fs (second_so (is_expression (role_of (operator_in f))) (assignments (roles_of fs))
+    (second_so (is_place (role_of (operator_in p))) (is_expression (role_of (operator_in f)) && assignments (roles_of fs)) h)) in record {
       pairs = (it.target, f) ∷ rest.pairs;
       parts = λ i. cons (it.is i) (cons f (rest.parts i));
       means = λ ev env v w s. (λ i. then_do (assigned ev env (place_in (operator_in (it.is i))) (parts_in (it.is i)) f w s) (λ u x k. rest.means ev env u x k i));
@@ -102,11 +95,11 @@ change_shape : (fs : Forms) → place_and_amount (roles_of fs) ≡ true → Chan
 change_shape nil h = absurd (cc h)
 change_shape (cons p fs) h =
     let is_target : is_place (role_of (operator_in p)) ≡ true =
-    first_of (is_place (role_of (operator_in p))) (are_expressions (roles_of fs) && nat_le (length (roles_of fs)) 1) h in
+    first_so (is_place (role_of (operator_in p))) (are_expressions (roles_of fs) && nat_le (length (roles_of fs)) 1) h in
     let it : IsTarget p = target_of p is_target in
     let rest : IsOptional fs =
-    optional_has fs (second_of (are_expressions (roles_of fs)) (nat_le (length (roles_of fs)) 1)
-    (second_of (is_place (role_of (operator_in p))) (are_expressions (roles_of fs) && nat_le (length (roles_of fs)) 1) h)) in record {
+    optional_has fs (second_so (are_expressions (roles_of fs)) (nat_le (length (roles_of fs)) 1)
+    (second_so (is_place (role_of (operator_in p))) (are_expressions (roles_of fs) && nat_le (length (roles_of fs)) 1) h)) in record {
       target = it.target;
       amount = rest.amount;
       parts = λ i. cons (it.is i) (rest.is i);
@@ -128,7 +121,7 @@ one_bound name false bs others fs h =
     }
 one_bound name true bs others nil h = absurd (cc h)
 one_bound name true bs others (cons f fs) h =
-    let rest : LetShape bs fs = others fs (second_of (is_expression (role_of (operator_in f))) (inits_and_body bs (roles_of fs)) h) in record {
+    let rest : LetShape bs fs = others fs (second_so (is_expression (role_of (operator_in f))) (inits_and_body bs (roles_of fs)) h) in record {
       bindings = (name, Some f) ∷ rest.bindings;
       body = rest.body;
       names = ap (λ xs. record { name = name; has_init = true } ∷ xs) rest.names;
@@ -148,7 +141,7 @@ dotimes_shape : (has_result : Bool) (fs : Forms) → first_if true (first_if has
 dotimes_shape has_result nil h = absurd (cc h)
 dotimes_shape false (cons f fs) h =
     record { count = f; result = None; body = fs; has = refl; parts = refl; turns = refl; gives = λ ev env w s. refl; means = λ ev env n name w s. refl }
-dotimes_shape true (cons f nil) h = absurd (cc (second_of (is_expression (role_of (operator_in f))) false h))
+dotimes_shape true (cons f nil) h = absurd (cc (second_so (is_expression (role_of (operator_in f))) false h))
 dotimes_shape true (cons f (cons g fs)) h =
     record { count = f; result = Some g; body = fs; has = refl; parts = refl; turns = refl; gives = λ ev env w s. refl; means = λ ev env n name w s. refl }
 
@@ -187,9 +180,9 @@ shaped standing (with_slots bs) fs e h = tt
 shaped standing call_next_method fs e h = tt
 shaped standing next_method_p fs e h = tt
 shaped standing (call n) fs e h = tt
-shaped standing (call_method m ns) fs e h = made_has m ns fs (second_of (in_effective standing) (forms_of_made (m ∷ ns) (roles_of fs)) h)
+shaped standing (call_method m ns) fs e h = made_has m ns fs (second_so (in_effective standing) (forms_of_made (m ∷ ns) (roles_of fs)) h)
 
 pub forms_are_shaped : FormsAreShaped
 forms_are_shaped standing (form o fs) h =
-    let made_well : is_made_well standing (form o fs) ≡ true = second_of (is_expression (role_of o)) (is_made_well standing (form o fs)) h in
-    shaped standing o fs (first_of (is_expression (role_of o)) (is_made_well standing (form o fs)) h) (first_of (takes standing o (roles_of fs)) (are_made_well standing fs) made_well)
+    let made_well : is_made_well standing (form o fs) ≡ true = second_so (is_expression (role_of o)) (is_made_well standing (form o fs)) h in
+    shaped standing o fs (first_so (is_expression (role_of o)) (is_made_well standing (form o fs)) h) (first_so (takes standing o (roles_of fs)) (are_made_well standing fs) made_well)

@@ -21,6 +21,7 @@ use Rattle.clos_laws.specs.Reached.{IsReached}
 abbrev pub OfBody : Context → LambdaList → Forms → Type 0
 OfBody context l fs = OfLambdaList l × (are_well_formed context fs ≡ true)
 
+-- of a function, which is no method
 abbrev pub OfFunction : Function → Type 0
 OfFunction f = OfBody Plain f.lambda_list f.body
 

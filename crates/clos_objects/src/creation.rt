@@ -11,8 +11,8 @@ ghost use Rattle.clos_machine.specs.Fault.{TellsCondition};
 ghost use Rattle.clos_objects.specs.Objects.{Enters, default_first, ungiven};
 
 use crate::classes::designate;
-use crate::initargs::{invalid_initarg, is_given};
-use crate::reached::methods_reached;
+use clos_filling::initargs::{invalid_initarg, is_given};
+use clos_filling::reached::methods_reached;
 use clos_forms::{Forms, value_named};
 use clos_machine::finalized::Finalized;
 use clos_machine::machine::{Action, Doing, Frame, Machine};

@@ -4,10 +4,8 @@
 pub mod class_change;
 mod classes;
 pub mod creation;
-pub mod filling;
-mod initargs;
-mod reached;
 mod shared;
-mod slot_names;
 pub mod system_methods;
 mod updates;
+
+pub use clos_filling::filling;

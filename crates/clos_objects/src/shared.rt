@@ -9,8 +9,8 @@ ghost use Rattle.clos_machine.specs.Machine.{Grows, Leads, value_weight, here};
 ghost use Rattle.clos_machine.specs.clos_meaning.SystemMethods.{checked_shared, class_in, shared_initialized};
 
 use crate::creation::refuse;
-use crate::initargs::invalid_initarg;
-use crate::reached::methods_reached;
+use clos_filling::initargs::invalid_initarg;
+use clos_filling::reached::methods_reached;
 use clos_forms::Forms;
 use clos_machine::finalized::Finalized;
 use clos_machine::machine::{Doing, Frame, Machine};

@@ -15,8 +15,8 @@ ghost use Rattle.clos_method.specs.declared.system.SystemFunction.TheVariants.{S
 
 use crate::creation::enter;
 use crate::shared::{check_shared, class_in, initialize_shared};
-use crate::slot_names::are_slot_names;
 use crate::updates::{update_different, update_redefined};
+use clos_filling::slot_names::are_slot_names;
 use clos_machine::fault::{instance_in, wrong_type};
 use clos_machine::machine::{Doing, Filling, InstanceTask, Machine, Visit};
 use clos_machine::parameters::are_even;
