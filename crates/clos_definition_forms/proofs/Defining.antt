@@ -30,7 +30,8 @@ use Rattle.clos_machine.specs.Machine.{Answers}
 use Rattle.clos_machine.specs.clos_meaning.Host.{Host}
 use Rattle.clos_machine.specs.clos_meaning.Outcome.{Gave, Noted, Run, Stopped, leaves, took_effect}
 use Rattle.clos_machine.specs.clos_world.clos_cache.Cache.{Change}
-use Rattle.clos_definition_forms.specs.Definition.{AnswersNoting, class_made, concerned_if, define_class, define_generic, define_method, generic_made, method_made, removed_if, takes_effect, unless, value_at, values_concerned, values_removed}
+use Rattle.clos_definition_forms.specs.Definition.{class_made, concerned_if, define_class, define_generic, define_method, generic_made, method_made, removed_if, unless, value_at, values_concerned, values_removed}
+use Rattle.clos_effects.specs.Effects.{AnswersNoting, takes_effect}
 use Rattle.clos_definition_forms.specs.Forms.{forms_evaluated}
 use Rattle.clos_definition_forms.proofs.Quiet.{class_made_quiet, define_class_quiet, define_generic_quiet, define_method_quiet, generic_made_quiet, method_made_quiet, values_removed_quiet}
 use Rattle.clos_definition_forms.proofs.Evaluated.{performs_alone, performs_as, performs_from}
@@ -73,16 +74,6 @@ stops_noting cs run w s Storage x j h = h
 passes_noting : (cs : List Change) (o : Option Condition) (go : Run) (w : State) (s j : ℕ) (x : State) (r : Result Value Stop) → o ≡ None
     → AnswersNoting cs go w s r x j → AnswersNoting cs (unless o go) w s r x j
 passes_noting cs o go w s j x r h a = noting_same cs go (unless o go) w s r x j (λ i. sym (ap (λ p. unless p go w i) h)) a
-
--- an effect for which there is no memory
-pub effect_not_made : (cs : List Change) (v : Val) (t w u : State) (s : ℕ) → u ≡ w → AnswersNoting cs (takes_effect cs v t) w s (Err Storage) u s
-effect_not_made cs v t w u s e =
-    subst (λ x. AnswersNoting cs (takes_effect cs v t) w s (Err Storage) x s) (sym e) (storage_at (takes_effect cs v t) w s (refl, refl))
-
--- an effect that is made, in one step
-pub effect_is_made : (cs : List Change) (v : Value) (t w u : State) (s k : ℕ) → s ≡ suc k → u ≡ t → AnswersNoting cs (takes_effect cs (value_of v) t) w s (Ok v) u k
-effect_is_made cs v t w u s k e h =
-    ap (λ n. takes_effect cs (value_of v) t w n) e ∙ ap (λ x. Noted (took_effect w cs) (Gave (value_of v) x k)) (sym h)
 
 -- with an effect that is the same
 takes_same : (cs cs' : List Change) (v v' : Val) (x x' w u y : State) (s j : ℕ) (r : Result Value Stop) → u ≡ w → cs ≡ cs' → v ≡ v' → x ≡ x'

@@ -23,7 +23,7 @@ use Rattle.clos_machine.proofs.Answering.{answers_as, answers_with, leaves_then,
 use Rattle.clos_machine.proofs.Runs.{quiet_answered}
 use Rattle.clos_machine.proofs.Uses.{after_more, keeps_as, made_of_more, none_made, notes_longer, notes_stopped, nothing_more, same_answers}
 use Rattle.clos_machine.proofs.clos_meaning.Quiet.{evaluation_quiet}
-use Rattle.clos_definition_forms.specs.Definition.{AnswersNoting, UsesAfter}
+use Rattle.clos_effects.specs.Effects.{AnswersNoting, UsesAfter}
 use Rattle.clos_definition_forms.specs.Forms.{EndsBefore, evaluated, form_evaluated, forms_evaluated}
 use Rattle.clos_definition_forms.specs.Variable.{room_below}
 

@@ -8,3 +8,4 @@ pub mod Hearing
 pub mod Watched
 pub use Rattle.clos_machine.proofs as clos_machine
 pub use Rattle.clos_definition.proofs as clos_definition
+pub use Rattle.clos_effects.proofs as clos_effects

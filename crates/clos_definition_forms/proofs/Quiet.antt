@@ -19,7 +19,8 @@ use Rattle.clos_definition.specs.Method.{eql_form, method_concerned, method_refu
 use Rattle.clos_definition.specs.Removal.{removable}
 use Rattle.clos_machine.specs.clos_meaning.Outcome.{Out, Run, leaves}
 use Rattle.clos_definition_forms.specs.Combination.{define_combination}
-use Rattle.clos_definition_forms.specs.Definition.{class_made, define_class, define_generic, define_method, generic_made, method_made, removed_if, remove_method, takes_effect, unless, value_at, values_removed}
+use Rattle.clos_definition_forms.specs.Definition.{class_made, define_class, define_generic, define_method, generic_made, method_made, removed_if, remove_method, unless, value_at, values_removed}
+use Rattle.clos_effects.specs.Effects.{takes_effect}
 use Rattle.clos_definition_forms.specs.Forms.{forms_evaluated}
 use Rattle.clos_definition_forms.proofs.Evaluated.{forms_quiet}
 

@@ -1,9 +1,7 @@
 -- What definition forms do (HyperSpec 7.7): all checks come first, then the forms that are evaluated, then the checks again, now with
 -- their values, and last one step for the whole of the effect.
-use Rattle.std.specs.Prelude.{◌≡◌, ℕ, ◌+◌, List, [], ◌∷◌, length, map, slice_get, Option, Some, None, Result, Ok, Err}
+use Rattle.std.specs.Prelude.{ℕ, List, [], ◌∷◌, length, map, slice_get, Option, Some, None, Result, Ok, Err}
 use Rattle.lisp_data.specs.Value.{Val, class, generic, list, method, nil}
-use Rattle.lisp_data.specs.ValueView.{value_of}
-use Rattle.lisp_data.specs.declared.value.Value.{Value}
 use Rattle.clos_forms.specs.Form.{Form}
 use Rattle.clos_forms.specs.declared.operator.FunctionName.{FunctionName}
 use Rattle.clos_machine.specs.clos_world.clos_generic.Table.{number}
@@ -16,33 +14,15 @@ use Rattle.clos_definition.specs.Class.{cells_needed, class_concerned, class_num
 use Rattle.clos_definition.specs.Generic.{eql_forms, generic_concerned, generic_refusal, with_defined_generic}
 use Rattle.clos_definition.specs.Method.{eql_form, method_concerned, method_refusal, with_defined_method}
 use Rattle.clos_definition.specs.Removal.{concerned_by_removal, removable, with_removed}
-use Rattle.clos_machine.specs.clos_meaning.Outcome.{Gave, Noted, Run, Stopped, leaves, step_then, took_effect}
-use Rattle.clos_machine.specs.clos_meaning.Uses.{with_note}
+use Rattle.clos_machine.specs.clos_meaning.Outcome.{Run, Stopped}
 use Rattle.clos_machine.specs.clos_world.clos_cache.Cache.{Change}
-use Rattle.clos_machine.specs.clos_world.clos_cache.Uses.{Uses}
-use Rattle.clos_machine.specs.clos_world.declared.condition.Stop.{Stop}
-use Rattle.clos_machine.specs.clos_world.declared.condition.Stop.TheVariants.{Refused, Storage}
+use Rattle.clos_effects.specs.Effects.{takes_effect}
 use Rattle.clos_definition_forms.specs.Forms.{forms_evaluated}
 
 -- it goes on where nothing is wrong
 abbrev pub unless : Option Condition → Run → Run
 unless None go w k = go w k
 unless (Some c) go w k = Stopped c w k
-
--- one step, after which the state is this; what it concerns of the calls is noted
-abbrev pub takes_effect : List Change → Val → State → Run
-takes_effect concerned value u = step_then (λ w k. Noted (took_effect w concerned) (Gave value u k))
-
--- The run notes that this is concerned, and gives the value; or it stops, and notes nothing.
-abbrev pub AnswersNoting : List Change → Run → State → ℕ → Result Value Stop → State → ℕ → Type 0
-AnswersNoting concerned run w s (Ok v) w' s' = run w s ≡ Noted (took_effect w concerned) (Gave (value_of v) w' s')
-AnswersNoting concerned run w s (Err (Refused c)) w' s' = run w s ≡ Stopped c w' s'
-AnswersNoting concerned run w s (Err Storage) w' s' = (k : ℕ) × (s ≡ k + s') × leaves (run w k) w' 0
-
--- After its effect nothing is kept of the calls that are concerned, and of others what was; what stops leaves all that was kept.
-abbrev pub UsesAfter : List Change → State → Uses → Result Value Stop → Uses → Type 0
-UsesAfter concerned w u (Ok v) u' = u' ≡ with_note (took_effect w concerned) u
-UsesAfter concerned w u (Err e) u' = u' ≡ u
 
 -- ---- defmethod
 

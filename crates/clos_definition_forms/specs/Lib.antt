@@ -2,7 +2,6 @@ pub mod Variable
 pub mod Forms
 pub mod Function
 pub mod Definition
-pub mod Hearing
 pub mod Dependents
 pub mod Combination
 pub use Rattle.clos_machine.specs as clos_machine
@@ -13,3 +12,4 @@ pub use Rattle.clos_eval.specs as clos_eval
 pub use Rattle.clos_eval.specs.clos_native as clos_native
 pub use Rattle.clos_watch.specs as clos_watch
 pub use Rattle.lisp_prims.specs as lisp_prims
+pub use Rattle.clos_effects.specs as clos_effects

@@ -5,7 +5,7 @@ ghost use Rattle.clos_machine.specs.clos_world.clos_comb.Table.{name_of};
 ghost use Rattle.clos_machine.specs.clos_world.Uses.{uses_of};
 ghost use Rattle.clos_machine.specs.clos_world.World.{seen};
 ghost use Rattle.clos_definition_forms.specs.Combination.{define_combination};
-ghost use Rattle.clos_definition_forms.specs.Definition.{AnswersNoting, UsesAfter};
+ghost use Rattle.clos_effects.specs.Effects.{AnswersNoting, UsesAfter};
 
 use clos_forms::value_named;
 use clos_machine::{CombinationDefinition, ConditionKind, Stop, World, name_of, plain};

@@ -1,36 +1,33 @@
 //! What definition forms do (HyperSpec 7.7): the checks, the forms that they evaluate, and one step for the whole of the effect. What
 //! is refused takes none.
-ghost use Rattle.std.specs.Prelude.{◌≡◌, [], ◌∷◌, None, Some, IfOk, length, map};
+ghost use Rattle.std.specs.Prelude.{◌≡◌, [], ◌∷◌, None, Some, IfOk, map};
 ghost use Rattle.lisp_data.specs.ValueView.{value_of};
 ghost use Rattle.clos_machine.specs.clos_world.Uses.{uses_of};
 ghost use Rattle.clos_machine.specs.clos_world.World.{seen};
-ghost use Rattle.lisp_data.specs.Value.{class};
-ghost use Rattle.clos_definition.specs.Class.{class_concerned, class_concerned_by, class_notices, class_refusal, initforms, noting, with_class};
-ghost use Rattle.clos_definition.specs.Effect.{IsReserved, concerned_by, with_effect};
+ghost use Rattle.clos_definition.specs.Class.{class_concerned, initforms};
 ghost use Rattle.clos_syntax.specs.Laws.{IsSpecialized};
 ghost use Rattle.clos_definition.specs.Generic.{IsWellRead, eql_forms, generic_concerned};
 ghost use Rattle.clos_definition.specs.Method.{eql_form, method_concerned};
-ghost use Rattle.clos_definition.specs.Removal.{concerned_by_removal, with_removed};
 ghost use Rattle.clos_eval.specs.Evaluation.{Performs};
-ghost use Rattle.clos_definition_forms.specs.Definition.{AnswersNoting, UsesAfter, class_made, define_class, define_generic, define_method, generic_made, method_made, remove_method, takes_effect, value_at, values_concerned, values_removed};
+ghost use Rattle.clos_definition_forms.specs.Definition.{class_made, define_class, define_generic, define_method, generic_made, method_made, remove_method, value_at, values_concerned, values_removed};
+ghost use Rattle.clos_effects.specs.Effects.{AnswersNoting, UsesAfter};
 ghost use Rattle.clos_definition_forms.specs.Forms.{forms_evaluated};
-ghost use Rattle.clos_definition_forms.specs.Hearing.{Heard};
+ghost use Rattle.clos_effects.specs.Hearing.{Heard};
 
 use crate::forms::evaluate_forms;
-use crate::telling::{prepare_to_tell, tell};
 use clos_class::NewCell;
 use clos_definition::{
-    Effect, check_class, check_generic, check_method, class_notices, find_removable, generic_forms,
-    make, make_class, method_forms, number_of, possible_notices, prepare_class, prepare_generic,
-    prepare_method, remove,
+    check_class, check_generic, check_method, find_removable, generic_forms, method_forms,
+    number_of, prepare_class, prepare_generic, prepare_method,
 };
+use clos_effects::{make_prepared_class, take_effect, take_out};
 use clos_eval::Natives;
 use clos_forms::{Form, FunctionName};
-use clos_machine::{ConditionKind, Stop, World, plain};
+use clos_machine::{Stop, World};
 use clos_store::Slot;
 use clos_syntax::{ClassDefinition, GenericDefinition, MethodDefinition};
-use clos_watch::{Dependents, Notice};
-use lisp_data::{ClassId, GenericId, Items, MethodId, Value};
+use clos_watch::Dependents;
+use lisp_data::{Items, MethodId, Value};
 use std::alloc::{AllocError, Global};
 
 /// Defines a method, which takes the place of one with the same qualifiers and specializers.
@@ -187,40 +184,6 @@ fn make_generic<D: Dependents>(
     }
 }
 
-/// Takes the step of an effect that was prepared, and then makes it.
-fn take_effect<D: Dependents>(
-    alloc: Global,
-    world: &mut World,
-    dependents: &mut D,
-    effect: Effect,
-    value: Value,
-    steps: &mut u64,
-) -> Result<Value, Stop>
-    requires { IsReserved effect world.old.generics }
-    ensures answers { AnswersNoting (concerned_by effect (seen world.old).generics)
-        (takes_effect (concerned_by effect (seen world.old).generics) (value_of value)
-        (with_effect effect (seen world.old))) (seen world.old) steps.old result (seen world.new) steps.new }
-    ensures uses { UsesAfter (concerned_by effect (seen world.old).generics) (seen world.old) (uses_of world.old) result
-        (uses_of world.new) }
-    ensures heard { Heard (D.told dependents.old) (seen world.old) (D.told dependents.new) (seen world.new) }
-    ensures names { D.names dependents.new ≡ D.names dependents.old }
-{
-    if *steps == 0 {
-        return Err(Stop::Refused(plain(alloc, ConditionKind::StepLimit)));
-    }
-    let Ok(notices) = possible_notices(alloc, world, &effect) else {
-        return Err(Stop::Storage);
-    };
-    let Ok(()) = prepare_to_tell(world, dependents, notices.as_slice()) else {
-        return Err(Stop::Storage);
-    };
-    let from = world.hearing.notices.len();
-    *steps -= 1;
-    make(world, effect);
-    tell(world, dependents, from);
-    Ok(value)
-}
-
 /// Defines a class, or defines it again, with the methods of its accessors. Some of its direct superclasses may not be defined
 /// yet.
 pub fn defclass<N: Natives, D: Dependents>(
@@ -328,47 +291,6 @@ fn make_checked_class<D: Dependents>(
     }
 }
 
-/// Takes the step of a class whose accessors were prepared, and then makes it.
-fn make_prepared_class<D: Dependents>(
-    alloc: Global,
-    world: &mut World,
-    dependents: &mut D,
-    definition: &ClassDefinition,
-    id: ClassId,
-    values: Vec<Slot>,
-    accessors: Effect,
-    steps: &mut u64,
-) -> Result<Value, Stop>
-    requires allowed { class_refusal definition.now (length values.items) (seen world.old) ≡ None }
-    requires reserved { IsReserved accessors world.old.generics }
-    ensures answers { AnswersNoting (class_concerned_by definition.now values.items accessors (seen world.old))
-        (takes_effect (class_concerned_by definition.now values.items accessors (seen world.old)) (class id.0)
-        (with_class definition.now values.items (with_effect accessors
-        (noting (class_notices definition.now (seen world.old)) (seen world.old))))) (seen world.old) steps.old result
-        (seen world.new) steps.new }
-    ensures uses { UsesAfter (class_concerned_by definition.now values.items accessors (seen world.old))
-        (seen world.old) (uses_of world.old) result (uses_of world.new) }
-    ensures heard { Heard (D.told dependents.old) (seen world.old) (D.told dependents.new) (seen world.new) }
-    ensures names { D.names dependents.new ≡ D.names dependents.old }
-{
-    if *steps == 0 {
-        return Err(Stop::Refused(plain(alloc, ConditionKind::StepLimit)));
-    }
-    let Ok(notices) = class_notices(alloc, world, definition, &accessors) else {
-        return Err(Stop::Storage);
-    };
-    let Ok(()) = prepare_to_tell(world, dependents, notices.as_slice()) else {
-        return Err(Stop::Storage);
-    };
-    let from = world.hearing.notices.len();
-    let Ok(()) = make_class(alloc, world, definition, values, accessors) else {
-        return Err(Stop::Storage);
-    };
-    *steps -= 1;
-    tell(world, dependents, from);
-    Ok(Value::Class(id))
-}
-
 /// Takes a method out of a function, after both forms are evaluated.
 pub fn remove_method<N: Natives, D: Dependents>(
     alloc: Global,
@@ -433,38 +355,6 @@ fn remove_evaluated<D: Dependents>(
         Err(stop) => Err(stop),
         Ok((generic, id)) => take_out(alloc, world, dependents, generic, id, function, steps),
     }
-}
-
-/// Takes the step of a removal, and then makes it. The value is the function.
-fn take_out<D: Dependents>(
-    alloc: Global,
-    world: &mut World,
-    dependents: &mut D,
-    generic: GenericId,
-    method: MethodId,
-    function: Value,
-    steps: &mut u64,
-) -> Result<Value, Stop>
-    ensures answers { AnswersNoting (concerned_by_removal generic.0 method.0 (seen world.old).generics)
-        (takes_effect (concerned_by_removal generic.0 method.0 (seen world.old).generics) (value_of function)
-        (with_removed generic.0 method.0 (seen world.old))) (seen world.old) steps.old result (seen world.new) steps.new }
-    ensures uses { UsesAfter (concerned_by_removal generic.0 method.0 (seen world.old).generics) (seen world.old)
-        (uses_of world.old) result (uses_of world.new) }
-    ensures heard { Heard (D.told dependents.old) (seen world.old) (D.told dependents.new) (seen world.new) }
-    ensures names { D.names dependents.new ≡ D.names dependents.old }
-{
-    if *steps == 0 {
-        return Err(Stop::Refused(plain(alloc, ConditionKind::StepLimit)));
-    }
-    let Ok(()) = prepare_to_tell(world, dependents, &[Notice::MethodRemoved(generic, method)])
-    else {
-        return Err(Stop::Storage);
-    };
-    let from = world.hearing.notices.len();
-    *steps -= 1;
-    remove(world, generic, method);
-    tell(world, dependents, from);
-    Ok(function)
 }
 
 /// The value at this place.

@@ -6,7 +6,6 @@ mod definition;
 mod dependents;
 mod forms;
 mod function;
-mod telling;
 mod variable;
 
 pub use clos_eval::{Native, Natives, Relation, evaluate};

@@ -33,7 +33,8 @@ use Rattle.clos_session.specs.clos_definition_forms.clos_definition.Generic.{eql
 use Rattle.clos_session.specs.clos_definition_forms.clos_definition.Method.{eql_form, method_concerned, method_refusal, with_defined_method}
 use Rattle.clos_session.specs.clos_definition_forms.clos_definition.Removal.{concerned_by_removal, removable, with_removed}
 use Rattle.clos_session.specs.clos_definition_forms.Combination.{combination_defined, define_combination}
-use Rattle.clos_session.specs.clos_definition_forms.Definition.{class_made, define_class, define_generic, define_method, generic_made, method_made, remove_method, removed_if, takes_effect, unless, value_at, values_removed}
+use Rattle.clos_session.specs.clos_definition_forms.Definition.{class_made, define_class, define_generic, define_method, generic_made, method_made, remove_method, removed_if, unless, value_at, values_removed}
+use Rattle.clos_session.specs.clos_definition_forms.clos_effects.Effects.{takes_effect}
 use Rattle.clos_session.specs.clos_definition_forms.Dependents.{change_dependents, changed_if, values_watched, watched, with_change}
 use Rattle.clos_session.specs.clos_definition_forms.Forms.{form_evaluated, forms_evaluated}
 use Rattle.clos_session.specs.clos_definition_forms.Function.{has_room, function_defined, setter_defined, define_function}

@@ -31,7 +31,8 @@ use Rattle.clos_definition_forms.specs.clos_machine.clos_meaning.Meaning.{evalua
 use Rattle.clos_definition_forms.specs.clos_machine.clos_meaning.Outcome.{Asked, End, Given, Looked, Noted, Out, Gave, Signalled, Stopped, Run, then_do, step_then, stopped, took_effect}
 use Rattle.clos_definition_forms.specs.clos_world.clos_cache.Cache as of_calls
 use Rattle.clos_definition_forms.proofs.clos_machine.clos_meaning.Kept.{Follows, SameAfter, evaluation_kept, follows_then, nothing_written, stays, writes_then}
-use Rattle.clos_definition_forms.specs.Definition.{class_made, define_class, define_generic, define_method, generic_made, method_made, remove_method, removed_if, takes_effect, unless, value_at, values_removed}
+use Rattle.clos_definition_forms.specs.Definition.{class_made, define_class, define_generic, define_method, generic_made, method_made, remove_method, removed_if, unless, value_at, values_removed}
+use Rattle.clos_definition_forms.specs.clos_effects.Effects.{takes_effect}
 use Rattle.clos_definition_forms.specs.lisp_prims.Primitive.{truth}
 use Rattle.clos_definition_forms.specs.Dependents.{change_dependents, changed_if, values_watched, watched, with_change}
 use Rattle.clos_definition_forms.specs.declared.dependents.Change.{Change}

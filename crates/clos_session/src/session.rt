@@ -8,7 +8,7 @@ ghost use Rattle.clos_session.specs.Read.{IsWellRead};
 ghost use Rattle.clos_session.specs.Step.{checked, step};
 ghost use Rattle.clos_definition_forms.specs.clos_world.Initial.{initial};
 ghost use Rattle.clos_definition_forms.specs.clos_watch.Handed.{place_of};
-ghost use Rattle.clos_definition_forms.specs.Hearing.{Heard};
+ghost use Rattle.clos_definition_forms.specs.clos_effects.Hearing.{Heard};
 ghost use Rattle.clos_session.specs.Definitions.{DefinesNothing};
 ghost use Rattle.clos_session.specs.Session.{answers_of, built_of, state_of, Replies};
 ghost use Rattle.clos_session.specs.Uses.{MakesUses, none_kept, session_uses};

@@ -7,7 +7,7 @@ use Rattle.lisp_data.specs.ValueView.{value_of}
 use Rattle.lisp_data.specs.declared.value.Value.{Value}
 use Rattle.lisp_reader.specs.Answers.{Next}
 use Rattle.clos_session.specs.Session.{Standing}
-use Rattle.clos_session.specs.clos_definition_forms.Hearing.{Heard, since}
+use Rattle.clos_session.specs.clos_definition_forms.clos_effects.Hearing.{Heard, since}
 use Rattle.clos_session.specs.clos_watch.Watching.{heard_after}
 use Rattle.clos_session.specs.clos_machine.Machine.{AnswersWith}
 use Rattle.clos_session.specs.clos_machine.Uses.{KeepsBy, MadeSome}

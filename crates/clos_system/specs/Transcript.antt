@@ -13,7 +13,7 @@ use Rattle.lisp_reader.specs.Gaps.{Gaps}
 use Rattle.clos_session.specs.clos_world.Condition.{number_of, condition_name}
 use Rattle.clos_session.specs.clos_world.World.{State, names_of}
 use Rattle.clos_session.specs.Session.{Standing}
-use Rattle.clos_session.specs.clos_definition_forms.Hearing.{Heard, since}
+use Rattle.clos_session.specs.clos_definition_forms.clos_effects.Hearing.{Heard, since}
 use Rattle.clos_session.specs.clos_watch.Watching.{heard_after}
 use Rattle.clos_session.specs.clos_machine.clos_meaning.Host.{Host, answered_by}
 use Rattle.clos_session.specs.clos_machine.clos_meaning.Outcome.{End, Given, Signalled}

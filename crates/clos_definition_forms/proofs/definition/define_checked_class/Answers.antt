@@ -3,7 +3,8 @@ use Rattle.clos_machine.specs.clos_world.World.{seen}
 use Rattle.clos_definition.specs.Class.{class_concerned, initforms}
 use Rattle.clos_definition_forms.specs.Definition.{class_made}
 use Rattle.clos_definition_forms.proofs.Evaluated.{forms_go_on, forms_not_begun, forms_stop, performs_noting}
-use Rattle.clos_definition_forms.proofs.Hearing.{heard_with_values, unheard, unheard_before}
+use Rattle.clos_definition_forms.proofs.Hearing.{heard_with_values, unheard_before}
+use Rattle.clos_effects.proofs.Hearing.{unheard}
 use Rattle.clos_definition_forms.proofs.Quiet.{class_made_quiet}
 use Rattle.clos_definition_forms.proofs.definition.define_checked_class.Goals as goal
 

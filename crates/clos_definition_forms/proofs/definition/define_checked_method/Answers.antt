@@ -6,7 +6,8 @@ use Rattle.clos_definition.specs.Method.{eql_form, method_concerned}
 use Rattle.clos_definition_forms.specs.Definition.{method_made}
 use Rattle.clos_definition_forms.proofs.Evaluated.{forms_go_on, forms_not_begun, forms_stop, performs_noting}
 use Rattle.clos_definition_forms.proofs.Quiet.{method_made_quiet}
-use Rattle.clos_definition_forms.proofs.Hearing.{heard_with_values, unheard, unheard_before}
+use Rattle.clos_definition_forms.proofs.Hearing.{heard_with_values, unheard_before}
+use Rattle.clos_effects.proofs.Hearing.{unheard}
 use Rattle.clos_definition_forms.proofs.definition.define_checked_method.Goals as goal
 
 pub returns-in_default-clause-performs : goal.returns-in_default-clause-performs

@@ -4,7 +4,8 @@ use Rattle.clos_machine.specs.clos_world.World.{seen}
 use Rattle.clos_definition.specs.Class.{class_concerned, class_concerned_by, class_refusal, lists_concerned}
 use Rattle.clos_definition_forms.proofs.Concerned.{uses_as}
 use Rattle.clos_definition_forms.proofs.Defining.{class_is_made}
-use Rattle.clos_definition_forms.proofs.Hearing.{heard_at, unheard}
+use Rattle.clos_definition_forms.proofs.Hearing.{heard_at}
+use Rattle.clos_effects.proofs.Hearing.{unheard}
 use Rattle.clos_definition_forms.proofs.definition.make_checked_class.Goals as goal
 
 pub make_prepared_class-requires-clause-allowed : goal.make_prepared_class-requires-clause-allowed

@@ -1,6 +1,6 @@
 use Rattle.std.proofs.Common.{refl}
 use Rattle.clos_machine.specs.clos_world.World.{seen}
-use Rattle.clos_definition_forms.proofs.Hearing.{unheard}
+use Rattle.clos_effects.proofs.Hearing.{unheard}
 use Rattle.clos_definition_forms.proofs.definition.remove_evaluated.Goals as goal
 
 pub returns-in_default-clause-heard : goal.returns-in_default-clause-heard

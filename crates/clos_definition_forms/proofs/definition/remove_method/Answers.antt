@@ -4,7 +4,8 @@ use Rattle.clos_eval.specs.Evaluation.{Performs}
 use Rattle.clos_machine.specs.clos_world.World.{seen}
 use Rattle.clos_definition_forms.specs.Definition.{values_concerned, values_removed}
 use Rattle.clos_definition_forms.proofs.Evaluated.{forms_go_on, forms_not_begun, forms_stop, performs_noting}
-use Rattle.clos_definition_forms.proofs.Hearing.{heard_with_values, unheard, unheard_before}
+use Rattle.clos_definition_forms.proofs.Hearing.{heard_with_values, unheard_before}
+use Rattle.clos_effects.proofs.Hearing.{unheard}
 use Rattle.clos_definition_forms.proofs.Quiet.{values_removed_quiet}
 use Rattle.clos_definition_forms.proofs.definition.remove_method.Goals as goal
 

@@ -2,7 +2,7 @@ use Rattle.std.proofs.Common.{Some, ap, refl, sym}
 use Rattle.lisp_data.specs.DatumView.{datum_of}
 use Rattle.clos_definition_forms.specs.clos_world.World.{seen}
 use Rattle.clos_definition_forms.proofs.Evaluated.{performs_as, performs_storage}
-use Rattle.clos_definition_forms.proofs.Hearing.{unheard}
+use Rattle.clos_definition_forms.proofs.clos_effects.Hearing.{unheard}
 use Rattle.clos_session.specs.Step.{checked, step}
 use Rattle.clos_session.proofs.StepQuiet.{step_quiet}
 use Rattle.clos_session.proofs.WellRead.{well_read}

@@ -12,7 +12,7 @@ use Rattle.clos_definition_forms.specs.clos_world.clos_cache.Cache.{of_combinati
 use Rattle.clos_definition_forms.specs.clos_world.clos_comb.Table.{name_of}
 use Rattle.clos_definition_forms.specs.declared.dependents.Change.TheVariants.{Add, Remove}
 use Rattle.clos_definition_forms.proofs.Evaluated.{performs_alone, performs_noting}
-use Rattle.clos_definition_forms.proofs.Hearing.{unheard}
+use Rattle.clos_definition_forms.proofs.clos_effects.Hearing.{unheard}
 use Rattle.clos_definition_forms.proofs.clos_machine.Answering.{answers_with}
 use Rattle.clos_session.specs.Step.{room_of}
 use Rattle.clos_session.proofs.Hearing.{change_untold, combination_untold, expression_untold, function_untold, variable_untold}

@@ -1,8 +1,8 @@
 use Rattle.std.proofs.Common.{ℕ, ◌<◌, ◌≤◌, OnOk, length, ap, sym, subst}
 use Rattle.clos_watch.specs.Watching.{times_told}
-use Rattle.clos_machine.specs.clos_world.World.{seen}
+use Rattle.clos_meaning.specs.clos_world.World.{seen}
 use Rattle.clos_definition.proofs.clos_world.Heard.{room_made, watching_kept}
-use Rattle.clos_definition_forms.proofs.telling.prepare_to_tell.Goals as goal
+use Rattle.clos_effects.proofs.telling.prepare_to_tell.Goals as goal
 
 pub returns-clause-ready : goal.returns-clause-ready
 returns-clause-ready g c =

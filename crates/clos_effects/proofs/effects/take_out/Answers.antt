@@ -1,13 +1,13 @@
 use Rattle.std.proofs.Common.{◌≡◌, ◌≤◌, ◌∙◌, ℕ, [], ◌∷◌, ap, length, refl, sym}
 use Rattle.clos_watch.specs.Watching.{times_told}
-use Rattle.clos_machine.specs.clos_world.World.{seen}
+use Rattle.clos_meaning.specs.clos_world.World.{seen}
 use Rattle.clos_watch.specs.declared.notice.Notice.TheVariants.{MethodRemoved}
 use Rattle.clos_definition.specs.Removal.{concerned_by_removal, removal_notices}
 use Rattle.clos_definition.proofs.Notices.{removal_fits}
 use Rattle.clos_definition.proofs.clos_world.Heard.{notices_kept}
-use Rattle.clos_definition_forms.proofs.Concerned.{effect_dropped}
-use Rattle.clos_definition_forms.proofs.Hearing.{enough, heard_then, unheard, within}
-use Rattle.clos_definition_forms.proofs.definition.take_out.Goals as goal
+use Rattle.clos_effects.proofs.Concerned.{effect_dropped}
+use Rattle.clos_effects.proofs.Hearing.{enough, heard_then, unheard, within}
+use Rattle.clos_effects.proofs.effects.take_out.Goals as goal
 
 pub returns-then-steps-eq0-clause-heard : goal.returns-then-steps-eq0-clause-heard
 returns-then-steps-eq0-clause-heard g c =

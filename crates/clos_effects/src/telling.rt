@@ -1,15 +1,15 @@
 //! What dependents are told of a definition (AMOP chapter 6). They are asked for room before its effect, and told after it.
 ghost use Rattle.std.specs.Prelude.{◌≡◌, ◌<◌, ◌≤◌, ℕ, OnOk, drop, length};
-ghost use Rattle.clos_machine.specs.clos_world.Uses.{uses_of};
-ghost use Rattle.clos_machine.specs.clos_world.World.{seen};
+ghost use Rattle.clos_meaning.specs.clos_world.Uses.{uses_of};
+ghost use Rattle.clos_meaning.specs.clos_world.World.{seen};
 ghost use Rattle.clos_watch.specs.Watching.{heard_after, times_told};
 
-use clos_machine::World;
+use clos_meaning::World;
 use clos_watch::{Dependents, Notice};
 use std::alloc::AllocError;
 
 /// Has room for all of these notices, in the list of all changes and among the dependents that hear them.
-pub fn prepare_to_tell<D: Dependents>(
+pub(crate) fn prepare_to_tell<D: Dependents>(
     world: &mut World,
     dependents: &mut D,
     notices: &[Notice],
@@ -28,7 +28,7 @@ pub fn prepare_to_tell<D: Dependents>(
 }
 
 /// Tells the changes from this one on, for which there is room.
-pub fn tell<D: Dependents>(world: &World, dependents: &mut D, from: usize)
+pub(crate) fn tell<D: Dependents>(world: &World, dependents: &mut D, from: usize)
     requires within { from ≤ length (seen world.now).hearing.notices }
     requires ready { (p : ℕ) → p < length (D.names dependents.old) → times_told (seen world.now).hearing.watching
         (drop from (seen world.now).hearing.notices) p ≤ D.room dependents.old p }

@@ -2,7 +2,7 @@
 use Rattle.std.specs.Prelude.{◌≡◌, List, drop, length}
 use Rattle.clos_watch.specs.Watching.{heard_after}
 use Rattle.clos_watch.specs.declared.notice.Notice.{Notice}
-use Rattle.clos_machine.specs.clos_world.World.{State}
+use Rattle.clos_meaning.specs.clos_world.World.{State}
 
 -- the notices of the changes that led from the one state to the other
 abbrev pub since : State → State → List Notice

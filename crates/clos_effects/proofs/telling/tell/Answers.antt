@@ -1,8 +1,8 @@
 use Rattle.std.proofs.Common.{◌≤◌, arith, drop, length, ap, sym, subst, ◌∙◌}
 use Rattle.clos_watch.specs.Watching.{heard_after, times_told}
-use Rattle.clos_machine.specs.clos_world.Hearing.{hearing_of}
+use Rattle.clos_meaning.specs.clos_world.Hearing.{hearing_of}
 use Rattle.clos_definition.proofs.clos_world.Heard.{notices_kept, watching_kept}
-use Rattle.clos_definition_forms.proofs.telling.tell.Goals as goal
+use Rattle.clos_effects.proofs.telling.tell.Goals as goal
 
 pub since-notices-requires : goal.since-notices-requires
 since-notices-requires g c =

@@ -1,18 +1,18 @@
 use Rattle.std.proofs.Common.{◌≡◌, ◌≤◌, ◌∙◌, ◌-◌, ℕ, suc, None, arith, List, [], ◌∷◌, ◌++◌, append_assoc, ap, length, refl, sym, subst}
 use Rattle.clos_watch.specs.Watching.{times_told}
-use Rattle.clos_machine.specs.clos_world.clos_hierarchy.Table.{changed}
-use Rattle.clos_machine.specs.clos_world.World.{State, seen}
-use Rattle.clos_machine.specs.clos_world.clos_cache.Cache.{DropsAll, of_classes}
+use Rattle.clos_meaning.specs.clos_world.clos_hierarchy.Table.{changed}
+use Rattle.clos_meaning.specs.clos_world.World.{State, seen}
+use Rattle.clos_meaning.specs.clos_world.clos_cache.Cache.{DropsAll, of_classes}
 use Rattle.lisp_data.specs.Value.{class}
 use Rattle.lisp_data.specs.declared.value.Value.TheVariants.{Class}
 use Rattle.clos_definition.specs.Class.{class_concerned_by, class_notices, class_refusal, noting, with_class}
 use Rattle.clos_definition.specs.Effect.{concerned_by, of_changes, possible_notices, with_effect}
 use Rattle.clos_definition.proofs.Notices.{more_fit}
 use Rattle.clos_definition.proofs.clos_world.Heard.{notices_kept}
-use Rattle.clos_definition_forms.proofs.Concerned.{effect_dropped, uses_same}
-use Rattle.clos_definition_forms.proofs.Defining.{effect_is_made, effect_not_made}
-use Rattle.clos_definition_forms.proofs.Hearing.{enough, heard_then, unheard, within}
-use Rattle.clos_definition_forms.proofs.definition.make_prepared_class.Goals as goal
+use Rattle.clos_effects.proofs.Concerned.{effect_dropped, uses_same}
+use Rattle.clos_effects.proofs.Effects.{effect_is_made, effect_not_made}
+use Rattle.clos_effects.proofs.Hearing.{enough, heard_then, unheard, within}
+use Rattle.clos_effects.proofs.effects.make_prepared_class.Goals as goal
 
 pub returns-then-steps-eq0-clause-heard : goal.returns-then-steps-eq0-clause-heard
 returns-then-steps-eq0-clause-heard g c =
