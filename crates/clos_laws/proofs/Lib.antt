@@ -1,5 +1,4 @@
 pub mod Sessions
 pub mod InOrder
 pub mod Names
-pub mod Shapes
 pub mod WellFormed

@@ -42,23 +42,19 @@ use Rattle.clos_top.specs.declared.top.Top.TheVariants.{DefClass, DefGeneric, De
 use Rattle.clos_top.proofs.Cases.{given_so}
 use Rattle.clos_top.proofs.WellFormed.{well_formed_cases}
 use Rattle.std.proofs.lemmas.Option.{none-some}
-use Rattle.clos_laws.specs.WellFormed.{AreWellFormed, KeptFormsAreWellFormed, OfClass, OfFunction, OfMethodBody}
+use Rattle.clos_form_laws.specs.Kept.{AreWellFormed, OfClass, OfFunction, OfMethodBody}
+use Rattle.clos_form_laws.proofs.Evaluated.{other_forms_are_no_matter}
+use Rattle.clos_form_laws.proofs.Kept.{HasBody, same_well}
+use Rattle.clos_form_laws.proofs.Lists.{each_append, each_map}
+use Rattle.clos_laws.specs.WellFormed.{EvaluatedFormsAreWellFormed, KeptFormsAreWellFormed}
 use Rattle.clos_laws.proofs.Sessions.{Stays, StaysWith, always, defined}
 
 -- ---- lists
-
-each_append : {X : Type 0} (P : X → Type 0) (xs ys : List X) → Each P xs → Each P ys → Each P (xs ++ ys)
-each_append P [] ys h g = g
-each_append P (x ∷ xs) ys h g = (h.0, each_append P xs ys h.1 g)
 
 each_set : {X : Type 0} (P : X → Type 0) (xs : List X) (n : ℕ) (x : X) → Each P xs → P x → Each P (slice_set xs n x)
 each_set P [] n x h g = tt
 each_set P (y ∷ ys) zero x h g = (g, h.1)
 each_set P (y ∷ ys) (suc n) x h g = (h.0, each_set P ys n x h.1 g)
-
-each_map : {X Y : Type 0} (P : Y → Type 0) (f : X → Y) → ((x : X) → P (f x)) → (xs : List X) → Each P (map f xs)
-each_map P f h [] = tt
-each_map P f h (x ∷ xs) = (h x, each_map P f h xs)
 
 each_same : {X : Type 0} (P : X → Type 0) (n : ℕ) (x : X) → P x → Each P (replicate n x)
 each_same P zero x h = tt
@@ -73,9 +69,6 @@ named_well name f (p ∷ ps) h g =
     [ true ↦ (h, g.1) | false ↦ (g.0, named_well name f ps h g.1) ]
 
 -- ---- methods
-
-abbrev HasBody : Method → Type 0
-HasBody m = OfMethodBody m.body
 
 methods_left : (rs : List Removal) (t : Table) → (without_all rs t).methods ≡ t.methods
 methods_left [] t = refl
@@ -131,14 +124,6 @@ class_well d vs w h g s =
 
 -- ---- sessions
 
-same_well : (w u : State) → Same w u → AreWellFormed w → AreWellFormed u
-same_well w u h s = (
-  subst (Each (λ p. OfFunction p.1)) (sym h.3) s.0,
-  subst (Each (λ p. OfFunction p.1)) (sym h.4) s.1,
-  subst (λ t. Each HasBody t.methods) (sym h.1) s.2,
-  subst (λ t. Each OfClass t.slots) (sym h.0) s.3,
-)
-
 well_stays : Stays AreWellFormed
 well_stays = record { same = same_well; combination = λ d u h. h; change = λ c m n u h. h; removal = λ g m u h. h }
 
@@ -173,3 +158,7 @@ first_well limits names =
 pub kept_forms_are_well_formed : KeptFormsAreWellFormed
 kept_forms_are_well_formed limits names w u r same =
     same_well w u same (always AreWellFormed well_stays (λ d top e. stays_with top (read_well d top e)) limits names (first_well limits names) w r)
+
+pub evaluated_forms_are_well_formed : EvaluatedFormsAreWellFormed
+evaluated_forms_are_well_formed limits names w u any room f s r same plain =
+    other_forms_are_no_matter any room f u s (kept_forms_are_well_formed limits names w u r same) plain

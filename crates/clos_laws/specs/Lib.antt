@@ -2,5 +2,4 @@ pub mod Predefined
 pub mod Reached
 pub mod Laws
 pub mod Names
-pub mod Shapes
 pub mod WellFormed

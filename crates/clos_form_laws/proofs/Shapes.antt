@@ -15,7 +15,7 @@ use Rattle.clos_meaning.specs.Outcome.{then_do}
 use Rattle.clos_meaning.specs.SlotNames.{name_stored}
 use Rattle.clos_meaning.specs.Variables.{binding}
 use Rattle.clos_meaning.specs.clos_world.World.{held}
-use Rattle.clos_laws.specs.Shapes.{ChangeShape, DotimesShape, FormsAreShaped, HasItsForm, IsShaped, LetShape, SetfShape, SetqShape, Target, form_of, with_form}
+use Rattle.clos_form_laws.specs.Shapes.{ChangeShape, DotimesShape, FormsAreShaped, HasItsForm, IsShaped, LetShape, SetfShape, SetqShape, Target, form_of, with_form}
 
 -- ---- setq
 

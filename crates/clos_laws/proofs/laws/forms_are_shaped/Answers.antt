@@ -1,5 +1,0 @@
-use Rattle.clos_laws.proofs.Shapes as proofs
-use Rattle.clos_laws.proofs.laws.forms_are_shaped.Goals as goal
-
-pub returns : goal.returns
-returns c = proofs.forms_are_shaped
