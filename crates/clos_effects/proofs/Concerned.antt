@@ -10,7 +10,7 @@ use Rattle.clos_meaning.specs.Uses.{concerns_calls, one_concerns, with_note}
 use Rattle.clos_meaning.specs.clos_world.Dispatch.{combination_of}
 use Rattle.clos_meaning.specs.clos_world.Uses.{uses_in, uses_of}
 use Rattle.clos_meaning.specs.clos_world.World.{State, seen}
-use Rattle.clos_meaning.specs.clos_world.clos_cache.Cache.{Change, DropsAll, Kept, concerns, found, left_after, left_of, of_classes, of_combination, of_generic}
+use Rattle.clos_meaning.specs.clos_world.clos_cache.Cache.{Change, DropsAll, Kept, concerns, found, left_after, of_classes, of_combination, of_generic}
 use Rattle.clos_meaning.specs.clos_world.clos_cache.Key.{Key}
 use Rattle.clos_meaning.specs.clos_world.clos_cache.Uses.{Uses}
 use Rattle.clos_meaning.specs.clos_world.declared.effective_method.EffectiveMethod.{EffectiveMethod}

@@ -1,4 +1,4 @@
 pub mod Concerned
-pub mod Effects
 pub mod Hearing
+pub mod Noting
 pub use Rattle.clos_definition.proofs as clos_definition

@@ -10,7 +10,7 @@ use Rattle.clos_definition.specs.Effect.{concerned_by, of_changes, possible_noti
 use Rattle.clos_definition.proofs.Notices.{more_fit}
 use Rattle.clos_definition.proofs.clos_world.Heard.{notices_kept}
 use Rattle.clos_effects.proofs.Concerned.{effect_dropped, uses_same}
-use Rattle.clos_effects.proofs.Effects.{effect_is_made, effect_not_made}
+use Rattle.clos_effects.proofs.Noting.{effect_is_made, effect_not_made}
 use Rattle.clos_effects.proofs.Hearing.{enough, heard_then, unheard, within}
 use Rattle.clos_effects.proofs.effects.make_prepared_class.Goals as goal
 
