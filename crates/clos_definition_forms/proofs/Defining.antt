@@ -1,11 +1,9 @@
 -- Definition forms that are refused, and those that go on.
-use Rattle.std.proofs.Common.{◌≡◌, ℕ, suc, List, [], ◌∷◌, Option, Some, None, Result, Ok, Err, map, length, refl, ap, sym, ◌∙◌, subst, arith}
+use Rattle.std.proofs.Common.{◌≡◌, ℕ, List, [], ◌∷◌, Option, Some, None, Result, Ok, Err, map, length, refl, ap, sym, ◌∙◌, subst, arith}
 use Rattle.std.specs.Prelude.{ℤ}
 use Rattle.lisp_data.specs.Value.{Val, class, generic, method}
-use Rattle.lisp_data.specs.ValueView.{value_of}
 use Rattle.lisp_data.specs.declared.value.Value.{Value}
 use Rattle.clos_class.specs.declared.reserve.NewCell.{NewCell}
-use Rattle.clos_forms.specs.Form.{Form}
 use Rattle.clos_forms.specs.declared.operator.FunctionName.{FunctionName}
 use Rattle.clos_machine.specs.clos_world.clos_generic.Table.{number}
 use Rattle.clos_syntax.specs.declared.class.ClassDefinition.{ClassDefinition}
@@ -28,7 +26,7 @@ use Rattle.clos_definition.specs.declared.effect.Effect.{Effect}
 use Rattle.clos_eval.specs.Evaluation.{Performs}
 use Rattle.clos_machine.specs.Machine.{Answers}
 use Rattle.clos_machine.specs.clos_meaning.Host.{Host}
-use Rattle.clos_machine.specs.clos_meaning.Outcome.{Gave, Noted, Run, Stopped, leaves, took_effect}
+use Rattle.clos_machine.specs.clos_meaning.Outcome.{Run, Stopped, leaves}
 use Rattle.clos_machine.specs.clos_world.clos_cache.Cache.{Change}
 use Rattle.clos_definition_forms.specs.Definition.{class_made, concerned_if, define_class, define_generic, define_method, generic_made, method_made, removed_if, unless, value_at, values_concerned, values_removed}
 use Rattle.clos_effects.specs.Effects.{AnswersNoting, takes_effect}

@@ -20,7 +20,6 @@ use Rattle.clos_machine.specs.clos_meaning.Meaning.{evaluation}
 use Rattle.clos_machine.specs.clos_meaning.Outcome.{Asked, Looked, Noted, Out, Gave, Stopped, Run, then_do, leaves}
 use Rattle.clos_machine.specs.clos_meaning.Uses.{after_notes, most, notes_by}
 use Rattle.clos_machine.proofs.Answering.{answers_as, answers_with, leaves_then, stopped_then}
-use Rattle.clos_machine.proofs.Runs.{quiet_answered}
 use Rattle.clos_machine.proofs.Uses.{after_more, keeps_as, made_of_more, none_made, notes_longer, notes_stopped, nothing_more, same_answers}
 use Rattle.clos_machine.proofs.clos_meaning.Quiet.{evaluation_quiet}
 use Rattle.clos_effects.specs.Effects.{AnswersNoting, UsesAfter}

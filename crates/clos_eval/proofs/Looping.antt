@@ -5,12 +5,12 @@ use Rattle.lisp_data.specs.ValueView.{value_of}
 use Rattle.clos_forms.specs.Form.{Form}
 use Rattle.lisp_data.specs.declared.value.Value.{Value}
 use Rattle.clos_machine.specs.clos_world.Uses.{uses_of}
-use Rattle.clos_machine.specs.clos_world.World.{Local, State, seen, unbound}
+use Rattle.clos_machine.specs.clos_world.World.{State, seen, unbound}
 use Rattle.clos_machine.specs.clos_world.declared.condition.Stop.{Stop}
 use Rattle.clos_machine.specs.clos_world.declared.tables.World.{World}
 use Rattle.clos_machine.specs.Machine.{Asks, Leads, Reached, Turns, at, denote, given_to, resume}
 use Rattle.clos_machine.specs.Uses.{Made, Notes, TurnsBy}
-use Rattle.clos_machine.specs.clos_meaning.Contexts.{Context, known}
+use Rattle.clos_machine.specs.clos_meaning.Contexts.{known}
 use Rattle.clos_machine.specs.clos_meaning.Host.{Host, answered_by}
 use Rattle.clos_machine.specs.clos_meaning.Meaning.{closed, evaluation}
 use Rattle.clos_machine.specs.clos_meaning.Outcome.{Gave, Given, Run}

@@ -21,7 +21,6 @@ use Rattle.clos_session.specs.clos_definition_forms.clos_definition.Class.{class
 use Rattle.clos_session.specs.clos_definition_forms.clos_definition.Effect.{changed, changing, with_definitions, with_methods, without_all}
 use Rattle.clos_session.specs.clos_definition_forms.clos_definition.Generic.{definition_of, earlier_methods, initial_methods, methods_with}
 use Rattle.clos_session.specs.clos_definition_forms.clos_definition.Method.{defined_method, function_for}
-use Rattle.clos_session.specs.clos_world.Definitions.{Same}
 use Rattle.clos_session.specs.clos_world.Functions.{Named, with_function}
 use Rattle.clos_session.specs.clos_world.World.{State}
 use Rattle.clos_session.specs.clos_world.clos_class.Table as classes

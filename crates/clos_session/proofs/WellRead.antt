@@ -1,5 +1,5 @@
 -- Each top-level form that is read is well read.
-use Rattle.std.proofs.Common.{◌≡◌, Bool, true, false, Option, Some, None, Ok, refl}
+use Rattle.std.proofs.Common.{◌≡◌, Bool, true, false, Some, None, Ok, refl}
 use Rattle.std.specs.Prelude.{⊤, IfSome, if◌then◌else◌}
 use Rattle.std.proofs.lemmas.Option.{none-some}
 use Rattle.lisp_data.specs.Datum.{Dat, Dats, nil, cons}

@@ -1,4 +1,4 @@
-use Rattle.std.proofs.Common.{[], arith, ap, append-nil, refl, rules, sym}
+use Rattle.std.proofs.Common.{[], arith, ap, append-nil, refl, sym}
 use Rattle.clos_machine.specs.clos_world.Uses.{uses_of}
 use Rattle.clos_machine.specs.clos_world.World.{seen}
 use Rattle.clos_machine.specs.clos_meaning.Contexts.{known}
