@@ -16,8 +16,7 @@ use Rattle.clos_session.proofs.clos_definition.WellMade.{class_sound, generic_so
 use Rattle.clos_session.specs.Read.{IsWellRead}
 use Rattle.clos_session.specs.clos_world.Definitions.{Same}
 use Rattle.clos_top.specs.declared.top.Top.{Top}
-use Rattle.clos_top.specs.declared.top.Top.TheVariants.{DefClass, DefGeneric, DefMethod, DefCombination, Defun, DefVar, RemoveMethod, AddDependent, RemoveDependent, InPackage, Expr}
-use Rattle.clos_laws.proofs.Sessions.{Stays, StaysWith, always}
+use Rattle.clos_laws.proofs.Sessions.{Stays, StaysWith, always, by_kind}
 
 -- ---- the generic functions stay sound
 
@@ -31,17 +30,9 @@ sound_stays : Stays HasSound
 sound_stays = record { same = same_sound; combination = λ d u h. h; change = λ c m n u h. h; removal = removal_sound }
 
 stays_with : (top : Top) → IsWellRead top → StaysWith HasSound top
-stays_with (DefClass d) h = λ vs u none s. class_sound d (length vs) vs u s none
-stays_with (DefGeneric d) h = λ vs u none s. generic_sound d vs u h s none
-stays_with (DefMethod name m) h = λ vs u none s. method_sound name m vs u h s none
-stays_with (DefCombination c) h = tt
-stays_with (Defun f) h = λ name u s. (s, s)
-stays_with (DefVar v) h = tt
-stays_with (RemoveMethod f g) h = tt
-stays_with (AddDependent f g) h = tt
-stays_with (RemoveDependent f g) h = tt
-stays_with InPackage h = tt
-stays_with (Expr f) h = tt
+stays_with = by_kind HasSound IsWellRead
+    (λ d h vs u none s. class_sound d (length vs) vs u s none) (λ d h vs u none s. generic_sound d vs u h s none)
+    (λ name m h vs u none s. method_sound name m vs u h s none) (λ f h name u s. (s, s))
 
 reached_sound : (limits : Limits) (names : List Name) (w : State) → IsReached limits names w → HasSound w
 reached_sound limits names w r =

@@ -80,6 +80,25 @@ StaysWith P (RemoveDependent f g) = ⊤
 StaysWith P InPackage = ⊤
 StaysWith P (Expr f) = ⊤
 
+-- .. which is to be shown of classes, generic functions, methods and functions alone
+pub by_kind : (P : State → Type 0) (Good : Top → Type 0)
+    → ((d : ClassDefinition) → Good (DefClass d) → StaysWith P (DefClass d))
+    → ((d : GenericDefinition) → Good (DefGeneric d) → StaysWith P (DefGeneric d))
+    → ((name : FunctionName) (m : MethodDefinition) → Good (DefMethod name m) → StaysWith P (DefMethod name m))
+    → ((f : FunctionDefinition) → Good (Defun f) → StaysWith P (Defun f))
+    → (top : Top) → Good top → StaysWith P top
+by_kind P Good of_class of_generic of_method of_function (DefClass d) h = of_class d h
+by_kind P Good of_class of_generic of_method of_function (DefGeneric d) h = of_generic d h
+by_kind P Good of_class of_generic of_method of_function (DefMethod name m) h = of_method name m h
+by_kind P Good of_class of_generic of_method of_function (DefCombination c) h = tt
+by_kind P Good of_class of_generic of_method of_function (Defun f) h = of_function f h
+by_kind P Good of_class of_generic of_method of_function (DefVar v) h = tt
+by_kind P Good of_class of_generic of_method of_function (RemoveMethod f m) h = tt
+by_kind P Good of_class of_generic of_method of_function (AddDependent f g) h = tt
+by_kind P Good of_class of_generic of_method of_function (RemoveDependent f g) h = tt
+by_kind P Good of_class of_generic of_method of_function InPackage h = tt
+by_kind P Good of_class of_generic of_method of_function (Expr f) h = tt
+
 -- after an outcome
 abbrev After : (State → Type 0) → Out → Type 0
 After P (Gave v u k) = P u

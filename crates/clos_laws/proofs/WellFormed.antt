@@ -37,7 +37,6 @@ use Rattle.clos_method.specs.Shape.{shape_of}
 use Rattle.clos_top.specs.Top.{any_top, has_method, top_of}
 use Rattle.clos_top.specs.WellFormed as top_forms
 use Rattle.clos_top.specs.declared.top.Top.{Top}
-use Rattle.clos_top.specs.declared.top.Top.TheVariants.{DefClass, DefGeneric, DefMethod, DefCombination, Defun, DefVar, RemoveMethod, AddDependent, RemoveDependent, InPackage, Expr}
 use Rattle.clos_top.proofs.Cases.{given_so}
 use Rattle.clos_top.proofs.WellFormed.{well_formed_cases}
 use Rattle.std.proofs.lemmas.Option.{none-some}
@@ -46,7 +45,7 @@ use Rattle.clos_form_laws.proofs.Evaluated.{other_forms_are_no_matter}
 use Rattle.clos_form_laws.proofs.Kept.{HasBody, same_well}
 use Rattle.clos_form_laws.proofs.Lists.{each_append, each_map}
 use Rattle.clos_laws.specs.WellFormed.{EvaluatedFormsAreWellFormed, KeptFormsAreWellFormed}
-use Rattle.clos_laws.proofs.Sessions.{Stays, StaysWith, always, defined}
+use Rattle.clos_laws.proofs.Sessions.{Stays, StaysWith, always, by_kind, defined}
 
 -- ---- lists
 
@@ -127,21 +126,12 @@ well_stays : Stays AreWellFormed
 well_stays = record { same = same_well; combination = λ d u h. h; change = λ c m n u h. h; removal = λ g m u h. h }
 
 stays_with : (top : Top) → top_forms.AreWellFormed top → StaysWith AreWellFormed top
-stays_with (DefClass d) h = λ vs u none s. class_well d vs u (each_of OfSlot d.slots h.0) (each_of OfDefault d.defaults h.1) s
-stays_with (DefGeneric d) h = λ vs u none s.
-    changing_well (earlier_methods u.generics (named u.generics d.name)) (definition_of d ∷ []) (initial_methods d vs u) u s
-    (options_well u.classes (number u.generics d.name) d.methods vs (each_of OfMethod d.methods h.1))
-stays_with (DefMethod name m) h = λ vs u none s.
-    changing_well [] (function_for u.generics name (shape_of m.lambda_list)) (defined_method name m vs u ∷ []) u s ((h.0, h.2), tt)
-stays_with (DefCombination c) h = tt
-stays_with (Defun f) h = λ name u s.
-    ((named_well name (defined f) u.functions h s.0, s.1, s.2, s.3), (s.0, named_well name (defined f) u.setters h s.1, s.2, s.3))
-stays_with (DefVar v) h = tt
-stays_with (RemoveMethod f g) h = tt
-stays_with (AddDependent f g) h = tt
-stays_with (RemoveDependent f g) h = tt
-stays_with InPackage h = tt
-stays_with (Expr f) h = tt
+stays_with = by_kind AreWellFormed top_forms.AreWellFormed
+    (λ d h vs u none s. class_well d vs u (each_of OfSlot d.slots h.0) (each_of OfDefault d.defaults h.1) s)
+    (λ d h vs u none s. changing_well (earlier_methods u.generics (named u.generics d.name)) (definition_of d ∷ []) (initial_methods d vs u) u s
+    (options_well u.classes (number u.generics d.name) d.methods vs (each_of OfMethod d.methods h.1)))
+    (λ name m h vs u none s. changing_well [] (function_for u.generics name (shape_of m.lambda_list)) (defined_method name m vs u ∷ []) u s ((h.0, h.2), tt))
+    (λ f h name u s. ((named_well name (defined f) u.functions h s.0, s.1, s.2, s.3), (s.0, named_well name (defined f) u.setters h s.1, s.2, s.3)))
 
 as_any : (d : Dat) (b : Bool) (top : Top) → has_method d ≡ b → (if b then None else any_top d) ≡ Some top → any_top d ≡ Some top
 as_any d true top h k = absurd (none-some top k)
