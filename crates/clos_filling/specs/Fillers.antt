@@ -11,11 +11,13 @@ use Rattle.clos_machine.specs.clos_meaning.Outcome.{Gave, Run, Eval}
 use Rattle.clos_filling.specs.declared.filling.Found.{Found}
 use Rattle.clos_filling.specs.declared.filling.Found.TheVariants as found
 
+-- such a slot is passed over
 abbrev pub is_nothing : Filler → Bool
 is_nothing nothing = true
 is_nothing (value v) = false
 is_nothing (initform f) = false
 
+-- an initform, where there is one
 abbrev pub filler_of_form : Option Form → Filler
 filler_of_form None = nothing
 filler_of_form (Some f) = initform f
@@ -25,10 +27,12 @@ abbrev pub pending : State → Subject → List EffectiveSlot → List Effective
 pending w f [] = []
 pending w f (slot ∷ slots) = if is_nothing (filler w f slot) then pending w f slots else slot ∷ slots
 
+-- what the code found for a slot, as the definitions have it
 abbrev pub filler_in : Found → Filler
 filler_in (found.Value v) = value (value_of v)
 filler_in (found.Initform f) = initform f
 
+-- the same, and nothing where nothing was found
 abbrev pub filler_found : Option Found → Filler
 filler_found None = nothing
 filler_found (Some x) = filler_in x
