@@ -92,15 +92,6 @@ parameter_stops m b v w d e k t =
     sym (ap (bound_or_not m b.value.saved b.value.outer b.value.name v b.value.plan b.value.body w t) e)
     ∙ stopped_through m.levels b.value.saved (record { kind = Unsupported; items = [] }) (at m w) t ∙ ap (λ c. Stopped c (unbound w) t) (sym k)
 
-pub parameter_bound : (m : Machine) (b : Box Defaulted) (d : Defaulted) (v : Val) (w : State) (r : Result Doing Stop) (p : Machine) → b.value ≡ d
-    → false ≡ is_global w.globals d.name → Leads (under (record m { locals = (d.name, held v) ∷ m.locals }) d.saved d.outer (parameters_run (meaning m.room) m.context d.plan d.body)) w r p
-    → Leads (given_to m (Bind b) v) w r p
-parameter_bound m b d v w r p same e h =
-    leads_same (under (record m { locals = (d.name, held v) ∷ m.locals }) d.saved d.outer (parameters_run (meaning m.room) m.context d.plan d.body))
-    (given_to m (Bind b) v) w r p
-    (λ t. ap (bound_or_not m d.saved d.outer d.name v d.plan d.body w t) e
-    ∙ ap (λ x. bound_or_not m x.saved x.outer x.name v x.plan x.body w t (is_global w.globals x.name)) (sym same)) h
-
 -- a body in a context of its own
 pub planned : (m : Machine) (saved env : Context) (outer xs : List Local) (ctx : Context) (ps : Sources) (fs : Forms) (w : State) (r : Result Doing Stop) (p : Machine)
     → saved ≡ m.context → outer ≡ m.locals → env ≡ ctx → xs ≡ []

@@ -11,9 +11,9 @@ use Rattle.clos_session.specs.declared.session.Reply.TheVariants.{Value, Conditi
 use Rattle.clos_session.proofs.clos_machine.clos_meaning.clos_world.InOrder as in_order
 use Rattle.clos_laws.specs.Laws.{CallsAreInOrder, RepliesReach}
 use Rattle.clos_laws.specs.Reached.{IsReached, performs, state_in}
-use Rattle.clos_session.proofs.WellRead.{well_read}
+use Rattle.clos_session.proofs.clos_perform.WellRead.{well_read}
 use Rattle.clos_session.proofs.clos_definition.WellMade.{class_sound, generic_sound, method_sound, removal_sound}
-use Rattle.clos_session.specs.Read.{IsWellRead}
+use Rattle.clos_session.specs.clos_perform.Read.{IsWellRead}
 use Rattle.clos_session.specs.clos_world.Definitions.{Same}
 use Rattle.clos_top.specs.declared.top.Top.{Top}
 use Rattle.clos_laws.proofs.Sessions.{Stays, StaysWith, always, by_kind}

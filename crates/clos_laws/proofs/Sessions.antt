@@ -48,7 +48,7 @@ use Rattle.clos_session.specs.clos_machine.clos_meaning.Host.{Host, answered_by,
 use Rattle.clos_session.specs.clos_machine.clos_meaning.Outcome.{Asked, End, Gave, Looked, Noted, Out, Run, Stopped, step_then, stopped, then_do, took_effect}
 use Rattle.clos_session.specs.clos_world.clos_cache.Cache as of_calls
 use Rattle.clos_meaning.proofs.Kept.{SameAfter, evaluation_kept}
-use Rattle.clos_session.specs.Step.{checked, performed, room_of, step}
+use Rattle.clos_session.specs.clos_perform.Step.{checked, performed, room_of, step}
 use Rattle.clos_laws.specs.Reached.{IsReached, begins, performs, state_in}
 
 -- ---- what stays

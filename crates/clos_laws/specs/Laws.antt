@@ -3,7 +3,7 @@ use Rattle.std.specs.Prelude.{ℕ, ℤ, List}
 use Rattle.lisp_data.specs.Datum.{Dat}
 use Rattle.lisp_data.specs.Name.{Name}
 use Rattle.clos_session.specs.Session.{Replies}
-use Rattle.clos_session.specs.Step.{step}
+use Rattle.clos_session.specs.clos_perform.Step.{step}
 use Rattle.clos_session.specs.clos_machine.clos_meaning.Host.{Host}
 use Rattle.clos_session.specs.clos_world.Definitions.{Same}
 use Rattle.clos_session.specs.clos_world.Dispatch as calls

@@ -2,7 +2,7 @@
 use Rattle.std.specs.Prelude.{◌≡◌, ℕ, ℤ, List, Some}
 use Rattle.lisp_data.specs.Datum.{Dat}
 use Rattle.lisp_data.specs.Name.{Name}
-use Rattle.clos_session.specs.Step.{step}
+use Rattle.clos_session.specs.clos_perform.Step.{step}
 use Rattle.clos_session.specs.clos_machine.clos_meaning.Host.{Host, answered_by}
 use Rattle.clos_session.specs.clos_machine.clos_meaning.Outcome.{End, Given, Signalled}
 use Rattle.clos_session.specs.clos_world.Initial.{initial}

@@ -3,7 +3,8 @@ use Rattle.std.proofs.Common.{◌≡◌, ◌⊎◌, ◌∙◌, ℕ, List, ◌∷
 use Rattle.std.specs.Prelude.{IfOk, IfErr, MatchResult}
 use Rattle.std.specs.Io.KnownBytes.{Appends, Keeps}
 use Rattle.std.proofs.lemmas.List.{drop_at}
-use Rattle.clos_system.specs.Transcript.{RunFaults, ends_line}
+use Rattle.clos_system.specs.Transcript.{RunFaults}
+use Rattle.clos_system.specs.clos_transcript.Told.{ends_line}
 use Rattle.clos_system.specs.clos_session.Session.{Standing}
 use Rattle.clos_system.specs.clos_session.clos_machine.clos_meaning.Host.{Host}
 use Rattle.clos_system.specs.declared.transcript.RunFault.{RunFault}

@@ -4,7 +4,8 @@ use Rattle.std.specs.Str.{bytes_eq}
 use Rattle.std.specs.Io.KnownBytes.{Appends, Keeps}
 use Rattle.clos_system.specs.clos_session.Session.{Standing}
 use Rattle.clos_system.specs.clos_session.clos_machine.clos_meaning.Host.{Host}
-use Rattle.clos_system.specs.Transcript.{Finishes, OverText, RunFaults, ends_line}
+use Rattle.clos_system.specs.Transcript.{Finishes, OverText, RunFaults}
+use Rattle.clos_system.specs.clos_transcript.Told.{ends_line}
 use Rattle.clos_system.specs.declared.transcript.RunFault.{RunFault}
 use Rattle.clos_system.specs.declared.transcript.Summary.{Summary}
 use Rattle.clos_program.specs.Notices.{Follow, with_asked}

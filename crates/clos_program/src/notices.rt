@@ -1,6 +1,6 @@
 //! What the program's dependents heard, as it is written after the last file.
 ghost use Rattle.std.specs.Prelude.{◌≡◌, ◌++◌, ℕ, List, IfOk, OnOk};
-ghost use Rattle.clos_system.specs.Transcript.{ends_line};
+ghost use Rattle.clos_system.specs.clos_transcript.Told.{ends_line};
 ghost use Rattle.clos_system.specs.clos_session.Session.{standing_of};
 ghost use Rattle.clos_program.specs.Notices.{notice_line, notice_lines, with_notices};
 

@@ -1,8 +1,4 @@
-pub mod WellRead
-pub mod StepQuiet
-pub mod Definitions
-pub mod Hearing
-pub mod Keeping
-pub mod Writing
-pub use Rattle.clos_definition_forms.proofs.clos_machine as clos_machine
-pub use Rattle.clos_definition_forms.proofs.clos_definition as clos_definition
+pub mod Replies
+pub use Rattle.clos_perform.proofs.clos_machine as clos_machine
+pub use Rattle.clos_perform.proofs.clos_definition as clos_definition
+pub use Rattle.clos_perform.proofs as clos_perform

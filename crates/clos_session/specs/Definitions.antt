@@ -1,7 +1,7 @@
 -- A refused form defines nothing (HyperSpec 9.1).
 use Rattle.std.specs.Prelude.{⊤}
-use Rattle.clos_definition_forms.specs.clos_world.Definitions.{Same}
-use Rattle.clos_definition_forms.specs.clos_world.World.{State}
+use Rattle.clos_perform.specs.clos_world.Definitions.{Same}
+use Rattle.clos_perform.specs.clos_world.World.{State}
 use Rattle.clos_session.specs.declared.session.Reply.{Reply}
 use Rattle.clos_session.specs.declared.session.Reply.TheVariants.{Value, Condition, Storage}
 

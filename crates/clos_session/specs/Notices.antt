@@ -4,12 +4,12 @@ use Rattle.lisp_data.specs.Name.{Name}
 use Rattle.lisp_data.specs.Print.{text_of}
 use Rattle.lisp_data.specs.Value.{Val, list, nil, cons, class, generic, method}
 use Rattle.clos_forms.specs.Quotation.{name_value}
-use Rattle.clos_definition_forms.specs.clos_generic.Table.{Function}
-use Rattle.clos_definition_forms.specs.clos_watch.declared.notice.Notice.{Notice}
-use Rattle.clos_definition_forms.specs.clos_watch.declared.notice.Notice.TheVariants.{ClassRedefined, MethodAdded, MethodRemoved, GenericRedefined}
-use Rattle.clos_definition_forms.specs.clos_world.Class.{class_name}
-use Rattle.clos_definition_forms.specs.clos_world.FunctionName.{called_value}
-use Rattle.clos_definition_forms.specs.clos_world.World.{State, names_of}
+use Rattle.clos_perform.specs.clos_definition_forms.clos_generic.Table.{Function}
+use Rattle.clos_perform.specs.clos_watch.declared.notice.Notice.{Notice}
+use Rattle.clos_perform.specs.clos_watch.declared.notice.Notice.TheVariants.{ClassRedefined, MethodAdded, MethodRemoved, GenericRedefined}
+use Rattle.clos_perform.specs.clos_world.Class.{class_name}
+use Rattle.clos_perform.specs.clos_world.FunctionName.{called_value}
+use Rattle.clos_perform.specs.clos_world.World.{State, names_of}
 
 -- the list of a word and a value
 abbrev pub told_of : Name → Val → Val

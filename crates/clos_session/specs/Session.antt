@@ -1,15 +1,15 @@
 -- The replies of a session.
 use Rattle.std.specs.Prelude.{◌≡◌, ℕ, ℤ, ◌≤◌, List, ◌++◌, Some}
 use Rattle.lisp_data.specs.ValueView.{value_of}
-use Rattle.clos_definition_forms.specs.clos_world.Uses.{uses_of}
-use Rattle.clos_definition_forms.specs.clos_world.World.{State, seen}
-use Rattle.clos_definition_forms.specs.clos_world.clos_cache.Uses.{Uses}
-use Rattle.clos_definition_forms.specs.clos_machine.Machine.{leaves_by}
-use Rattle.clos_definition_forms.specs.clos_machine.clos_meaning.Host.{Host, answered_by}
-use Rattle.clos_definition_forms.specs.clos_machine.clos_meaning.Outcome.{Run, Given, Signalled}
-use Rattle.clos_definition_forms.specs.clos_world.Condition.{number_of}
-use Rattle.clos_definition_forms.specs.clos_world.declared.condition.ConditionKind.{ConditionKind}
-use Rattle.clos_definition_forms.specs.clos_watch.declared.notice.Notice.{Notice}
+use Rattle.clos_perform.specs.clos_world.Uses.{uses_of}
+use Rattle.clos_perform.specs.clos_world.World.{State, seen}
+use Rattle.clos_perform.specs.clos_world.clos_cache.Uses.{Uses}
+use Rattle.clos_perform.specs.clos_machine.Machine.{leaves_by}
+use Rattle.clos_perform.specs.clos_machine.clos_meaning.Host.{Host, answered_by}
+use Rattle.clos_perform.specs.clos_machine.clos_meaning.Outcome.{Run, Given, Signalled}
+use Rattle.clos_perform.specs.clos_world.Condition.{number_of}
+use Rattle.clos_perform.specs.clos_world.declared.condition.ConditionKind.{ConditionKind}
+use Rattle.clos_perform.specs.clos_watch.declared.notice.Notice.{Notice}
 use Rattle.clos_session.specs.declared.session.Session.{Session}
 use Rattle.clos_session.specs.declared.session.Reply.{Reply}
 use Rattle.clos_session.specs.declared.session.Reply.TheVariants.{Value, Condition, Storage}

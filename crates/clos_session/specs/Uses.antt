@@ -1,12 +1,12 @@
 -- What is kept of calls, and how many effective methods were worked out, after a form.
 use Rattle.std.specs.Prelude.{◌≡◌, ℕ, ℤ, false, List, ◌++◌}
-use Rattle.clos_definition_forms.specs.clos_machine.Uses.{MadeSome}
-use Rattle.clos_definition_forms.specs.clos_machine.clos_meaning.Host.{Host}
-use Rattle.clos_definition_forms.specs.clos_machine.clos_meaning.Outcome.{Run}
-use Rattle.clos_definition_forms.specs.clos_machine.clos_meaning.Uses.{after_notes, notes_by}
-use Rattle.clos_definition_forms.specs.clos_world.Uses.{uses_of}
-use Rattle.clos_definition_forms.specs.clos_world.World.{State}
-use Rattle.clos_definition_forms.specs.clos_world.clos_cache.Uses.{Uses}
+use Rattle.clos_perform.specs.clos_machine.Uses.{MadeSome}
+use Rattle.clos_perform.specs.clos_machine.clos_meaning.Host.{Host}
+use Rattle.clos_perform.specs.clos_machine.clos_meaning.Outcome.{Run}
+use Rattle.clos_perform.specs.clos_machine.clos_meaning.Uses.{after_notes, notes_by}
+use Rattle.clos_perform.specs.clos_world.Uses.{uses_of}
+use Rattle.clos_perform.specs.clos_world.World.{State}
+use Rattle.clos_perform.specs.clos_world.clos_cache.Uses.{Uses}
 use Rattle.clos_session.specs.declared.session.Session.{Session}
 use Rattle.clos_session.specs.declared.session.Reply.{Reply}
 use Rattle.clos_session.specs.declared.session.Reply.TheVariants.{Value, Condition, Storage}

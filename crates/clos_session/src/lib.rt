@@ -4,7 +4,7 @@
 mod notices;
 mod session;
 
-pub use clos_definition_forms::{
+pub use clos_perform::{
     Callback, Condition, ConditionKind, Dependent, Dependents, Handed, Limits, Listener, Native,
     Natives, Notice, Recorder, Relation, Stop, Values, World,
 };

@@ -1,5 +1,5 @@
 -- How the loop over the forms of a text makes a run, and what is told of a form.
-use Rattle.std.proofs.Common.{◌≡◌, ℕ, ◌+◌, ◌-◌, ◌<◌, ◌≤◌, ◌==◌, suc, get_or, append-nil, List, [], ◌∷◌, ◌++◌, Option, Some, None, Result, Ok, Err, Bool, length, drop, refl, ap, sym, subst, ◌∙◌, arith, append_assoc, inl, inr}
+use Rattle.std.proofs.Common.{◌≡◌, ℕ, ◌+◌, ◌-◌, ◌<◌, ◌≤◌, append-nil, List, [], ◌++◌, Option, Some, None, Result, Ok, Err, Bool, length, drop, refl, ap, sym, subst, ◌∙◌, arith, append_assoc, inl, inr}
 use Rattle.std.specs.Prelude.{ℤ, IfErr, IfSome}
 use Rattle.std.specs.Io.KnownBytes.{Appends}
 use Rattle.lisp_data.specs.Datum.{Dat}
@@ -16,8 +16,9 @@ use Rattle.clos_session.specs.clos_world.clos_cache.Uses.{Uses}
 use Rattle.clos_session.proofs.clos_machine.Uses.{same_answers}
 use Rattle.clos_session.specs.clos_machine.clos_meaning.Host.{Host}
 use Rattle.clos_session.specs.clos_machine.clos_meaning.Outcome.{Given, Signalled}
-use Rattle.clos_session.specs.Step.{step}
-use Rattle.clos_system.specs.Transcript.{Ran, performs, cuts, told_for, counted_for, standing_after, uses_after, ends_line, Stands, Performed, Performs, FailsAfter, Faults, RunFaults, SourceFails}
+use Rattle.clos_session.specs.clos_perform.Step.{step}
+use Rattle.clos_transcript.specs.Told.{told_for}
+use Rattle.clos_system.specs.Transcript.{Ran, performs, cuts, counted_for, standing_after, uses_after, Stands, Performed, Performs, FailsAfter, Faults, RunFaults, SourceFails}
 use Rattle.clos_session.specs.clos_world.declared.condition.Stop.{Stop}
 use Rattle.clos_session.specs.clos_world.declared.condition.Stop.TheVariants.{Refused, Storage}
 use Rattle.clos_system.specs.declared.transcript.Summary.{Summary}
@@ -67,28 +68,6 @@ ran_on host echo text start w at out n d next (Err Storage) w' left r h a b k =
     (sym taken)
     (comes_to host echo text start w w' a.0 w'.uses next _ _ a.1 k refl (cuts w at out n d next a.2 a.0 w'.state w'.uses r h
     (omega (arith, a.3)) a.4 made))
-
--- nothing was written
-pub nothing_more : (out xs : List ℕ) → length xs ≡ 0 → ends_line (out ++ xs) ≡ ends_line out
-nothing_more out [] e = ap ends_line (append-nil out)
-nothing_more out (x ∷ xs) e = absurd (omega arith)
-
-last_alone : (out : List ℕ) (x : ℕ) → ends_line (out ++ x ∷ []) ≡ (x == 10)
-last_alone [] x = refl
-last_alone (a ∷ []) x = refl
-last_alone (a ∷ b ∷ out) x = last_alone (b ∷ out) x
-
--- the last byte decides whether a line has ended
-pub last_byte : (out xs : List ℕ) → 0 < length xs → ends_line (out ++ xs) ≡ (get_or xs (length xs - 1) 0 == 10)
-last_byte out [] h = absurd (omega arith)
-last_byte out (x ∷ []) h = last_alone out x
-last_byte out (x ∷ y ∷ ys) h =
-    let e : length (x ∷ y ∷ ys) - 1 ≡ suc (length (y ∷ ys) - 1) = omega arith in
-    ap ends_line (sym (append_assoc out (x ∷ []) (y ∷ ys))) ∙ last_byte (out ++ x ∷ []) (y ∷ ys) (omega arith)
-    ∙ ap (λ k. get_or (x ∷ y ∷ ys) k 0 == 10) (sym e)
-
-pub storage_told : (out piece a b d : List ℕ) (x : List ℕ) → out ++ piece ≡ x → out ++ (((piece ++ a) ++ b) ++ d) ≡ x ++ (a ++ (b ++ d))
-storage_told out piece a b d x e = simp append_assoc (sym (append_assoc out piece (a ++ (b ++ d))) ∙ ap (λ z. z ++ (a ++ (b ++ d))) e)
 
 -- what was written twice
 pub appends_more : (a b c : Option (List ℕ)) (xs ys : List ℕ) → Appends a b xs → Appends b c ys → Appends a c (xs ++ ys)

@@ -1,14 +1,14 @@
 -- Worked examples: what a run tells of (progn (princ "1") (princ "2")), with the seven steps that it takes and with six.
 use Rattle.std.specs.Prelude.{◌≡◌, ℕ, Bool, false, true, List, [], ◌∷◌, ◌++◌, codes, Option, Some, None, option_map, refl}
 use Rattle.lisp_data.specs.Datum.{Dat, symbol, string, list, nil, cons}
-use Rattle.clos_session.specs.Step.{step}
+use Rattle.clos_session.specs.clos_perform.Step.{step}
 use Rattle.clos_session.specs.clos_machine.clos_meaning.Host.{answered_by}
 use Rattle.clos_session.specs.clos_machine.clos_meaning.Outcome.{Out}
 use Rattle.clos_session.specs.clos_world.Initial.{initial}
 use Rattle.clos_session.specs.clos_world.Limits.{standard}
 use Rattle.clos_session.specs.clos_world.World.{State, names_of}
 use Rattle.clos_session.specs.clos_world.declared.condition.ConditionKind.TheVariants.{StepLimit}
-use Rattle.clos_system.specs.Transcript.{condition_text, told}
+use Rattle.clos_transcript.specs.Told.{condition_text, told}
 
 abbrev word : List ℕ → Dat
 word text = symbol (record { text = text; keyword = false })

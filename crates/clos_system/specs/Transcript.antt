@@ -1,17 +1,12 @@
 -- Runs of whole texts, and their transcripts.
-use Rattle.std.specs.Prelude.{◌≡◌, ◌⊎◌, ℕ, ◌+◌, ◌-◌, ◌<◌, ◌≤◌, ◌==◌, List, [], ◌∷◌, ◌++◌, Bool, true, codes, ℤ, Option, Some, Result, Ok, Err, IfSome, IsSome, if◌then◌else◌, length, drop}
-use Rattle.std.specs.List.{flat_map}
-use Rattle.std.specs.Fmt.{decimal}
+use Rattle.std.specs.Prelude.{◌≡◌, ◌⊎◌, ℕ, ◌+◌, ◌-◌, ◌<◌, ◌≤◌, List, [], ◌++◌, Bool, ℤ, Option, Some, Result, Ok, Err, IfSome, IsSome, length, drop}
 use Rattle.std.specs.Io.KnownBytes.{Appends}
 use Rattle.lisp_data.specs.Datum.{Dat}
-use Rattle.lisp_data.specs.Print.{Names, text_of}
-use Rattle.lisp_data.specs.ValueView.{value_of}
 use Rattle.lisp_data.specs.declared.value.Value.{Value}
 use Rattle.lisp_reader.specs.Answers.{Next, NextFails}
 use Rattle.lisp_reader.specs.Fault.{OnFault, offset_of}
 use Rattle.lisp_reader.specs.Gaps.{Gaps}
-use Rattle.clos_session.specs.clos_world.Condition.{number_of, condition_name}
-use Rattle.clos_session.specs.clos_world.World.{State, names_of}
+use Rattle.clos_session.specs.clos_world.World.{State}
 use Rattle.clos_session.specs.Session.{Standing}
 use Rattle.clos_session.specs.clos_definition_forms.clos_effects.Hearing.{Heard, since}
 use Rattle.clos_session.specs.clos_watch.Watching.{heard_after}
@@ -21,46 +16,13 @@ use Rattle.clos_session.specs.clos_machine.Machine.{AnswersWith, leaves_by}
 use Rattle.clos_session.specs.clos_machine.Uses.{KeepsBy, MadeSome}
 use Rattle.clos_session.specs.clos_machine.clos_meaning.Uses.{after_notes, notes_by}
 use Rattle.clos_session.specs.clos_world.clos_cache.Uses.{Uses}
-use Rattle.clos_session.specs.Step.{step}
-use Rattle.clos_session.specs.clos_world.declared.condition.Condition.{Condition}
+use Rattle.clos_session.specs.clos_perform.Step.{step}
 use Rattle.clos_session.specs.clos_world.declared.condition.Stop.{Stop}
 use Rattle.clos_session.specs.clos_world.declared.condition.Stop.TheVariants.{Refused, Storage}
+use Rattle.clos_transcript.specs.Told.{ends_line, told, told_cut, told_for}
 use Rattle.clos_system.specs.declared.transcript.Summary.{Summary}
 use Rattle.clos_system.specs.declared.transcript.RunFault.{RunFault}
 use Rattle.clos_system.specs.declared.transcript.RunFault.TheVariants.{Read, TooLong, Reader, Write, Memory}
-
--- whether nothing is written yet, or a newline last
-abbrev pub ends_line : List ℕ → Bool
-ends_line [] = true
-ends_line (b ∷ []) = b == 10
-ends_line (b ∷ c ∷ bs) = ends_line (c ∷ bs)
-
--- on a fresh line
-abbrev pub fresh_line : List ℕ → List ℕ
-fresh_line out = if ends_line out then out else out ++ 10 ∷ []
-
--- a condition as it is told: its number, and in parentheses its name and what it is about
-abbrev pub condition_text : Names → Condition → List ℕ
-condition_text names c =
-    codes "; " ++ decimal (number_of c.kind) ++ codes " (" ++ condition_name c.kind ++ flat_map (λ v. 32 ∷ text_of true names v) c.items ++ codes ")" ++ 10 ∷ []
-
--- what a form wrote, after what was written before it
-abbrev pub with_written : State → State → List ℕ → List ℕ
-with_written w w' out = out ++ drop (length w.written) w'.written
-
--- what stands written after a form: what it wrote, and on a fresh line its condition or, where values are told, its value
-abbrev pub told : Bool → State → End → List ℕ → List ℕ
-told echo w (Given v w' s) out =
-    if echo then fresh_line (with_written w w' out) ++ text_of true (names_of w') v ++ 10 ∷ [] else with_written w w' out
-told echo w (Signalled c w' s) out = fresh_line (with_written w w' out) ++ condition_text (names_of w') c
-
--- the line for want of memory, which is no condition: the number 0, and the steps that were taken
-abbrev pub storage_text : ℕ → List ℕ
-storage_text k = codes "; 0 (STORAGE " ++ (decimal k ++ (codes ")" ++ 10 ∷ []))
-
--- .. and where memory was refused in it after so many steps
-abbrev pub told_cut : State → State → ℕ → List ℕ → List ℕ
-told_cut w w' k out = fresh_line (with_written w w' out) ++ storage_text k
 
 -- the state in which the next form begins
 abbrev pub state_after : End → State
@@ -106,12 +68,6 @@ pub data Ran (host : Host) (echo : Bool) (text : List ℕ) (start : Standing) : 
       → Next (drop at text) d (drop next text) → k ≤ w.state.limits.steps → leaves_by host (step d w.state k) used w' 0
       → MadeSome (notes_by host (step d w.state k) used) w.uses u
       → Ran host echo text start (standing_after w used w' u) next (told_cut w.state w' k out) (counted_cut n)
-
--- what is told of a form that was answered so, after so many steps
-abbrev pub told_for : Bool → State → State → Result Value Stop → ℕ → List ℕ → List ℕ
-told_for echo w w' (Ok v) k out = told echo w (Given (value_of v) w' 0) out
-told_for echo w w' (Err (Refused c)) k out = told echo w (Signalled c w' 0) out
-told_for echo w w' (Err Storage) k out = told_cut w w' k out
 
 -- the counts after a form that was answered so
 abbrev pub counted_for : Result Value Stop → Summary → Summary

@@ -1,12 +1,12 @@
 use Rattle.std.proofs.Common.{◌≡◌, ◌-◌, ◌++◌, ◌∙◌, ap, length, refl, rules, subst}
 use Rattle.lisp_data.specs.DatumView.{datum_of}
 use Rattle.clos_session.specs.Session.{answers_of, state_of}
-use Rattle.clos_session.specs.Step.{step}
+use Rattle.clos_session.specs.clos_perform.Step.{step}
 use Rattle.clos_session.specs.Uses.{session_uses}
 use Rattle.clos_session.specs.clos_machine.Machine.{AnswersWith}
 use Rattle.clos_session.specs.clos_machine.Uses.{KeepsBy}
 use Rattle.clos_session.specs.clos_world.World.{State}
-use Rattle.clos_system.specs.Transcript.{ends_line, told_for}
+use Rattle.clos_transcript.specs.Told.{ends_line, told_for}
 use Rattle.clos_system.proofs.transcript.run_form.Goals as goal
 
 pub returns-in_default-clause-fails : goal.returns-in_default-clause-fails

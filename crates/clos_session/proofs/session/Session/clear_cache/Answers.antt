@@ -1,7 +1,7 @@
 use Rattle.std.proofs.Common.{subst, sym}
 use Rattle.std.proofs.Math.Logic.{∥∥₁_map}
 use Rattle.std.proofs.lemmas.Option.{none-some}
-use Rattle.clos_definition_forms.specs.clos_world.Kept.{AreNow}
+use Rattle.clos_perform.specs.clos_world.Kept.{AreNow}
 use Rattle.clos_session.proofs.session.Session.clear_cache.Goals as goal
 
 pub invariant_of-world : goal.invariant_of-world

@@ -1,9 +1,9 @@
 use Rattle.std.proofs.Common.{◌≡◌, ℕ, List, [], Some, None, ap, sym, ◌∙◌}
 use Rattle.std.specs.Prelude.{option_map, slice_get, unwrap_or}
-use Rattle.clos_definition_forms.specs.clos_watch.Handed.{place_of}
-use Rattle.clos_definition_forms.specs.clos_watch.declared.notice.Notice.{Notice}
-use Rattle.clos_definition_forms.specs.clos_world.Hearing.{hearing_of}
-use Rattle.clos_definition_forms.proofs.clos_definition.clos_world.Heard.{names_kept}
+use Rattle.clos_perform.specs.clos_watch.Handed.{place_of}
+use Rattle.clos_perform.specs.clos_watch.declared.notice.Notice.{Notice}
+use Rattle.clos_perform.specs.clos_world.Hearing.{hearing_of}
+use Rattle.clos_perform.proofs.clos_definition.clos_world.Heard.{names_kept}
 use Rattle.clos_session.proofs.session.Session.heard.Goals as goal
 
 pub returns-in-Some : goal.returns-in-Some

@@ -1,5 +1,5 @@
 use Rattle.std.proofs.Common.{[], ap, ◌∙◌}
-use Rattle.clos_definition_forms.specs.clos_world.Uses.{uses_in}
+use Rattle.clos_perform.specs.clos_world.Uses.{uses_in}
 use Rattle.clos_session.proofs.session.Session.new.Goals as goal
 
 pub returns-clause-uses : goal.returns-clause-uses

@@ -1,6 +1,6 @@
 use Rattle.lisp_data.specs.DatumView.{datum_of}
 use Rattle.clos_session.specs.Session.{answers_of, state_of}
-use Rattle.clos_session.proofs.Writing.{writes_more}
+use Rattle.clos_perform.proofs.Writing.{writes_more}
 use Rattle.clos_session.proofs.session.Session.perform.Goals as goal
 
 pub returns-clause-answers : goal.returns-clause-answers

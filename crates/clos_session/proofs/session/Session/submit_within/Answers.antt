@@ -1,15 +1,13 @@
 use Rattle.std.proofs.Common.{◌≡◌, ◌-◌, Err, min, arith, subst}
 use Rattle.lisp_data.specs.DatumView.{datum_of}
-use Rattle.clos_definition_forms.specs.clos_machine.Machine.{AnswersWith}
-use Rattle.clos_definition_forms.specs.clos_world.declared.condition.Stop.TheVariants.{Refused}
-use Rattle.clos_definition_forms.specs.clos_machine.Uses.{KeepsBy}
+use Rattle.clos_perform.specs.clos_machine.Machine.{AnswersWith}
+use Rattle.clos_perform.specs.clos_world.declared.condition.Stop.TheVariants.{Refused}
+use Rattle.clos_perform.specs.clos_machine.Uses.{KeepsBy}
 use Rattle.clos_session.specs.Session.{Replies, answers_of, state_of}
 use Rattle.clos_session.specs.Uses.{MakesUses, session_uses}
-use Rattle.clos_session.specs.Step.{step}
+use Rattle.clos_perform.specs.Step.{step}
 use Rattle.clos_session.specs.declared.session.Reply.TheVariants.{Value, Condition, Storage}
-use Rattle.clos_session.proofs.Definitions.{defines_nothing}
-use Rattle.clos_session.proofs.Keeping.{kept_stored}
-use Rattle.clos_session.proofs.StepQuiet.{stored}
+use Rattle.clos_session.proofs.Replies.{defines_nothing, kept_stored, stored}
 use Rattle.clos_session.proofs.session.Session.submit_within.Goals as goal
 
 pub returns-in-Ok-clause-reply : goal.returns-in-Ok-clause-reply

@@ -23,7 +23,7 @@ use Rattle.clos_top.proofs.Cases.{Cases, given_so}
 use Rattle.clos_top.proofs.Laws.{specialized_cases}
 use Rattle.clos_definition_forms.specs.clos_definition.Generic.{options_of}
 use Rattle.clos_definition_forms.proofs.clos_definition.Orders.{orderly}
-use Rattle.clos_session.specs.Read.{IsWellRead}
+use Rattle.clos_perform.specs.Read.{IsWellRead}
 
 -- the functions that are read have argument precedence orders
 abbrev IsOrderlyTop : Top → Type 0

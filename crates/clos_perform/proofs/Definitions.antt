@@ -1,5 +1,5 @@
 -- A definition that is refused defines nothing, and neither does any other form. What was written before it stays.
-use Rattle.std.proofs.Common.{ℕ, zero, suc, List, [], ◌∷◌, ◌++◌, Option, Some, None, Result, Ok, Err, Bool, true, false, length, map, subst}
+use Rattle.std.proofs.Common.{ℕ, zero, suc, List, [], ◌∷◌, ◌++◌, Option, Some, None, Result, Ok, Err, Bool, true, false, length, map}
 use Rattle.std.specs.Prelude.{⊤, ℤ, option_map, ◌||◌, is_some, if◌then◌else◌}
 use Rattle.lisp_data.specs.Datum.{Dat}
 use Rattle.lisp_data.specs.Name.{Name}
@@ -38,18 +38,14 @@ use Rattle.clos_definition_forms.specs.Dependents.{change_dependents, changed_if
 use Rattle.clos_definition_forms.specs.declared.dependents.Change.{Change}
 use Rattle.clos_definition_forms.specs.declared.dependents.Change.TheVariants.{Add, Remove}
 use Rattle.clos_definition_forms.specs.clos_watch.declared.notice.Metaobject.{Metaobject}
-use Rattle.clos_session.specs.Definitions.{DefinesNothing}
 use Rattle.clos_definition_forms.specs.Forms.{form_evaluated, forms_evaluated}
 use Rattle.clos_definition_forms.specs.Combination.{combination_defined, define_combination}
 use Rattle.clos_definition_forms.specs.clos_world.clos_comb.Table as combinations
 use Rattle.clos_definition_forms.specs.clos_world.clos_comb.Table.{is_predefined, name_of}
 use Rattle.clos_definition_forms.specs.clos_world.clos_comb.clos_combination.declared.combination.CombinationDefinition.{CombinationDefinition}
 use Rattle.clos_definition_forms.specs.Function.{has_room, function_defined, setter_defined, define_function}
-use Rattle.clos_session.specs.Session.{Replies}
-use Rattle.clos_session.specs.Step.{checked, performed, room_of, step}
+use Rattle.clos_perform.specs.Step.{checked, performed, room_of, step}
 use Rattle.clos_definition_forms.specs.Variable.{admits, room_below, keeps_value, named as defined_name, declared, value_given, new_value, variable_defined}
-use Rattle.clos_session.specs.declared.session.Reply.{Reply}
-use Rattle.clos_session.specs.declared.session.Reply.TheVariants.{Value, Condition as a_condition, Storage}
 
 -- what was written stays, and where a form is refused, the definitions are those before
 
@@ -229,11 +225,3 @@ answered_refused host w (Looked name more) xs h = answered_refused host w (more 
 answered_refused host w (Asked name ys more) [] h = tt
 answered_refused host w (Asked name ys more) (x ∷ xs) h =
     if_permitted w (may_answer (host name) ys x) (answered_by host (more x) xs) (answered_refused host w (more x) xs (h x))
-
--- what a session replies
-pub defines_nothing : (host : Host) (d : Dat) (s : ℕ) (w u : State) (past past' : List ℤ) (r : Reply) → Replies host (step d) s w past r u
-    past' → DefinesNothing r w u
-defines_nothing host d s w u past past' (Value v) h = tt
-defines_nothing host d s w u past past' (a_condition number items) h =
-    (subst (ends_refused w) h.5 (answered_refused host w (step d w s) h.2 (step_refused d w s))).0
-defines_nothing host d s w u past past' (Storage k) h = tt

@@ -3,10 +3,10 @@ use Rattle.lisp_data.specs.DatumView.{datum_of}
 use Rattle.clos_definition_forms.specs.clos_world.World.{seen}
 use Rattle.clos_definition_forms.proofs.Evaluated.{performs_as, performs_storage}
 use Rattle.clos_definition_forms.proofs.clos_effects.Hearing.{unheard}
-use Rattle.clos_session.specs.Step.{checked, step}
-use Rattle.clos_session.proofs.StepQuiet.{step_quiet}
-use Rattle.clos_session.proofs.WellRead.{well_read}
-use Rattle.clos_session.proofs.session.perform.Goals as goal
+use Rattle.clos_perform.specs.Step.{checked, step}
+use Rattle.clos_perform.proofs.StepQuiet.{step_quiet}
+use Rattle.clos_perform.proofs.WellRead.{well_read}
+use Rattle.clos_perform.proofs.form.perform.Goals as goal
 
 pub returns-in-Ok-clause-performs : goal.returns-in-Ok-clause-performs
 returns-in-Ok-clause-performs g c =

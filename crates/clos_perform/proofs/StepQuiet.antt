@@ -1,6 +1,6 @@
 -- With no step left a top-level form changes nothing.
-use Rattle.std.proofs.Common.{◌≡◌, ◌-◌, arith, subst, ℕ, zero, suc, List, [], ◌∷◌, Option, Some, None, Err, Bool, true, false, refl}
-use Rattle.std.specs.Prelude.{ℤ, ◌||◌, is_some, if◌then◌else◌}
+use Rattle.std.proofs.Common.{zero, suc, [], ◌∷◌, Option, Some, None, Bool, true, false, refl}
+use Rattle.std.specs.Prelude.{◌||◌, is_some, if◌then◌else◌}
 use Rattle.lisp_data.specs.Name.{Name}
 use Rattle.lisp_data.specs.Datum.{Dat}
 use Rattle.lisp_data.specs.Value.{Val}
@@ -14,13 +14,9 @@ use Rattle.clos_top.specs.declared.top.Top.TheVariants.{DefClass, DefGeneric, De
 use Rattle.clos_top.specs.clos_syntax.declared.variable.VariableDefinition.{VariableDefinition}
 use Rattle.clos_definition_forms.specs.clos_world.Functions.{function_in}
 use Rattle.clos_definition_forms.specs.clos_world.World.{State, seen}
-use Rattle.clos_definition_forms.specs.clos_world.declared.condition.Stop.{Stop}
-use Rattle.clos_definition_forms.specs.clos_world.declared.condition.Stop.TheVariants.{Refused, Storage}
 use Rattle.clos_definition_forms.specs.clos_world.declared.functions.Function.{Function}
 use Rattle.clos_definition_forms.specs.clos_world.declared.tables.World.{World}
 use Rattle.clos_definition_forms.specs.clos_machine.clos_meaning.Contexts.{known}
-use Rattle.clos_definition_forms.specs.clos_machine.Machine.{AnswersWith, leaves_by}
-use Rattle.clos_definition_forms.specs.clos_machine.clos_meaning.Host.{Host}
 use Rattle.clos_definition_forms.specs.clos_machine.clos_meaning.Meaning.{evaluation}
 use Rattle.clos_definition_forms.specs.clos_machine.clos_meaning.Outcome.{Asked, Looked, Noted, Out, Gave, Stopped, Run, then_do, step_then, leaves}
 use Rattle.clos_definition_forms.proofs.clos_machine.clos_meaning.Quiet.{evaluation_quiet}
@@ -28,9 +24,7 @@ use Rattle.clos_definition_forms.specs.Dependents.{change_dependents, values_wat
 use Rattle.clos_definition_forms.specs.declared.dependents.Change.{Change}
 use Rattle.clos_definition_forms.specs.declared.dependents.Change.TheVariants.{Add, Remove}
 use Rattle.clos_definition_forms.specs.Function.{has_room, define_function}
-use Rattle.clos_session.specs.Session.{Replies}
-use Rattle.clos_session.specs.declared.session.Reply.TheVariants.{Storage as stored_after}
-use Rattle.clos_session.specs.Step.{checked, performed, room_of, step}
+use Rattle.clos_perform.specs.Step.{checked, performed, room_of, step}
 use Rattle.clos_definition_forms.specs.Variable.{admits, room_below, keeps_value, value_given, new_value, variable_defined}
 use Rattle.clos_definition_forms.proofs.Evaluated.{forms_quiet}
 use Rattle.clos_definition_forms.proofs.Watched.{values_watched_quiet}
@@ -90,11 +84,3 @@ checked_quiet (Some top) w = performed_quiet top w
 
 pub step_quiet : (d : Dat) (w : World) → leaves (step d (seen w) 0) (seen w) 0
 step_quiet d w = checked_quiet (top_of d) w
-
--- where memory was refused, the steps taken are those that are gone
-pub stored : (host : Host) (run : Run) (w w' : State) (s s' : ℕ) (past past' : List ℤ) (stop : Stop) → stop ≡ Storage
-    → AnswersWith host run w s past (Err stop) w' s' past'
-    → Replies host run s w past (stored_after (s - s')) w' past'
-stored host run w w' s s' past past' Storage h e =
-    (e.0, omega arith, e.1, subst (λ k. leaves_by host (run w k) e.0 w' 0) (omega (arith, e.3)) e.4)
-stored host run w w' s s' past past' (Refused c) h e = absurd (cc h)

@@ -10,8 +10,8 @@ use Rattle.clos_definition_forms.specs.clos_machine.clos_meaning.Output.{WritesM
 use Rattle.clos_definition_forms.specs.clos_world.World.{State}
 use Rattle.clos_definition_forms.specs.clos_world.declared.condition.Stop.{Stop}
 use Rattle.clos_definition_forms.specs.clos_world.declared.condition.Stop.TheVariants.{Refused, Storage}
-use Rattle.clos_session.specs.Step.{step}
-use Rattle.clos_session.proofs.Definitions.{answered_refused, ends_refused, step_refused}
+use Rattle.clos_perform.specs.Step.{step}
+use Rattle.clos_perform.proofs.Definitions.{answered_refused, ends_refused, step_refused}
 
 left_written : (w u : State) (e : End) → ends_refused w (Some e) → ends_in e u 0 → WritesMore w u
 left_written w u (Given v x j) h g = subst (WritesMore w) g.0 h

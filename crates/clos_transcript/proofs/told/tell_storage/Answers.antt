@@ -1,8 +1,8 @@
 use Rattle.std.proofs.Common.{◌++◌, ◌∷◌, [], codes, ap, ◌∙◌}
 use Rattle.std.specs.Fmt.{decimal}
-use Rattle.clos_system.specs.Transcript.{fresh_line}
-use Rattle.clos_system.proofs.Runs.{storage_told}
-use Rattle.clos_system.proofs.transcript.tell_storage.Goals as goal
+use Rattle.clos_transcript.specs.Told.{fresh_line}
+use Rattle.clos_transcript.proofs.Lines.{storage_told}
+use Rattle.clos_transcript.proofs.told.tell_storage.Goals as goal
 
 pub returns : goal.returns
 returns c = λ out h.

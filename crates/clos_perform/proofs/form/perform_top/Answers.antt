@@ -14,10 +14,10 @@ use Rattle.clos_definition_forms.specs.declared.dependents.Change.TheVariants.{A
 use Rattle.clos_definition_forms.proofs.Evaluated.{performs_alone, performs_noting}
 use Rattle.clos_definition_forms.proofs.clos_effects.Hearing.{unheard}
 use Rattle.clos_definition_forms.proofs.clos_machine.Answering.{answers_with}
-use Rattle.clos_session.specs.Step.{room_of}
-use Rattle.clos_session.proofs.Hearing.{change_untold, combination_untold, expression_untold, function_untold, variable_untold}
-use Rattle.clos_session.proofs.Keeping.{kind_performs}
-use Rattle.clos_session.proofs.session.perform_top.Goals as goal
+use Rattle.clos_perform.specs.Step.{room_of}
+use Rattle.clos_perform.proofs.Hearing.{change_untold, combination_untold, expression_untold, function_untold, variable_untold}
+use Rattle.clos_perform.proofs.ByKind.{kind_performs}
+use Rattle.clos_perform.proofs.form.perform_top.Goals as goal
 
 pub returns-in-DefCombination-clause-heard : goal.returns-in-DefCombination-clause-heard
 returns-in-DefCombination-clause-heard g c =
