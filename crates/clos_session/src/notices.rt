@@ -5,8 +5,8 @@ ghost use Rattle.lisp_data.specs.ValueView.{value_of};
 ghost use Rattle.clos_perform.specs.clos_world.World.{seen};
 ghost use Rattle.clos_session.specs.Notices.{class_told, function_told, notice_text, notice_value, told_of};
 
-use clos_perform::{Notice, World, called_value};
 use clos_forms::value_named;
+use clos_perform::{Notice, World, called_value};
 use lisp_data::{ClassId, GenericId, Items, Name, Naming, Value, prin1};
 use std::alloc::{AllocError, Global};
 
