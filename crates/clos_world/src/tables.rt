@@ -12,7 +12,6 @@ use clos_generic::Generics;
 use clos_store::Objects;
 
 /// The tables of a session.
-#[derive(Drop)]
 pub struct World {
     /// The classes, their instances, and the cells of shared slots.
     pub objects: Objects,
@@ -35,4 +34,23 @@ pub struct World {
     pub limits: Limits,
     /// What is kept is what would be worked out.
     pub ghost kept: { ∥ AreNow objects.classes generics.table combinations cache ∥₁ },
+}
+
+/// By hand: to drop the tables is then one call, and not one for each of them at each way out.
+impl Drop for World {
+    fn drop(self) {
+        let World {
+            objects: _,
+            generics: _,
+            combinations: _,
+            meter: _,
+            cache: _,
+            functions: _,
+            setters: _,
+            globals: _,
+            hearing: _,
+            written: _,
+            limits: _,
+        } = self;
+    }
 }
