@@ -89,18 +89,28 @@ fn agrees(
     )
 }
 
-/// Whether each definition of a table agrees.
-fn table_agrees(alloc: Global, table: u64) -> Result<bool, AllocError> {
-    let mut draw = Draw { state: table };
-    let limit = 3 + draw.next() % 3;
-    let mut classes = Hierarchy::new(alloc, limit)?;
-    let mut model = Model::new(alloc, limit as usize)?;
+/// Whether each definition of these tables agrees.
+fn all_agree(
+    alloc: Global,
+    draw: &mut Draw,
+    classes: &mut Hierarchy,
+    model: &mut Model,
+) -> Result<bool, AllocError> {
     for _ in 0..STEPS {
-        if !agrees(alloc, &mut draw, &mut classes, &mut model)? {
+        if !agrees(alloc, draw, classes, model)? {
             return Ok(false);
         }
     }
     Ok(true)
+}
+
+/// The same of new ones.
+fn table_agrees(alloc: Global, table: u64) -> Result<bool, AllocError> {
+    let mut draw = Draw { state: table };
+    let limit = 3 + draw.next() % 3;
+    let mut model = Model::new(alloc, limit as usize)?;
+    let mut classes = Hierarchy::new(alloc, limit)?;
+    all_agree(alloc, &mut draw, &mut classes, &mut model)
 }
 
 #[test]

@@ -74,11 +74,21 @@ fn length(alloc: Global, classes: &Hierarchy, place: u64) -> Result<usize, Alloc
     Ok(length)
 }
 
-/// So many classes of a shape: how many change with the first, and how long the last one's list is.
+/// So many classes of a shape in this table: how many change with the first, and how long the last one's list is.
+fn figures_in(
+    alloc: Global,
+    classes: &mut Hierarchy,
+    shape: Shape,
+    count: u64,
+) -> Result<(usize, usize), ClassFault> {
+    let changed = define(alloc, classes, shape, count)?;
+    Ok((changed, length(alloc, classes, count.saturating_sub(1))?))
+}
+
+/// The same in a new table.
 fn figures(alloc: Global, shape: Shape, count: u64) -> Result<(usize, usize), ClassFault> {
     let mut classes = Hierarchy::new(alloc, count.saturating_add(1))?;
-    let changed = define(alloc, &mut classes, shape, count)?;
-    Ok((changed, length(alloc, &classes, count.saturating_sub(1))?))
+    figures_in(alloc, &mut classes, shape, count)
 }
 
 #[test]

@@ -146,6 +146,29 @@ fn is_named(classes: &Hierarchy, answer: &Result<Changed, ClassFault>, name: &Na
     }
 }
 
+/// What a definition answers, and whether it answers what asking did, and the class of its name.
+fn answer(
+    alloc: Global,
+    classes: &mut Hierarchy,
+    text: &'static str,
+    asked: &Result<(), ClassFault>,
+) -> Result<(String, bool), AllocError> {
+    let Form {
+        name,
+        superclasses,
+        has_shared_slots,
+    } = read_form(alloc, text)?;
+    let answer = classes.define(alloc, &name, superclasses, has_shared_slots);
+    let mut line = told(alloc, classes, &answer)?;
+    if !is_same(alloc, asked, &answer)? {
+        line.push_str(", and asked otherwise")?;
+    }
+    if !is_named(classes, &answer, &name) {
+        line.push_str(", and another class")?;
+    }
+    Ok((line, answer.is_err()))
+}
+
 /// Asks what stands against defining a class, and defines it. Tells what that answers, whether asking or a fault left another
 /// table, and whether asking answered otherwise.
 fn define(
@@ -156,24 +179,12 @@ fn define(
     let before = lists(alloc, classes, 0)?;
     let asked = check(alloc, classes, text)?;
     let between = lists(alloc, classes, 0)?;
-    let Form {
-        name,
-        superclasses,
-        has_shared_slots,
-    } = read_form(alloc, text)?;
-    let answer = classes.define(alloc, &name, superclasses, has_shared_slots);
-    let mut line = told(alloc, classes, &answer)?;
+    let (mut line, is_refused) = answer(alloc, classes, text, &asked)?;
     if between.as_str() != before.as_str() {
         line.push_str(", and asking left another table")?;
     }
-    if answer.is_err() && lists(alloc, classes, 0)?.as_str() != before.as_str() {
+    if is_refused && lists(alloc, classes, 0)?.as_str() != before.as_str() {
         line.push_str(", and another table")?;
-    }
-    if !is_same(alloc, &asked, &answer)? {
-        line.push_str(", and asked otherwise")?;
-    }
-    if !is_named(classes, &answer, &name) {
-        line.push_str(", and another class")?;
     }
     Ok(line)
 }

@@ -7,8 +7,8 @@ use crate::place::{Place, push_place};
 use lisp_tokens::ReadFault;
 use std::alloc::{AllocError, Global};
 
-/// What it is.
-pub(crate) fn words(fault: &ReadFault) -> &'static str
+/// What a fault of reading is.
+pub fn words(fault: &ReadFault) -> &'static str
     ensures { OnFault fault.now (λ kind _. result.now ≡ words_of kind) }
 {
     match fault {

@@ -1,23 +1,18 @@
-//! Runs whose conditions and faults of reading are explained as they come up.
+//! Forms whose conditions and faults of reading are explained as they come up.
 #![tactic(auto)]
 
-mod explained;
+mod call;
 mod fault;
 mod forms;
 mod locate;
 mod place;
 mod told;
 
-pub use clos_explain::{
-    World, cache_page, class_page, explanation, generic_page, methods_page, no_class,
-};
-pub use clos_program::{
-    Dependents, Fault, FileName, Natives, Output, Performed, STATUS_CONDITION, STATUS_DONE,
-    STATUS_FAULT, Session, Settings, Sources, Stop, Summary, is_input, read_source, report,
-    run_form,
-};
-pub use explained::run_explained;
-pub use fault::fault_line;
+pub use call::{call_of, fitting_page, form_of_arguments};
+pub use clos_ending::{Fault, STATUS_CONDITION, STATUS_DONE, STATUS_FAULT, is_told, report};
+pub use clos_explain::{World, cache_page, class_page, explanation, generic_page, no_class};
+pub use clos_system::{Dependents, Natives, Performed, Session, Stop, Summary, run_form};
+pub use fault::{fault_line, words};
 pub use forms::{Left, fault_of, perform_forms};
-pub use place::Place;
-pub use told::{Source, explain};
+pub use place::{Place, push_place};
+pub use told::{Source, explain, tell};

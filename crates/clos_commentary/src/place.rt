@@ -55,7 +55,7 @@ impl Place {
 }
 
 /// Adds the line and the column of a place.
-pub(crate) fn push_place(text: &mut Vec<u8>, place: Place) -> Result<(), AllocError>
+pub fn push_place(text: &mut Vec<u8>, place: Place) -> Result<(), AllocError>
     ensures { OnOk result (text.new.items ≡ text.old.items ++ place_text place) }
 {
     text.extend_from_slice(Buffer::new().format(place.line).as_bytes())?;

@@ -3,8 +3,9 @@ ghost use Rattle.std.specs.Io.KnownBytes.{Keeps};
 
 use crate::locate::locate;
 use crate::place::{Place, push_place};
+use clos_ending::{Fault, FileName};
 use clos_explain::{World, explanation};
-use clos_program::{Fault, FileName, Stop};
+use clos_system::Stop;
 use lisp_data::{Datum, Value};
 use std::alloc::{AllocError, Global};
 use std::io::Write;
@@ -52,7 +53,7 @@ fn placed(alloc: Global, source: Source<'_>, text: &[u8]) -> Result<Vec<u8>, All
 }
 
 /// Writes an explanation after all that was written. What can't be written on `errors` is lost.
-pub(crate) fn tell<W: Write, E: Write>(
+pub fn tell<W: Write, E: Write>(
     alloc: Global,
     source: Source<'_>,
     text: &[u8],

@@ -4,7 +4,7 @@ use clos_look::{Page, World};
 use clos_syntax::ClassDefinition;
 use clos_top::{Top, parse_top};
 use lisp_data::{Datum, Name};
-use std::alloc::{AllocError, Global};
+use std::alloc::Global;
 
 /// A definition of a class among the session's classes. A class that names no superclass is below these.
 fn put<'a>(
@@ -21,28 +21,24 @@ fn put<'a>(
 }
 
 /// Tells how a class would be above itself by the definition that was refused.
-pub fn superclass_cycle(
-    alloc: Global,
-    page: &mut Page,
-    world: &World,
-    form: &Datum,
-) -> Result<(), AllocError> {
+pub fn superclass_cycle(alloc: Global, page: &mut Page, world: &World, form: &Datum) {
     let Ok(Top::DefClass(definition)) = parse_top(alloc, form) else {
-        return Ok(());
+        return;
     };
     let standard = [Name::fixed(&"STANDARD-OBJECT")];
-    let circle = superclass_circle(alloc, put(&*world, &definition, &standard))?;
+    let Ok(circle) = superclass_circle(alloc, put(&*world, &definition, &standard)) else {
+        return page.fail();
+    };
     if circle.is_empty() {
-        return Ok(());
+        return;
     }
-    page.entry("  the circle          ", 0)?;
+    page.entry("  the circle          ", 0);
     let mut word = "";
     for name in circle.iter() {
-        page.text(word)?;
-        page.name(world, name)?;
+        page.text(word);
+        page.name(world, name);
         word = " above ";
     }
-    Ok(())
 }
 
 /// Tells which classes would have to come before each other in the class precedence list of a class by the definition that was refused.
@@ -52,19 +48,20 @@ pub fn inconsistent_precedence(
     world: &World,
     form: &Datum,
     name: &Name,
-) -> Result<(), AllocError> {
+) {
     let Ok(Top::DefClass(definition)) = parse_top(alloc, form) else {
-        return Ok(());
+        return;
     };
     let standard = [Name::fixed(&"STANDARD-OBJECT")];
-    let circle = precedence_circle(alloc, put(&*world, &definition, &standard), name)?;
+    let Ok(circle) = precedence_circle(alloc, put(&*world, &definition, &standard), name) else {
+        return page.fail();
+    };
     for (place, edge) in circle.iter().enumerate() {
-        page.entry("  the circle          ", place)?;
-        page.name(world, &edge.before)?;
-        page.text(" before ")?;
-        page.name(world, &edge.after)?;
-        page.text(", by ")?;
-        page.name(world, &edge.by)?;
+        page.entry("  the circle          ", place);
+        page.name(world, &edge.before);
+        page.text(" before ");
+        page.name(world, &edge.after);
+        page.text(", by ");
+        page.name(world, &edge.by);
     }
-    Ok(())
 }

@@ -7,40 +7,30 @@ use lisp_data::{ClassId, Datum, Name, Value};
 use std::alloc::{AllocError, Global};
 
 /// Asks for the class that was meant.
-pub fn undefined(
-    alloc: Global,
-    page: &mut Page,
-    world: &World,
-    value: &Value,
-) -> Result<(), AllocError> {
-    page.text("no class is called ")?;
-    page.value(world, value)?;
+pub fn undefined(alloc: Global, page: &mut Page, world: &World, value: &Value) {
+    page.text("no class is called ");
+    page.value(world, value);
     let Some(name) = symbol(value) else {
-        return Ok(());
+        return;
     };
     let mut nearest = Nearest::new(alloc, name.as_str());
     for number in 0..u64::MAX {
         let Some(other) = world.classes().hierarchy().name(ClassId(number)) else {
             break;
         };
-        nearest.offer(alloc, other.as_str())?;
+        nearest.offer(other.as_str());
     }
-    nearest.ask(page)
+    nearest.ask(page);
 }
 
 /// Tells which superclass can't be one.
-pub fn invalid_superclass(
-    page: &mut Page,
-    world: &World,
-    below: &Value,
-    above: &Value,
-) -> Result<(), AllocError> {
-    page.value(world, below)?;
-    page.text(" can't be below ")?;
-    page.value(world, above)?;
+pub fn invalid_superclass(page: &mut Page, world: &World, below: &Value, above: &Value) {
+    page.value(world, below);
+    page.text(" can't be below ");
+    page.value(world, above);
     page.text(
         ", which the system defines: superclasses are STANDARD-OBJECT and classes of defclass",
-    )
+    );
 }
 
 /// Tells which classes would have to come before each other.
@@ -50,13 +40,12 @@ pub fn inconsistent_precedence(
     world: &World,
     form: &Datum,
     value: &Value,
-) -> Result<(), AllocError> {
-    page.text("the classes above ")?;
-    page.value(world, value)?;
-    page.text(" can't stand in one order")?;
-    match symbol(value) {
-        None => Ok(()),
-        Some(name) => circle::inconsistent_precedence(alloc, page, world, form, name),
+) {
+    page.text("the classes above ");
+    page.value(world, value);
+    page.text(" can't stand in one order");
+    if let Some(name) = symbol(value) {
+        circle::inconsistent_precedence(alloc, page, world, form, name);
     }
 }
 
@@ -67,10 +56,10 @@ pub fn superclass_cycle(
     world: &World,
     form: &Datum,
     value: &Value,
-) -> Result<(), AllocError> {
-    page.value(world, value)?;
-    page.text(" would be above itself")?;
-    circle::superclass_cycle(alloc, page, world, form)
+) {
+    page.value(world, value);
+    page.text(" would be above itself");
+    circle::superclass_cycle(alloc, page, world, form);
 }
 
 /// Whether this class is among them.
@@ -89,8 +78,8 @@ fn missing_rows(
     for name in names {
         match world.classes().hierarchy().named(name) {
             None => {
-                page.entry("  not defined         ", *count)?;
-                page.name(world, name)?;
+                page.entry("  not defined         ", *count);
+                page.name(world, name);
                 *count = count.saturating_add(1);
             }
             Some(above) => {
@@ -104,20 +93,14 @@ fn missing_rows(
 }
 
 /// Tells which classes above this one are not defined.
-pub fn incomplete_class(
+fn missing(
     alloc: Global,
     page: &mut Page,
     world: &World,
-    value: &Value,
+    class: ClassId,
 ) -> Result<(), AllocError> {
-    page.text("a class above ")?;
-    page.value(world, value)?;
-    page.text(" is not defined")?;
-    let Some(found) = class(world, value) else {
-        return Ok(());
-    };
     let mut seen = Vec::new(alloc);
-    seen.push(found)?;
+    seen.push(class)?;
     let mut count = 0;
     for place in 0..usize::MAX {
         let Some(next) = seen.get(place).copied() else {
@@ -127,4 +110,16 @@ pub fn incomplete_class(
         missing_rows(page, world, names, &mut seen, &mut count)?;
     }
     Ok(())
+}
+
+/// Tells why a class is not complete.
+pub fn incomplete_class(alloc: Global, page: &mut Page, world: &World, value: &Value) {
+    page.text("a class above ");
+    page.value(world, value);
+    page.text(" is not defined");
+    if let Some(found) = class(world, value) {
+        if missing(alloc, page, world, found).is_err() {
+            page.fail();
+        }
+    }
 }

@@ -8,36 +8,30 @@ use lisp_data::{Datum, Name, Value};
 use std::alloc::{AllocError, Global};
 
 /// The dependents that the session was handed.
-fn unknown_dependent(page: &mut Page, world: &World, name: &Value) -> Result<(), AllocError> {
+fn unknown_dependent(page: &mut Page, world: &World, name: &Value) {
     const LABEL: &str = "  dependents          ";
-    page.text("the session was handed no dependent ")?;
-    page.value(world, name)?;
+    page.text("the session was handed no dependent ");
+    page.value(world, name);
     let names: &[Name] = world.hearing.names.as_slice();
     for (place, other) in names.iter().enumerate() {
-        page.entry(LABEL, place)?;
-        page.name(world, other)?;
+        page.entry(LABEL, place);
+        page.name(world, other);
     }
-    page.none(LABEL, names.len())
+    page.none(LABEL, names.len());
 }
 
 /// A sentence about one value.
-fn about(
-    page: &mut Page,
-    world: &World,
-    before: &str,
-    value: &Value,
-    after: &str,
-) -> Result<(), AllocError> {
-    page.text(before)?;
-    page.value(world, value)?;
-    page.text(after)
+fn about(page: &mut Page, world: &World, before: &str, value: &Value, after: &str) {
+    page.text(before);
+    page.value(world, value);
+    page.text(after);
 }
 
 /// Tells of which class a value is that is of a wrong type.
-fn wrong_type(page: &mut Page, world: &World, value: &Value) -> Result<(), AllocError> {
-    about(page, world, "", value, ", of class ")?;
-    page.class(world, world.class_of_value(value))?;
-    page.text(", is of a wrong type here")
+fn wrong_type(page: &mut Page, world: &World, value: &Value) {
+    about(page, world, "", value, ", of class ");
+    page.class(world, world.class_of_value(value));
+    page.text(", is of a wrong type here");
 }
 
 /// Tells whether the form by itself is refused, or what its parts meet where they are evaluated. Answers where that stands in it.
@@ -58,7 +52,7 @@ fn program_error(
     }
     page.text(
         "a name may not be defined so, or a call has arguments that its function does not take",
-    )?;
+    );
     Ok(Vec::new(alloc))
 }
 
@@ -72,9 +66,9 @@ fn explain(
     first: &Value,
     second: &Value,
     rest: &[Value],
-) -> Result<(), AllocError> {
+) {
     match kind {
-        ConditionKind::ProgramError => Ok(()),
+        ConditionKind::ProgramError => {}
         ConditionKind::UnboundVariable => functions::unbound_variable(alloc, page, world, first),
         ConditionKind::UndefinedFunction => functions::undefined_function(
             alloc, page, world, first,
@@ -155,8 +149,8 @@ pub fn explanation(
     let rest = items.get(1..).unwrap_or(&[]);
     let second = rest.first().unwrap_or(&none);
     let mut page = Page::new(alloc);
-    page.text(condition.kind.name())?;
-    page.text(": ")?;
+    page.text(condition.kind.name());
+    page.text(": ");
     let path = if let ConditionKind::ProgramError = condition.kind {
         program_error(alloc, &mut page, world, form)?
     } else {
@@ -169,7 +163,7 @@ pub fn explanation(
             first,
             second,
             rest,
-        )?;
+        );
         pointed(alloc, condition.kind, form, first)?
     };
     Ok(Explained {
@@ -181,7 +175,7 @@ pub fn explanation(
 /// What is told of a name that no class has.
 pub fn no_class(alloc: Global, world: &World, name: &Name) -> Result<Vec<u8>, AllocError> {
     let mut page = Page::new(alloc);
-    page.text("; ")?;
-    classes::undefined(alloc, &mut page, world, &Value::Sym(name.copy()?))?;
+    page.text("; ");
+    classes::undefined(alloc, &mut page, world, &Value::Sym(name.copy()?));
     page.end()
 }

@@ -7,23 +7,18 @@ use clos_top::{Top, parse_top};
 use lisp_data::{Datum, Value};
 use std::alloc::{AllocError, Global};
 
-/// What arguments the lambda list of a definition takes.
-fn defined_row(
-    alloc: Global,
-    page: &mut Page,
-    world: &World,
-    form: &Datum,
-) -> Result<(), AllocError> {
+/// What arguments the lambda list of a definition takes, after the label of its row.
+fn defined_shape(alloc: Global, form: &Datum) -> Result<Option<(&'static str, Shape)>, AllocError> {
     match parse_top(alloc, form) {
-        Ok(Top::DefMethod(_, method)) => {
-            let shape = Shape::of(alloc, &method.lambda_list)?;
-            shape_row(page, world, "  of the method       ", &shape)
-        }
-        Ok(Top::DefGeneric(function)) => {
-            let shape = Shape::of(alloc, &function.lambda_list)?;
-            shape_row(page, world, "  of its defgeneric   ", &shape)
-        }
-        _ => Ok(()),
+        Ok(Top::DefMethod(_, method)) => Ok(Some((
+            "  of the method       ",
+            Shape::of(alloc, &method.lambda_list)?,
+        ))),
+        Ok(Top::DefGeneric(function)) => Ok(Some((
+            "  of its defgeneric   ",
+            Shape::of(alloc, &function.lambda_list)?,
+        ))),
+        _ => Ok(None),
     }
 }
 
@@ -34,13 +29,17 @@ pub fn not_congruent(
     world: &World,
     form: &Datum,
     function: &Value,
-) -> Result<(), AllocError> {
-    page.text("the lambda lists of ")?;
-    page.value(world, function)?;
-    page.text(" and of a method of it are not congruent")?;
+) {
+    page.text("the lambda lists of ");
+    page.value(world, function);
+    page.text(" and of a method of it are not congruent");
     if let Some(id) = generic(world, function) {
-        lambda_list_row(page, world, id)?;
+        lambda_list_row(page, world, id);
     }
-    defined_row(alloc, page, world, form)?;
-    its_methods(page, world, function)
+    match defined_shape(alloc, form) {
+        Ok(Some((label, shape))) => shape_row(page, world, label, &shape),
+        Ok(None) => {}
+        Err(_) => page.fail(),
+    }
+    its_methods(page, world, function);
 }

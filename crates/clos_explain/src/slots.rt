@@ -3,107 +3,83 @@ use crate::nearest::Nearest;
 use crate::subject::{class, symbol};
 use clos_look::{Page, World};
 use lisp_data::{ClassId, Name, Value};
-use std::alloc::{AllocError, Global};
+use std::alloc::Global;
 
 /// Tells which initargs fill a slot.
-pub fn unbound(
-    page: &mut Page,
-    world: &World,
-    slot: &Value,
-    instance: &Value,
-) -> Result<(), AllocError> {
-    page.text("the slot ")?;
-    page.value(world, slot)?;
-    page.text(" of ")?;
-    page.value(world, instance)?;
-    page.text(" has no value")?;
+pub fn unbound(page: &mut Page, world: &World, slot: &Value, instance: &Value) {
+    page.text("the slot ");
+    page.value(world, slot);
+    page.text(" of ");
+    page.value(world, instance);
+    page.text(" has no value");
     let Some(name) = symbol(slot) else {
-        return Ok(());
+        return;
     };
     let mut word = "; it is filled by ";
     for initarg in world
         .classes()
         .initargs(world.class_of_value(instance), name)
     {
-        page.text(word)?;
-        page.name(world, initarg)?;
+        page.text(word);
+        page.name(world, initarg);
         word = " or ";
     }
-    Ok(())
 }
 
 /// Asks for the slot that was meant, and tells which there are.
-pub fn missing(
-    alloc: Global,
-    page: &mut Page,
-    world: &World,
-    slot: &Value,
-    instance: &Value,
-) -> Result<(), AllocError> {
-    page.value(world, instance)?;
-    page.text(" has no slot ")?;
-    page.value(world, slot)?;
+pub fn missing(alloc: Global, page: &mut Page, world: &World, slot: &Value, instance: &Value) {
+    page.value(world, instance);
+    page.text(" has no slot ");
+    page.value(world, slot);
     let Some(effective) = world.classes().effective(world.class_of_value(instance)) else {
-        return Ok(());
+        return;
     };
     if let Some(name) = symbol(slot) {
         let mut nearest = Nearest::new(alloc, name.as_str());
         for other in effective.slots() {
-            nearest.offer(alloc, other.name.as_str())?;
+            nearest.offer(other.name.as_str());
         }
-        nearest.ask(page)?;
+        nearest.ask(page);
     }
     for (place, other) in effective.slots().iter().enumerate() {
-        page.entry("  slots               ", place)?;
-        page.name(world, &other.name)?;
+        page.entry("  slots               ", place);
+        page.name(world, &other.name);
     }
-    Ok(())
 }
 
 /// The initargs of all slots of a class.
-fn initarg_rows(page: &mut Page, world: &World, found: ClassId) -> Result<(), AllocError> {
+fn initarg_rows(page: &mut Page, world: &World, found: ClassId) {
     const LABEL: &str = "  initargs of slots   ";
     let mut count = 0;
     if let Some(effective) = world.classes().effective(found) {
         for slot in effective.slots() {
             for initarg in slot.initargs.as_slice() {
-                page.entry(LABEL, count)?;
-                page.name(world, initarg)?;
+                page.entry(LABEL, count);
+                page.name(world, initarg);
                 count = count.saturating_add(1);
             }
         }
     }
-    page.none(LABEL, count)
+    page.none(LABEL, count);
 }
 
 /// Offers the initargs of all slots of a class.
-fn with_initargs<'a>(
-    alloc: Global,
-    world: &'a World,
-    found: ClassId,
-    mut nearest: Nearest<'a>,
-) -> Result<Nearest<'a>, AllocError> {
+fn with_initargs<'a>(world: &'a World, found: ClassId, mut nearest: Nearest<'a>) -> Nearest<'a> {
     let Some(effective) = world.classes().effective(found) else {
-        return Ok(nearest);
+        return nearest;
     };
     for slot in effective.slots() {
         for initarg in slot.initargs.as_slice() {
-            nearest.offer(alloc, initarg.as_str())?;
+            nearest.offer(initarg.as_str());
         }
     }
-    Ok(nearest)
+    nearest
 }
 
 /// Asks for the initarg that was meant.
-fn ask_initarg(
-    alloc: Global,
-    page: &mut Page,
-    world: &World,
-    found: ClassId,
-    name: &Name,
-) -> Result<(), AllocError> {
-    let nearest = with_initargs(alloc, world, found, Nearest::new(alloc, name.as_str()))?;
-    nearest.ask_after(page, if name.is_keyword() { ":" } else { "" })
+fn ask_initarg(alloc: Global, page: &mut Page, world: &World, found: ClassId, name: &Name) {
+    let nearest = with_initargs(world, found, Nearest::new(alloc, name.as_str()));
+    nearest.ask_after(page, if name.is_keyword() { ":" } else { "" });
 }
 
 /// Tells which initargs fill slots.
@@ -113,16 +89,16 @@ pub fn invalid_initarg(
     world: &World,
     initarg: &Value,
     value: &Value,
-) -> Result<(), AllocError> {
-    page.value(world, initarg)?;
-    page.text(" fills no slot of ")?;
-    page.value(world, value)?;
-    page.text(", and no method takes it")?;
+) {
+    page.value(world, initarg);
+    page.text(" fills no slot of ");
+    page.value(world, value);
+    page.text(", and no method takes it");
     let Some(found) = class(world, value) else {
-        return Ok(());
+        return;
     };
     if let Some(name) = symbol(initarg) {
-        ask_initarg(alloc, page, world, found, name)?;
+        ask_initarg(alloc, page, world, found, name);
     }
-    initarg_rows(page, world, found)
+    initarg_rows(page, world, found);
 }

@@ -6,26 +6,26 @@ use std::alloc::{AllocError, Global};
 
 /// The generic function of a kept call, and what is known of its arguments: the class of each, or the object that an eql specializer
 /// names.
-fn call(page: &mut Page, world: &World, key: &Key) -> Result<(), AllocError> {
-    page.text("(")?;
-    page.function(world, key.generic())?;
+fn call(page: &mut Page, world: &World, key: &Key) {
+    page.text("(");
+    page.function(world, key.generic());
     for argument in key.arguments() {
-        page.text(" ")?;
+        page.text(" ");
         match &argument.object {
-            None => page.class(world, argument.class)?,
+            None => page.class(world, argument.class),
             Some(object) => {
-                page.text("(EQL ")?;
-                page.value(world, object)?;
-                page.text(")")?;
+                page.text("(EQL ");
+                page.value(world, object);
+                page.text(")");
             }
         }
     }
-    page.text(")")?;
+    page.text(")");
     let Some(found) = world.cache.find(key) else {
-        return Ok(());
+        return;
     };
-    page.text(": ")?;
-    page.count(found.methods.len() as u64, "method", "methods")
+    page.text(": ");
+    page.count(found.methods.len() as u64, "method", "methods");
 }
 
 /// What is shown of the calls whose effective methods are kept: how many effective methods were built since the session began, and
@@ -37,16 +37,16 @@ pub fn cache_page(alloc: Global, world: &World) -> Result<Vec<u8>, AllocError> {
         world.meter.count(),
         "effective method was built",
         "effective methods were built",
-    )?;
+    );
     let mut count = 0;
     for place in 0..usize::MAX {
         let Some(key) = world.cache.key(place) else {
             break;
         };
-        page.entry(LABEL, count)?;
-        call(&mut page, world, key)?;
+        page.entry(LABEL, count);
+        call(&mut page, world, key);
         count = count.saturating_add(1);
     }
-    page.none(LABEL, count)?;
+    page.none(LABEL, count);
     page.end()
 }

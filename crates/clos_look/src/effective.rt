@@ -51,17 +51,17 @@ fn other_name(operator: &Operator) -> &'static str {
     }
 }
 
-/// Adds a constant, quoted where it would be evaluated.
-fn push_constant(page: &mut Page, world: &World, value: &Value) -> Result<(), AllocError> {
+/// Writes a constant, quoted where it would be evaluated.
+fn write_constant(page: &mut Page, world: &World, value: &Value) {
     let is_quoted = match value {
         Value::Sym(name) => !name.is_keyword() && name.as_str() != "T",
         Value::List(items) => items.split_first().is_some(),
         _ => false,
     };
     if is_quoted {
-        page.text("'")?;
+        page.text("'");
     }
-    page.value(world, value)
+    page.value(world, value);
 }
 
 /// Adds the parts of a form, each after a space, and its end.
@@ -146,43 +146,45 @@ fn begin(
     pieces: &mut Vec<Piece>,
 ) -> Result<(), AllocError> {
     match form.operator() {
-        Operator::Constant(value) => push_constant(page, world, value),
+        Operator::Constant(value) => write_constant(page, world, value),
         Operator::Variable(variable) => page.name(world, variable.name()),
-        Operator::Call(called) => begin_call(page, world, called.name(), form.parts(), pieces),
+        Operator::Call(called) => {
+            page.text("(");
+            page.name(world, called.name());
+            push_parts(pieces, form.parts())?;
+        }
         Operator::CallMethod(called, next) => {
-            page.text("(CALL-METHOD")?;
-            push_call_method(pieces, *called, next, form.parts())
+            page.text("(CALL-METHOD");
+            push_call_method(pieces, *called, next, form.parts())?;
         }
         Operator::Clause => {
-            page.text("(")?;
-            push_clause(pieces, form.parts())
+            page.text("(");
+            push_clause(pieces, form.parts())?;
         }
-        operator => match plain_name(operator) {
-            Some(name) => {
-                page.text("(")?;
-                page.text(name)?;
-                push_parts(pieces, form.parts())
-            }
-            None => {
-                page.text("(")?;
-                page.text(other_name(operator))?;
-                page.text(" ..)")
-            }
-        },
+        operator => begin_other(page, operator, form.parts(), pieces)?,
     }
+    Ok(())
 }
 
-/// Writes the beginning of a call.
-fn begin_call(
+/// Writes the beginning of a form of an operator by its name, where its parts alone follow it, and else the whole form.
+fn begin_other(
     page: &mut Page,
-    world: &World,
-    name: &Name,
+    operator: &Operator,
     parts: &Forms,
     pieces: &mut Vec<Piece>,
 ) -> Result<(), AllocError> {
-    page.text("(")?;
-    page.name(world, name)?;
-    push_parts(pieces, parts)
+    page.text("(");
+    match plain_name(operator) {
+        Some(name) => {
+            page.text(name);
+            push_parts(pieces, parts)
+        }
+        None => {
+            page.text(other_name(operator));
+            page.text(" ..)");
+            Ok(())
+        }
+    }
 }
 
 /// Writes a piece, and gives those that follow from it, in order.
@@ -195,17 +197,17 @@ fn write(
     let mut pieces = Vec::new(alloc);
     match piece {
         Piece::Form(form) => begin(page, world, form, &mut pieces)?,
-        Piece::Method(id) => page.value(world, &Value::Method(*id))?,
-        Piece::MakeMethod => page.text("(MAKE-METHOD ")?,
-        Piece::Open => page.text("(")?,
-        Piece::Close => page.text(")")?,
-        Piece::Space => page.text(" ")?,
+        Piece::Method(id) => page.value(world, &Value::Method(*id)),
+        Piece::MakeMethod => page.text("(MAKE-METHOD "),
+        Piece::Open => page.text("("),
+        Piece::Close => page.text(")"),
+        Piece::Space => page.text(" "),
     }
     Ok(pieces)
 }
 
-/// Adds the form of an effective method. Of a form that binds or sets variables the operator alone is written.
-pub fn push_form(
+/// Writes the form of an effective method. Of a form that binds or sets variables the operator alone is written.
+fn write_form(
     alloc: Global,
     page: &mut Page,
     world: &World,
@@ -222,5 +224,13 @@ pub fn push_form(
         pieces.reverse();
         left.append(&mut pieces)?;
     }
-    page.text(" ..")
+    page.text(" ..");
+    Ok(())
+}
+
+/// Adds the form of an effective method.
+pub fn push_form(alloc: Global, page: &mut Page, world: &World, form: &Form) {
+    if write_form(alloc, page, world, form).is_err() {
+        page.fail();
+    }
 }

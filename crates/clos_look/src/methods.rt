@@ -14,17 +14,13 @@ fn is_same(first: Specializer<'_>, second: Specializer<'_>) -> bool {
     }
 }
 
-fn specializer(
-    page: &mut Page,
-    world: &World,
-    specializer: Specializer<'_>,
-) -> Result<(), AllocError> {
+fn specializer(page: &mut Page, world: &World, specializer: Specializer<'_>) {
     match specializer {
         Specializer::Class(class) => page.class(world, class),
         Specializer::Eql(object) => {
-            page.text("(EQL ")?;
-            page.value(world, object)?;
-            page.text(")")
+            page.text("(EQL ");
+            page.value(world, object);
+            page.text(")");
         }
     }
 }
@@ -37,10 +33,10 @@ fn reason(
     precedence: &[usize],
     earlier: MethodId,
     later: MethodId,
-) -> Result<(), AllocError> {
+) {
     let (Some(first), Some(second)) = (world.generics.method(earlier), world.generics.method(later))
     else {
-        return Ok(());
+        return;
     };
     for place in precedence {
         let told = (
@@ -49,75 +45,59 @@ fn reason(
         );
         if let (Some(one), Some(other)) = told {
             if !is_same(one, other) {
-                page.text(", since ")?;
-                specializer(page, world, one)?;
-                page.text(" comes before ")?;
-                specializer(page, world, other)?;
-                page.text(" for argument ")?;
+                page.text(", since ");
+                specializer(page, world, one);
+                page.text(" comes before ");
+                specializer(page, world, other);
+                page.text(" for argument ");
                 return page.number((*place as u64).saturating_add(1));
             }
         }
     }
-    page.text(", of the same specializers")
+    page.text(", of the same specializers");
 }
 
-fn fitting_rows(
-    page: &mut Page,
-    world: &World,
-    precedence: &[usize],
-    methods: &[MethodId],
-) -> Result<(), AllocError> {
+fn fitting_rows(page: &mut Page, world: &World, precedence: &[usize], methods: &[MethodId]) {
     const LABEL: &str = "  methods that fit    ";
     let mut before: Option<MethodId> = None;
     for (place, method) in methods.iter().enumerate() {
-        page.entry(LABEL, place)?;
-        page.value(world, &Value::Method(*method))?;
+        page.entry(LABEL, place);
+        page.value(world, &Value::Method(*method));
         if let Some(earlier) = before {
-            reason(page, world, precedence, earlier, *method)?;
+            reason(page, world, precedence, earlier, *method);
         }
         before = Some(*method);
     }
-    page.none(LABEL, methods.len())
+    page.none(LABEL, methods.len());
 }
 
-fn other_rows(
-    page: &mut Page,
-    world: &World,
-    all: &[MethodId],
-    fitting: &[MethodId],
-) -> Result<(), AllocError> {
+fn other_rows(page: &mut Page, world: &World, all: &[MethodId], fitting: &[MethodId]) {
     let mut count = 0;
     for method in all {
         if !fitting.iter().any(|other| other.0 == method.0) {
-            page.entry("  others              ", count)?;
-            page.value(world, &Value::Method(*method))?;
+            page.entry("  others              ", count);
+            page.value(world, &Value::Method(*method));
             count = count.saturating_add(1);
         }
     }
-    Ok(())
 }
 
-fn class_row(page: &mut Page, world: &World, values: &[Value]) -> Result<(), AllocError> {
-    page.entry("  classes             ", 0)?;
+fn class_row(page: &mut Page, world: &World, values: &[Value]) {
+    page.entry("  classes             ", 0);
     let mut word = "";
     for value in values {
-        page.text(word)?;
-        page.class(world, world.class_of_value(value))?;
+        page.text(word);
+        page.class(world, world.class_of_value(value));
         word = " ";
     }
-    Ok(())
 }
 
 /// The form into which the methods are combined, where it is kept.
-fn effective_row(
-    alloc: Global,
-    page: &mut Page,
-    world: &World,
-    id: GenericId,
-    values: &[Value],
-) -> Result<(), AllocError> {
-    page.entry("  effective method    ", 0)?;
-    let key = world.key_of(alloc, id, values)?;
+fn effective_row(alloc: Global, page: &mut Page, world: &World, id: GenericId, values: &[Value]) {
+    page.entry("  effective method    ", 0);
+    let Ok(key) = world.key_of(alloc, id, values) else {
+        return page.fail();
+    };
     match world.cache.find(&key) {
         None => page.text("not built yet"),
         Some(found) => match &found.outcome {
@@ -137,20 +117,20 @@ pub fn methods_page(
     values: &[Value],
 ) -> Result<Vec<u8>, AllocError> {
     let mut page = Page::new(alloc);
-    page.value(world, &Value::Generic(id))?;
+    page.value(world, &Value::Generic(id));
     let Some(function) = world.generics.function(id) else {
         return page.end();
     };
     if (values.len() as u64) < function.shape().required {
-        page.text(" takes ")?;
-        page.count(function.shape().required, "argument", "arguments")?;
-        page.text(" or more")?;
+        page.text(" takes ");
+        page.count(function.shape().required, "argument", "arguments");
+        page.text(" or more");
         return page.end();
     }
-    class_row(&mut page, world, values)?;
+    class_row(&mut page, world, values);
     let fitting = world.ordered(alloc, id, values)?;
-    fitting_rows(&mut page, world, function.precedence(), fitting.as_slice())?;
-    other_rows(&mut page, world, function.methods(), fitting.as_slice())?;
-    effective_row(alloc, &mut page, world, id, values)?;
+    fitting_rows(&mut page, world, function.precedence(), fitting.as_slice());
+    other_rows(&mut page, world, function.methods(), fitting.as_slice());
+    effective_row(alloc, &mut page, world, id, values);
     page.end()
 }

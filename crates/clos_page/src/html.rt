@@ -7,11 +7,12 @@ pub fn length(count: usize) -> i64 {
     i64::try_from(count).unwrap_or(i64::MAX)
 }
 
-/// Text of HTML.
+/// Text of HTML. Once memory runs out nothing more is added, and there is no text at the end.
 #[derive(Drop)]
 pub struct Html {
     alloc: Global,
     text: Vec<u8>,
+    failed: bool,
 }
 
 /// What stands for a byte that has a meaning in HTML.
@@ -30,6 +31,7 @@ impl Html {
         Html {
             alloc,
             text: Vec::new(alloc),
+            failed: false,
         }
     }
 
@@ -38,41 +40,51 @@ impl Html {
     }
 
     /// Adds HTML.
-    pub fn raw(&mut self, html: &str) -> Result<(), AllocError> {
-        self.text.extend_from_slice(html.as_bytes())
+    pub fn raw(&mut self, html: &str) {
+        if !self.failed {
+            self.failed = self.text.extend_from_slice(html.as_bytes()).is_err();
+        }
     }
 
-    pub fn number(&mut self, number: i64) -> Result<(), AllocError> {
-        self.raw(Buffer::new().format(number))
+    pub fn number(&mut self, number: i64) {
+        self.raw(Buffer::new().format(number));
     }
 
     /// Adds the number of a class or a function.
-    pub fn id(&mut self, number: u64) -> Result<(), AllocError> {
-        self.raw(Buffer::new().format(number))
+    pub fn id(&mut self, number: u64) {
+        self.raw(Buffer::new().format(number));
+    }
+
+    fn byte(&mut self, byte: u8) {
+        if !self.failed {
+            self.failed = self.text.push(byte).is_err();
+        }
     }
 
     /// Adds text, which means itself.
-    pub fn text(&mut self, text: &[u8]) -> Result<(), AllocError> {
+    pub fn text(&mut self, text: &[u8]) {
         for byte in text {
             match escape(*byte) {
-                None => self.text.push(*byte)?,
-                Some(html) => self.raw(html)?,
+                None => self.byte(*byte),
+                Some(html) => self.raw(html),
             }
         }
-        Ok(())
     }
 
     /// Adds an attribute with a number.
-    pub fn attribute(&mut self, name: &str, number: i64) -> Result<(), AllocError> {
-        self.raw(" ")?;
-        self.raw(name)?;
-        self.raw("=\"")?;
-        self.number(number)?;
-        self.raw("\"")
+    pub fn attribute(&mut self, name: &str, number: i64) {
+        self.raw(" ");
+        self.raw(name);
+        self.raw("=\"");
+        self.number(number);
+        self.raw("\"");
     }
 
     /// What is written.
-    pub fn end(self) -> Vec<u8> {
-        self.text
+    pub fn end(self) -> Result<Vec<u8>, AllocError> {
+        if self.failed {
+            return Err(AllocError);
+        }
+        Ok(self.text)
     }
 }

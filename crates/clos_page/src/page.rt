@@ -59,68 +59,69 @@ fn is_of_program(world: &World, id: GenericId) -> bool {
 }
 
 /// Adds text in lines as they stand.
-fn lines(html: &mut Html, text: &[u8]) -> Result<(), AllocError> {
-    html.raw("<pre>")?;
-    html.text(text)?;
-    html.raw("</pre></section>\n")
+fn lines(html: &mut Html, text: &[u8]) {
+    html.raw("<pre>");
+    html.text(text);
+    html.raw("</pre></section>\n");
 }
 
-fn heading(html: &mut Html, id: &str, text: &str) -> Result<(), AllocError> {
-    html.raw("<h2 id=\"")?;
-    html.raw(id)?;
-    html.raw("\">")?;
-    html.raw(text)?;
-    html.raw("</h2>\n")
+fn heading(html: &mut Html, id: &str, text: &str) {
+    html.raw("<h2 id=\"");
+    html.raw(id);
+    html.raw("\">");
+    html.raw(text);
+    html.raw("</h2>\n");
 }
 
 /// The classes, as a picture and in text.
 fn classes(html: &mut Html, world: &World) -> Result<(), AllocError> {
     let alloc = html.alloc();
-    heading(html, "classes", "Classes")?;
+    heading(html, "classes", "Classes");
     html.raw(
         "<p>Each class stands right of its direct superclasses, with its class precedence list for whoever points at it.</p>\n<figure>\n",
-    )?;
+    );
     picture(html, world)?;
-    html.raw("</figure>\n<div class=\"texts\">\n")?;
+    html.raw("</figure>\n<div class=\"texts\">\n");
     for class in class_graph(alloc, world)?.classes.iter() {
-        html.raw("<section id=\"class-")?;
-        html.id(class.0)?;
-        html.raw("\">")?;
-        lines(html, class_page(alloc, world, *class)?.as_slice())?;
+        html.raw("<section id=\"class-");
+        html.id(class.0);
+        html.raw("\">");
+        lines(html, class_page(alloc, world, *class)?.as_slice());
     }
-    html.raw("</div>\n")
+    html.raw("</div>\n");
+    Ok(())
 }
 
 /// The program's generic functions, with their methods.
 fn functions(html: &mut Html, world: &World) -> Result<(), AllocError> {
     let alloc = html.alloc();
-    heading(html, "functions", "Generic functions")?;
-    html.raw("<div class=\"texts\">\n")?;
+    heading(html, "functions", "Generic functions");
+    html.raw("<div class=\"texts\">\n");
     for number in 0..world.generics.function_count() {
         let id = GenericId(number);
         if is_of_program(world, id) {
-            html.raw("<section id=\"function-")?;
-            html.id(number)?;
-            html.raw("\">")?;
-            lines(html, generic_page(alloc, world, id)?.as_slice())?;
+            html.raw("<section id=\"function-");
+            html.id(number);
+            html.raw("\">");
+            lines(html, generic_page(alloc, world, id)?.as_slice());
         }
     }
-    html.raw("</div>\n")
+    html.raw("</div>\n");
+    Ok(())
 }
 
 /// The calls, each with the methods that fit it.
-fn all_calls(html: &mut Html, calls: &[Call]) -> Result<(), AllocError> {
-    heading(html, "calls", "Calls")?;
+fn all_calls(html: &mut Html, calls: &[Call]) {
+    heading(html, "calls", "Calls");
     if calls.is_empty() {
-        html.raw("<p>The last forms call no generic function.</p>\n")?;
+        html.raw("<p>The last forms call no generic function.</p>\n");
     }
     for call in calls {
-        html.raw("<section><h3><code>")?;
-        html.text(call.form.as_slice())?;
-        html.raw("</code></h3>")?;
-        lines(html, call.shown.as_slice())?;
+        html.raw("<section><h3><code>");
+        html.text(call.form.as_slice());
+        html.raw("</code></h3>");
+        lines(html, call.shown.as_slice());
     }
-    Ok(())
 }
 
 /// A page that stands alone, without scripts: the graph of the program's classes, with their class precedence lists in text and for
@@ -132,17 +133,17 @@ pub fn html_page(
     calls: &[Call],
 ) -> Result<Vec<u8>, AllocError> {
     let mut html = Html::new(alloc);
-    html.raw(HEAD)?;
-    html.text(title)?;
-    html.raw(STYLE)?;
-    html.raw("<h1>")?;
-    html.text(title)?;
+    html.raw(HEAD);
+    html.text(title);
+    html.raw(STYLE);
+    html.raw("<h1>");
+    html.text(title);
     html.raw(
         "</h1>\n<nav><a href=\"#classes\">Classes</a><a href=\"#functions\">Generic functions</a><a href=\"#calls\">Calls</a></nav>\n",
-    )?;
+    );
     classes(&mut html, world)?;
     functions(&mut html, world)?;
-    all_calls(&mut html, calls)?;
-    html.raw("</body>\n</html>\n")?;
-    Ok(html.end())
+    all_calls(&mut html, calls);
+    html.raw("</body>\n</html>\n");
+    html.end()
 }

@@ -121,9 +121,9 @@ impl Layout {
 }
 
 /// Draws a curve from one point to another, level at both ends.
-fn curve(html: &mut Html, from: (i64, i64), to: (i64, i64)) -> Result<(), AllocError> {
+fn curve(html: &mut Html, from: (i64, i64), to: (i64, i64)) {
     let half = COLUMN_GAP / 2;
-    html.raw(" C")?;
+    html.raw(" C");
     for number in [
         from.0.saturating_add(half),
         from.1,
@@ -132,54 +132,54 @@ fn curve(html: &mut Html, from: (i64, i64), to: (i64, i64)) -> Result<(), AllocE
         to.0,
         to.1,
     ] {
-        html.raw(" ")?;
-        html.number(number)?;
+        html.raw(" ");
+        html.number(number);
     }
-    Ok(())
 }
 
 /// Draws an edge from a class, whose box is so wide, by its route.
-fn edge(html: &mut Html, layout: &Layout, route: &[usize], width: i64) -> Result<(), AllocError> {
+fn edge(html: &mut Html, layout: &Layout, route: &[usize], width: i64) {
     let Some((first, rest)) = route.split_first() else {
-        return Ok(());
+        return;
     };
     let mut from = (
         layout.sides(*first).0.saturating_add(width),
         layout.middle(*first),
     );
-    html.raw("<path d=\"M")?;
-    html.number(from.0)?;
-    html.raw(" ")?;
-    html.number(from.1)?;
+    html.raw("<path d=\"M");
+    html.number(from.0);
+    html.raw(" ");
+    html.number(from.1);
     let column_end = layout.sides(*first).1;
     if from.0 < column_end {
-        html.raw(" H ")?;
-        html.number(column_end)?;
+        html.raw(" H ");
+        html.number(column_end);
         from.0 = column_end;
     }
     for (place, vertex) in rest.iter().enumerate() {
         let (left, right) = layout.sides(*vertex);
         let height = layout.middle(*vertex);
-        curve(html, from, (left, height))?;
+        curve(html, from, (left, height));
         from = (right, height);
         if place.saturating_add(1) < rest.len() {
-            html.raw(" H ")?;
-            html.number(right)?;
+            html.raw(" H ");
+            html.number(right);
         }
     }
-    html.raw("\"/>\n")
+    html.raw("\"/>\n");
 }
 
 /// Adds the names of a class precedence list.
 fn precedence(html: &mut Html, world: &World, class: ClassId) -> Result<(), AllocError> {
     let list = world.classes().hierarchy().precedence_or_none(class);
     if list.is_empty() {
-        return html.raw(": a class above it is not defined");
+        html.raw(": a class above it is not defined");
+        return Ok(());
     }
     let mut word = ": ";
     for above in list {
-        html.raw(word)?;
-        html.text(class_name(html.alloc(), world, *above)?.as_slice())?;
+        html.raw(word);
+        html.text(class_name(html.alloc(), world, *above)?.as_slice());
         word = " ";
     }
     Ok(())
@@ -194,22 +194,23 @@ fn class_box(
     middle: i64,
 ) -> Result<(), AllocError> {
     let name = class_name(html.alloc(), world, class)?;
-    html.raw("<a href=\"#class-")?;
-    html.id(class.0)?;
-    html.raw("\"><title>")?;
-    html.text(name.as_slice())?;
+    html.raw("<a href=\"#class-");
+    html.id(class.0);
+    html.raw("\"><title>");
+    html.text(name.as_slice());
     precedence(html, world, class)?;
-    html.raw("</title><rect")?;
-    html.attribute("x", left)?;
-    html.attribute("y", middle.saturating_sub(BOX / 2))?;
-    html.attribute("width", box_width(name.as_slice()))?;
-    html.attribute("height", BOX)?;
-    html.raw(" rx=\"5\"/><text")?;
-    html.attribute("x", left.saturating_add(10))?;
-    html.attribute("y", middle.saturating_add(5))?;
-    html.raw(">")?;
-    html.text(name.as_slice())?;
-    html.raw("</text></a>\n")
+    html.raw("</title><rect");
+    html.attribute("x", left);
+    html.attribute("y", middle.saturating_sub(BOX / 2));
+    html.attribute("width", box_width(name.as_slice()));
+    html.attribute("height", BOX);
+    html.raw(" rx=\"5\"/><text");
+    html.attribute("x", left.saturating_add(10));
+    html.attribute("y", middle.saturating_add(5));
+    html.raw(">");
+    html.text(name.as_slice());
+    html.raw("</text></a>\n");
+    Ok(())
 }
 
 /// Draws the program's classes.
@@ -220,21 +221,22 @@ pub fn picture(html: &mut Html, world: &World) -> Result<(), AllocError> {
     let (width, height) = layout.size();
     html.raw(
         "<svg xmlns=\"http://www.w3.org/2000/svg\" role=\"img\" aria-label=\"The classes, each right of its superclasses\"",
-    )?;
-    html.attribute("width", width)?;
-    html.attribute("height", height)?;
-    html.raw(">\n<g class=\"edges\">\n")?;
+    );
+    html.attribute("width", width);
+    html.attribute("height", height);
+    html.raw(">\n<g class=\"edges\">\n");
     for route in layout.columns.routes.iter() {
         let first = route.first().copied().unwrap_or(0);
         if let Some(class) = graph.classes.get(first) {
             let name = class_name(alloc, world, *class)?;
-            edge(html, &layout, route.as_slice(), box_width(name.as_slice()))?;
+            edge(html, &layout, route.as_slice(), box_width(name.as_slice()));
         }
     }
-    html.raw("</g>\n<g class=\"classes\">\n")?;
+    html.raw("</g>\n<g class=\"classes\">\n");
     for (vertex, class) in graph.classes.iter().enumerate() {
         let left = layout.sides(vertex).0;
         class_box(html, world, *class, left, layout.middle(vertex))?;
     }
-    html.raw("</g>\n</svg>\n")
+    html.raw("</g>\n</svg>\n");
+    Ok(())
 }

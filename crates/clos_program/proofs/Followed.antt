@@ -7,7 +7,8 @@ use Rattle.clos_system.specs.clos_session.clos_machine.clos_meaning.Host.{Host}
 use Rattle.clos_program.specs.Files.{RanAll, RunsFiles, Stopped, StopsAt}
 use Rattle.clos_program.specs.Lines.{lined, lined_of}
 use Rattle.clos_program.specs.Notices.{with_asked}
-use Rattle.clos_program.specs.Program.{Tells, fault_status, is_new, status_of}
+use Rattle.clos_ending.specs.Status.{fault_status, status_of}
+use Rattle.clos_program.specs.Program.{Tells, is_new}
 use Rattle.clos_program.specs.declared.output.Output.{Output}
 use Rattle.clos_program.proofs.Following.{begins, fails_on, fails_unknown, nothing, passed, told_after}
 use Rattle.clos_program.proofs.Lines.{came, new_lined, stayed}

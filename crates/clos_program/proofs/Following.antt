@@ -11,7 +11,8 @@ use Rattle.clos_system.specs.declared.transcript.RunFault.{RunFault}
 use Rattle.clos_system.specs.declared.transcript.RunFault.TheVariants.{Read, TooLong, Reader, Write, Memory}
 use Rattle.clos_program.specs.Lines.{lined, lined_of}
 use Rattle.clos_program.specs.Notices.{with_asked}
-use Rattle.clos_program.specs.Program.{Failed, Ran, RunsInput, Tells, fault_status, is_new, status_of}
+use Rattle.clos_ending.specs.Status.{fault_status, status_of}
+use Rattle.clos_program.specs.Program.{Failed, Ran, RunsInput, Tells, is_new}
 use Rattle.clos_program.specs.declared.output.Output.{Output}
 use Rattle.clos_program.proofs.Lines.{came, held, new_lined, stayed}
 

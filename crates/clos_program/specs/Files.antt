@@ -8,7 +8,8 @@ use Rattle.clos_system.specs.declared.transcript.Summary.{Summary}
 use Rattle.clos_system.specs.clos_session.Session.{Standing}
 use Rattle.clos_system.specs.clos_session.clos_machine.clos_meaning.Host.{Host}
 use Rattle.clos_program.specs.Notices.{with_asked}
-use Rattle.clos_program.specs.Program.{Failed, RunsInput, fault_status, is_input, is_input_alone, is_told, status_of}
+use Rattle.clos_ending.specs.Status.{fault_status, is_told, status_of}
+use Rattle.clos_program.specs.Program.{Failed, RunsInput, is_input, is_input_alone}
 
 -- what is known of the text of a name: of the input, or of a file
 abbrev pub known_as : (List ℕ → Option (List ℕ)) → Option (List ℕ) → List ℕ → Option (List ℕ)

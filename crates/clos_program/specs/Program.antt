@@ -1,5 +1,5 @@
 -- What the program does where its input alone is run: no file is named, or the name that stands for the input.
-use Rattle.std.specs.Prelude.{◌≡◌, ◌⊎◌, ℕ, nat_lt, ◌||◌, List, [], ◌∷◌, ◌++◌, Bool, true, false, Option, codes, if◌then◌else◌}
+use Rattle.std.specs.Prelude.{◌≡◌, ◌⊎◌, ℕ, List, [], ◌∷◌, ◌++◌, Bool, true, false, Option, codes}
 use Rattle.std.specs.Str.{bytes_eq}
 use Rattle.std.specs.Io.KnownBytes.{Appends, Keeps}
 use Rattle.clos_system.specs.clos_session.Session.{Standing}
@@ -8,6 +8,7 @@ use Rattle.clos_system.specs.Transcript.{Finishes, OverText, RunFaults}
 use Rattle.clos_system.specs.clos_transcript.Told.{ends_line}
 use Rattle.clos_system.specs.declared.transcript.RunFault.{RunFault}
 use Rattle.clos_system.specs.declared.transcript.Summary.{Summary}
+use Rattle.clos_ending.specs.Status.{fault_status, is_told, status_of}
 use Rattle.clos_program.specs.Notices.{Follow, with_asked}
 use Rattle.clos_program.specs.declared.output.Output.{Output}
 
@@ -20,17 +21,6 @@ abbrev pub is_input_alone : List (List ℕ) → Bool
 is_input_alone [] = true
 is_input_alone (name ∷ []) = is_input name
 is_input_alone (name ∷ (other ∷ names)) = false
-
--- whether a condition or storage line was written
-abbrev pub is_told : Summary → Bool
-is_told n = nat_lt 0 n.conditions || nat_lt 0 n.storages
-
--- the exit status of a run, and that after a fault
-abbrev pub status_of : Bool → ℕ
-status_of told = if told then 1 else 0
-
-abbrev pub fault_status : ℕ
-fault_status = 3
 
 -- A run came to the end of its text. What the output holds has grown by the transcript.
 abbrev pub Ran : Host → Bool → Option (List ℕ) → Standing → Standing → Option (List ℕ) → Option (List ℕ) → Bool → Type 0

@@ -2,7 +2,6 @@
 #![tactic(auto)]
 
 pub mod dependents;
-mod fault;
 pub mod natives;
 mod notices;
 mod output;
@@ -11,17 +10,16 @@ mod sources;
 mod way;
 
 pub use clos_command_line::Settings;
+pub use clos_ending::{
+    Fault, FileName, STATUS_CONDITION, STATUS_DONE, STATUS_FAULT, STATUS_USAGE, report,
+};
 pub use clos_system::{
     Callback, Dependent, Dependents, Handed, Limits, Native, Natives, Notice, Performed, Recorder,
     Relation, RunFault, Session, Stop, Summary, read_source, run_form,
 };
 pub use dependents::{KindNumber, kind_number};
-pub use fault::{Fault, FileName, report};
 pub use natives::{affine, low};
 pub use output::Output;
-pub use running::{
-    STATUS_CONDITION, STATUS_DONE, STATUS_FAULT, STATUS_USAGE, is_input, limits, program,
-    program_in, reads_input,
-};
+pub use running::{is_input, limits, program, program_in, reads_input};
 pub use sources::Sources;
 pub use way::Way;

@@ -4,31 +4,20 @@ ghost use Rattle.std.specs.List.{list_any};
 ghost use Rattle.std.specs.Io.KnownBytes.{Keeps};
 ghost use Rattle.clos_system.specs.clos_world.Limits.{standard};
 ghost use Rattle.clos_system.specs.clos_session.Session.{standing_of};
+ghost use Rattle.clos_ending.specs.Status.{fault_status, status_of};
 ghost use Rattle.clos_program.specs.Lines.{lined_of};
 ghost use Rattle.clos_program.specs.Files.{RanAll, Runs, Stopped, known_as, known_texts};
-ghost use Rattle.clos_program.specs.Program.{Failed, Ran, Tells, fault_status, is_input, is_input_alone, is_new, status_of};
+ghost use Rattle.clos_program.specs.Program.{Failed, Ran, Tells, is_input, is_input_alone, is_new};
 
-use crate::fault::{Fault, report};
 use crate::notices::notices_told;
 use crate::output::Output;
 use crate::sources::Sources;
 use crate::way::{Plainly, Way};
 use clos_command_line::Settings;
+use clos_ending::{Fault, STATUS_CONDITION, STATUS_DONE, STATUS_FAULT, report};
 use clos_system::{Dependents, Limits, Natives, Session};
 use std::alloc::Global;
 use std::io::{Read, Write};
-
-/// Every form gave a value.
-pub const STATUS_DONE: u8 = 0;
-
-/// A condition or storage line was written.
-pub const STATUS_CONDITION: u8 = 1;
-
-/// The command line is at fault.
-pub const STATUS_USAGE: u8 = 2;
-
-/// A file can't be read, or the output not written, or memory ran out.
-pub const STATUS_FAULT: u8 = 3;
 
 /// What standard input is called where a file would be named.
 const INPUT_NAME: &str = "-";

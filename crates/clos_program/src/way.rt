@@ -3,7 +3,7 @@ ghost use Rattle.std.specs.Prelude.{◌≡◌, IfOk, IfErr};
 ghost use Rattle.clos_system.specs.clos_session.Session.{standing_of};
 ghost use Rattle.clos_program.specs.Program.{Failed, Ran};
 
-use crate::fault::Fault;
+use clos_ending::{Fault, is_told};
 use clos_system::{Dependents, Natives, Session, run};
 use std::alloc::Global;
 use std::io::{Read, Write};
@@ -45,7 +45,7 @@ impl Way for Plainly {
         _errors: &mut E,
     ) -> Result<bool, Fault<'a>> {
         match run(alloc, session, input, output, echo) {
-            Ok(summary) => Ok(summary.conditions > 0 || summary.storages > 0),
+            Ok(summary) => Ok(is_told(summary)),
             Err(fault) => Err(Fault::of_run(name, &fault)),
         }
     }

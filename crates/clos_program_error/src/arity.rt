@@ -33,18 +33,18 @@ impl Arity {
     }
 
     /// Tells how many.
-    pub fn tell(self, page: &mut Page) -> Result<(), AllocError> {
+    pub fn tell(self, page: &mut Page) {
         match self.most {
             None => {
-                page.count(self.least, "argument", "arguments")?;
-                page.text(" or more")
+                page.count(self.least, "argument", "arguments");
+                page.text(" or more");
             }
             Some(most) => {
                 if self.least < most {
-                    page.number(self.least)?;
-                    page.text(" to ")?;
+                    page.number(self.least);
+                    page.text(" to ");
                 }
-                page.count(most, "argument", "arguments")
+                page.count(most, "argument", "arguments");
             }
         }
     }

@@ -17,11 +17,11 @@ fn tell_wrong_count(
 ) -> Result<bool, AllocError> {
     match arity_of(alloc, world, name)? {
         Some(taken) if !taken.has(count) => {
-            page.name(world, name)?;
-            page.text(" takes ")?;
-            taken.tell(page)?;
-            page.text(", and is called with ")?;
-            page.number(count)?;
+            page.name(world, name);
+            page.text(" takes ");
+            taken.tell(page);
+            page.text(", and is called with ");
+            page.number(count);
             Ok(true)
         }
         _ => Ok(false),
@@ -50,7 +50,7 @@ fn tell_wrong(
     }
     match taken_by(alloc, world, name)? {
         None => Ok(false),
-        Some(taken) => taken.tell_wrong(page, world, name, arguments),
+        Some(taken) => Ok(taken.tell_wrong(page, world, name, arguments)),
     }
 }
 

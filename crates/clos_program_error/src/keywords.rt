@@ -129,14 +129,13 @@ impl Taken {
     }
 
     /// Tells the keywords.
-    fn tell_names(&self, page: &mut Page, world: &World) -> Result<(), AllocError> {
+    fn tell_names(&self, page: &mut Page, world: &World) {
         let mut word = "; it takes ";
         for name in self.names.iter() {
-            page.text(word)?;
-            page.name(world, name)?;
+            page.text(word);
+            page.name(world, name);
             word = " ";
         }
-        Ok(())
     }
 
     /// Tells which keyword of a call with these arguments the function does not take, or that they are no pairs. Answers whether it told.
@@ -146,26 +145,26 @@ impl Taken {
         world: &World,
         name: &Name,
         arguments: &[Datum],
-    ) -> Result<bool, AllocError> {
+    ) -> bool {
         let keywords = arguments.get(self.before as usize..).unwrap_or(&[]);
         if keywords.len() % 2 == 1 {
-            page.name(world, name)?;
-            page.text(" takes pairs of a keyword and a value")?;
+            page.name(world, name);
+            page.text(" takes pairs of a keyword and a value");
             if self.before > 0 {
-                page.text(" after ")?;
-                page.count(self.before, "argument", "arguments")?;
+                page.text(" after ");
+                page.count(self.before, "argument", "arguments");
             }
-            page.text(", and the last keyword has no value")?;
-            self.tell_names(page, world)?;
-            return Ok(true);
+            page.text(", and the last keyword has no value");
+            self.tell_names(page, world);
+            return true;
         }
         let Some(wrong) = self.wrong_keyword(keywords) else {
-            return Ok(false);
+            return false;
         };
-        page.name(world, name)?;
-        page.text(" does not take ")?;
-        page.name(world, wrong)?;
-        self.tell_names(page, world)?;
-        Ok(true)
+        page.name(world, name);
+        page.text(" does not take ");
+        page.name(world, wrong);
+        self.tell_names(page, world);
+        true
     }
 }

@@ -22,41 +22,34 @@ fn malformed_part(alloc: Global, whole: &Part) -> Result<Option<Part>, AllocErro
 }
 
 /// Tells that a form is malformed, by what is called in it.
-fn tell_malformed(page: &mut Page, world: &World, form: &Datum) -> Result<(), AllocError> {
+fn tell_malformed(page: &mut Page, world: &World, form: &Datum) {
     let Some(name) = called_name(form) else {
         return page.text(
             "the form is malformed: no name of a function or an operator stands first in it",
         );
     };
-    page.text("the form (")?;
-    page.name(world, name)?;
-    page.text(" ..) is malformed")?;
-    match syntax_of(name) {
-        None => Ok(()),
-        Some(syntax) => {
-            page.text("; such a form is ")?;
-            page.text(syntax)
-        }
+    page.text("the form (");
+    page.name(world, name);
+    page.text(" ..) is malformed");
+    if let Some(syntax) = syntax_of(name) {
+        page.text("; such a form is ");
+        page.text(syntax);
     }
 }
 
 /// Tells that an element of a form is malformed.
-fn tell_broken(
-    alloc: Global,
-    page: &mut Page,
-    world: &World,
-    form: &Datum,
-    found: &Broken,
-) -> Result<(), AllocError> {
-    page.text(found.what)?;
-    if let Some(value) = quoted_value(alloc, &found.datum)? {
-        page.value(world, &value)?;
+fn tell_broken(alloc: Global, page: &mut Page, world: &World, form: &Datum, found: &Broken) {
+    page.text(found.what);
+    match quoted_value(alloc, &found.datum) {
+        Ok(Some(value)) => page.value(world, &value),
+        Ok(None) => {}
+        Err(_) => page.fail(),
     }
     if let Some(name) = called_name(form) {
-        page.text(" of this ")?;
-        page.name(world, name)?;
+        page.text(" of this ");
+        page.name(world, name);
     }
-    page.text(" is malformed")
+    page.text(" is malformed");
 }
 
 /// Tells what is malformed in a form that has no malformed form in it. Answers where it stands.
@@ -67,14 +60,14 @@ fn tell_innermost(
     last: &Part,
 ) -> Result<Vec<usize>, AllocError> {
     let mut path = Vec::from_slice(alloc, last.path.as_slice())?;
-    if tell_reserved(page, world, &last.form)? {
+    if tell_reserved(page, world, &last.form) {
         return Ok(path);
     }
     match find_broken(alloc, last)? {
-        None => tell_malformed(page, world, &last.form)?,
+        None => tell_malformed(page, world, &last.form),
         Some(found) => {
             path.extend_from_slice(found.path.as_slice())?;
-            tell_broken(alloc, page, world, &last.form, &found)?;
+            tell_broken(alloc, page, world, &last.form, &found);
         }
     }
     Ok(path)

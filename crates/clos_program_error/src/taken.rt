@@ -70,22 +70,22 @@ fn reserved<'a>(world: &World, first: &Datum, second: &'a Datum) -> Option<&'a N
 }
 
 /// Tells that the name of a definition is the language's. Answers whether it is.
-pub fn tell_reserved(page: &mut Page, world: &World, form: &Datum) -> Result<bool, AllocError> {
+pub fn tell_reserved(page: &mut Page, world: &World, form: &Datum) -> bool {
     let Datum::List(items) = form else {
-        return Ok(false);
+        return false;
     };
     let Some((first, rest)) = items.split_first() else {
-        return Ok(false);
+        return false;
     };
     let Some((second, _)) = rest.split_first() else {
-        return Ok(false);
+        return false;
     };
     match reserved(world, first, second) {
-        None => Ok(false),
+        None => false,
         Some(name) => {
-            page.name(world, name)?;
-            page.text(" is a name of the language's, and is not defined anew")?;
-            Ok(true)
+            page.name(world, name);
+            page.text(" is a name of the language's, and is not defined anew");
+            true
         }
     }
 }
@@ -124,26 +124,21 @@ fn in_slots(alloc: Global, world: &World, form: &Datum) -> Result<Option<Vec<usi
 }
 
 /// Tells that what a definition of a function names has another meaning in the program. Answers whether it has.
-fn tell_taken(
-    page: &mut Page,
-    world: &World,
-    definer: &Name,
-    name: &Name,
-) -> Result<bool, AllocError> {
+fn tell_taken(page: &mut Page, world: &World, definer: &Name, name: &Name) -> bool {
     if is_the(definer, "DEFUN") {
         if world.generics.named_by_symbol(name).is_none() {
-            return Ok(false);
+            return false;
         }
-        page.name(world, name)?;
-        page.text(" is a generic function, and stays one")?;
-        return Ok(true);
+        page.name(world, name);
+        page.text(" is a generic function, and stays one");
+        return true;
     }
     if world.functions.get(name).is_none() {
-        return Ok(false);
+        return false;
     }
-    page.name(world, name)?;
-    page.text(" is a function of a defun, and no generic function")?;
-    Ok(true)
+    page.name(world, name);
+    page.text(" is a function of a defun, and no generic function");
+    true
 }
 
 /// Tells that a name that a definition gives a meaning has another one, in the language or in the program. Answers where it stands.
@@ -153,12 +148,12 @@ pub fn taken_name(
     world: &World,
     form: &Datum,
 ) -> Result<Option<Vec<usize>>, AllocError> {
-    if tell_reserved(page, world, form)? {
+    if tell_reserved(page, world, form) {
         return Ok(Some(Vec::new(alloc)));
     }
     let items = elements(alloc, form)?;
     if let Some((definer, name)) = defined(items.first(), items.get(1)) {
-        return Ok(if tell_taken(page, world, definer, name)? {
+        return Ok(if tell_taken(page, world, definer, name) {
             Some(Vec::new(alloc))
         } else {
             None
@@ -169,9 +164,7 @@ pub fn taken_name(
     }
     let found = in_slots(alloc, world, form)?;
     if found.is_some() {
-        page.text(
-            "a reader, writer or accessor is a function of a defun, and no generic function",
-        )?;
+        page.text("a reader, writer or accessor is a function of a defun, and no generic function");
     }
     Ok(found)
 }

@@ -8,10 +8,10 @@ use Rattle.lisp_reader.proofs.OneAnswer.{Gives-unique}
 use Rattle.lisp_tokens.specs.Fault.{Kind, OnFault, offset_of}
 use Rattle.lisp_tokens.specs.declared.fault.ReadFault.{ReadFault}
 use Rattle.lisp_tokens.specs.declared.fault.ReadFault.TheVariants.{EndInside, StrayClose, BadToken, BadDot, BadHash, TooDeep, NotText, Memory}
-use Rattle.clos_commentary.specs.clos_program.clos_system.clos_world.World.{State}
+use Rattle.clos_commentary.specs.clos_system.clos_world.World.{State}
 use Rattle.clos_prompt.specs.Command.{Asks, AsksNone, asks_methods, after_word}
 use Rattle.clos_commentary.specs.Forms.{IsRefused}
-use Rattle.clos_prompt.specs.Request.{IsCall}
+use Rattle.clos_commentary.specs.Call.{IsCall}
 
 -- a text that has nothing left has no datum next
 pub nothing_next : (text : List ℕ) → Gives text nothing_left → (d : Dat) (rest : List ℕ) → ¬ (Next text d rest)

@@ -9,13 +9,13 @@ use Rattle.lisp_reader.specs.Answers.{Gives, a_fault}
 use Rattle.lisp_tokens.specs.Fault.{Kind, end_inside, OnFault, stray_close, bad_token, bad_dot, bad_hash, too_deep, not_text}
 use Rattle.lisp_tokens.specs.declared.fault.ReadFault.{ReadFault}
 use Rattle.lisp_tokens.specs.declared.fault.ReadFault.TheVariants.{EndInside, StrayClose, BadToken, BadDot, BadHash, TooDeep, NotText, Memory}
-use Rattle.clos_commentary.specs.clos_program.clos_system.Transcript as Transcript
-use Rattle.clos_commentary.specs.clos_program.clos_system.Transcript.{FailsAfter, Performed, Performs, Ran, begins, none_yet}
-use Rattle.clos_commentary.specs.clos_program.clos_system.clos_session.Session.{Standing}
-use Rattle.clos_commentary.specs.clos_program.clos_system.clos_session.clos_machine.clos_meaning.Host.{Host}
-use Rattle.clos_commentary.specs.clos_program.clos_system.declared.transcript.RunFault.{RunFault}
-use Rattle.clos_commentary.specs.clos_program.clos_system.declared.transcript.RunFault.TheVariants as Run
-use Rattle.clos_commentary.specs.clos_program.clos_system.declared.transcript.Summary.{Summary}
+use Rattle.clos_commentary.specs.clos_system.Transcript as Transcript
+use Rattle.clos_commentary.specs.clos_system.Transcript.{FailsAfter, Performed, Performs, Ran, begins, none_yet}
+use Rattle.clos_commentary.specs.clos_system.clos_session.Session.{Standing}
+use Rattle.clos_commentary.specs.clos_system.clos_session.clos_machine.clos_meaning.Host.{Host}
+use Rattle.clos_commentary.specs.clos_system.declared.transcript.RunFault.{RunFault}
+use Rattle.clos_commentary.specs.clos_system.declared.transcript.RunFault.TheVariants as Run
+use Rattle.clos_commentary.specs.clos_system.declared.transcript.Summary.{Summary}
 use Rattle.clos_prompt.specs.Command.{Asks, AsksNone}
 use Rattle.clos_commentary.specs.Fault.{fault_text}
 use Rattle.clos_commentary.specs.Forms.{Leaves}

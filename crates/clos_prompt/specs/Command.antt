@@ -7,8 +7,9 @@ use Rattle.lisp_data.specs.Datum.{Dat, Dats, cons, list, symbol}
 use Rattle.lisp_data.specs.Name.{Name}
 use Rattle.lisp_reader.specs.Answers.{Next}
 use Rattle.clos_forms.specs.declared.operator.FunctionName.TheVariants.{Symbol}
-use Rattle.clos_commentary.specs.clos_program.clos_system.clos_world.World.{State}
-use Rattle.clos_commentary.specs.clos_program.clos_system.clos_world.clos_generic.Table.{named}
+use Rattle.clos_commentary.specs.Call.{form_of_arguments}
+use Rattle.clos_commentary.specs.clos_system.clos_world.World.{State}
+use Rattle.clos_commentary.specs.clos_system.clos_world.clos_generic.Table.{named}
 
 -- space, tab, newline, return, page
 abbrev pub is_blank : ℕ → Bool
@@ -39,10 +40,6 @@ is_command line = begins_with_comma (first_word line)
 -- the command that shows the methods that fit the arguments of a call
 abbrev pub asks_methods : List ℕ → Bool
 asks_methods line = bytes_eq (first_word line) (codes ",methods")
-
--- the form whose value are the values of some arguments
-abbrev pub form_of_arguments : Dats → Dat
-form_of_arguments arguments = list (cons (symbol (record { text = codes "LIST"; keyword = false })) arguments)
 
 -- the command asks for the value of a form: it is `,methods`, a call of a generic function by its symbol follows, and the form is that
 -- of its arguments

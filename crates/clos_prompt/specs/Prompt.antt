@@ -5,11 +5,11 @@ use Rattle.std.specs.Io.KnownBytes.{Appends}
 use Rattle.lisp_reader.specs.Answers.{Gives, nothing_left, a_fault}
 use Rattle.lisp_tokens.specs.Fault.{Kind, end_inside}
 use Rattle.lisp_data.specs.Datum.{Dat}
-use Rattle.clos_commentary.specs.clos_program.clos_system.Transcript.{Performed, Performs, Ran, none_yet}
-use Rattle.clos_commentary.specs.clos_program.clos_system.clos_session.Session.{Standing}
-use Rattle.clos_commentary.specs.clos_program.clos_system.clos_session.clos_machine.clos_meaning.Host.{Host}
-use Rattle.clos_commentary.specs.clos_program.clos_system.declared.transcript.Summary.{Summary}
-use Rattle.clos_commentary.specs.clos_program.Program.{fault_status}
+use Rattle.clos_commentary.specs.clos_system.Transcript.{Performed, Performs, Ran, none_yet}
+use Rattle.clos_commentary.specs.clos_system.clos_session.Session.{Standing}
+use Rattle.clos_commentary.specs.clos_system.clos_session.clos_machine.clos_meaning.Host.{Host}
+use Rattle.clos_commentary.specs.clos_system.declared.transcript.Summary.{Summary}
+use Rattle.clos_commentary.specs.clos_ending.Status.{fault_status}
 use Rattle.clos_prompt.specs.Command.{Asks, AsksNone}
 use Rattle.clos_commentary.specs.Fault.{fault_text}
 use Rattle.clos_commentary.specs.Place.{place_after}

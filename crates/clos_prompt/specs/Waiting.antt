@@ -1,8 +1,8 @@
 -- What a prompt waits with between two lines.
 use Rattle.std.specs.Prelude.{ℕ, ◌==◌, ◌||◌, Bool, true, false, List, [], ◌∷◌, codes, length, take, drop, if◌then◌else◌}
 use Rattle.lisp_tokens.specs.Fault.{end_inside}
-use Rattle.clos_commentary.specs.clos_program.clos_system.declared.transcript.Summary.{Summary}
-use Rattle.clos_commentary.specs.clos_program.Program.{fault_status, is_told, status_of}
+use Rattle.clos_commentary.specs.clos_system.declared.transcript.Summary.{Summary}
+use Rattle.clos_commentary.specs.clos_ending.Status.{fault_status, is_told, status_of}
 use Rattle.clos_prompt.specs.Command.{is_command}
 use Rattle.clos_commentary.specs.Fault.{fault_text}
 use Rattle.clos_commentary.specs.Place.{first_place, place_after}

@@ -2,7 +2,7 @@
 ghost use Rattle.std.specs.Prelude.{◌≡◌, ℕ, List, IfOk, IfErr, OnOk, true};
 ghost use Rattle.std.specs.Io.KnownBytes.{Appends};
 ghost use Rattle.lisp_data.specs.DatumView.{datum_of};
-ghost use Rattle.clos_commentary.specs.clos_program.clos_system.clos_session.Session.{standing_of};
+ghost use Rattle.clos_commentary.specs.clos_system.clos_session.Session.{standing_of};
 ghost use Rattle.clos_prompt.specs.Command.{Asks};
 ghost use Rattle.clos_prompt.specs.Prompt.{Begun};
 ghost use Rattle.clos_prompt.specs.Waiting.{takes_command};
@@ -13,41 +13,13 @@ use crate::waiting::Prompt;
 use crate::writing::write;
 use clos_commentary::{
     Dependents, Fault, Natives, Performed, Session, Source, Summary, World, explain, fault_of,
-    methods_page, run_form,
+    fitting_page, run_form,
 };
-use lisp_data::{Datum, GenericId, Items, Value};
+use lisp_data::{Datum, GenericId, Value};
 use std::alloc::{AllocError, Global};
 use std::io::Write;
 
-/// The elements of a list.
-fn elements(alloc: Global, list: &Value) -> Result<Vec<Value>, AllocError> {
-    let mut found = Vec::new(alloc);
-    let Value::List(items) = list else {
-        return Ok(found);
-    };
-    let mut rest: &Items = items;
-    for _ in 0..items.len() {
-        let Some((first, others)) = rest.split_first() else {
-            break;
-        };
-        found.push(first.copy()?)?;
-        rest = others;
-    }
-    Ok(found)
-}
-
-/// What is shown of the methods that fit the elements of a list.
-pub(crate) fn fitting_page(
-    alloc: Global,
-    world: &World,
-    id: GenericId,
-    list: &Value,
-) -> Result<Vec<u8>, AllocError> {
-    let arguments = elements(alloc, list)?;
-    methods_page(alloc, world, id, arguments.as_slice())
-}
-
-/// The same on a line of its own.
+/// What is shown of the methods that fit the elements of a list, on a line of its own.
 fn page(
     alloc: Global,
     world: &World,

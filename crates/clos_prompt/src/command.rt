@@ -1,16 +1,17 @@
 //! Commands: lines that begin with a comma. No form of Common Lisp does; here `,x` would be read as `(unquote x)`, which a line
 //! writes out.
-ghost use Rattle.std.specs.Prelude.{◌≡◌, ◌≤◌, ℕ, List, drop, length, true, IfNone, IfOk, IfSome};
+ghost use Rattle.std.specs.Prelude.{◌≡◌, ◌≤◌, ℕ, List, drop, length, true, IfOk};
 ghost use Rattle.std.specs.List.{prefix_len};
-ghost use Rattle.lisp_data.specs.Datum.{Dats};
 ghost use Rattle.lisp_data.specs.DatumView.{datum_of};
-ghost use Rattle.clos_commentary.specs.clos_program.clos_system.clos_world.World.{seen};
+ghost use Rattle.clos_commentary.specs.clos_system.clos_world.World.{seen};
 ghost use Rattle.lisp_reader.specs.Answers.{Next};
-ghost use Rattle.clos_prompt.specs.Command.{after_word, asks_methods, first_word, form_of_arguments, is_blank, is_command, is_in_word};
+ghost use Rattle.clos_prompt.specs.Command.{after_word, asks_methods, first_word, is_blank, is_command, is_in_word};
 ghost use Rattle.clos_commentary.specs.Forms.{IsRefused};
-ghost use Rattle.clos_prompt.specs.Request.{IsCall, ReadsNext, Wants};
+ghost use Rattle.clos_prompt.specs.Request.{ReadsNext, Wants};
 
-use clos_commentary::{World, cache_page, class_page, generic_page, no_class};
+use clos_commentary::{
+    World, cache_page, call_of, class_page, form_of_arguments, generic_page, no_class,
+};
 use clos_forms::is_the;
 use lisp_data::{Data, Datum, GenericId, Name};
 use lisp_reader::read_form;
@@ -125,33 +126,6 @@ fn generic_named(world: &World, called: &Datum) -> Option<GenericId> {
         Datum::Sym(name) => world.generics.named_by_symbol(name),
         Datum::List(items) => world.generics.named_by_setf(setter_name(items)?),
         _ => None,
-    }
-}
-
-/// The generic function of a call, and what follows its name.
-pub(crate) fn call_of<'a>(world: &World, call: &'a Datum) -> Option<(GenericId, &'a Data)>
-    ensures some { IfSome result (λ r. IsCall (seen world.now) (datum_of call.now) r.1.now) }
-    ensures none { IfNone result ((arguments : Dats) → ¬ (IsCall (seen world.now) (datum_of call.now) arguments)) }
-{
-    let Datum::List(items) = call else {
-        return None;
-    };
-    match items.split_first() {
-        Some((Datum::Sym(name), rest)) => match world.generics.named_by_symbol(name) {
-            Some(id) => Some((id, rest)),
-            None => None,
-        },
-        _ => None,
-    }
-}
-
-/// The form whose value are the values of these arguments.
-pub(crate) fn form_of_arguments(alloc: Global, arguments: &Data) -> Result<Datum, AllocError>
-    ensures { IfOk result (λ r. datum_of r ≡ form_of_arguments arguments.now) }
-{
-    match Data::cons(alloc, Datum::Sym(Name::fixed(&"LIST")), arguments.copy()?) {
-        Ok(items) => Ok(Datum::List(items)),
-        Err(_) => Err(AllocError),
     }
 }
 

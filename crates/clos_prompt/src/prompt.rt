@@ -3,7 +3,7 @@ ghost use Rattle.std.specs.Prelude.{◌≡◌, ◌≤◌, ℕ, List, IfOk, IfErr
 ghost use Rattle.std.specs.Io.KnownBytes.{Appends};
 ghost use Rattle.lisp_data.specs.DatumView.{datum_of};
 ghost use Rattle.lisp_tokens.specs.Fault.{OnFault};
-ghost use Rattle.clos_commentary.specs.clos_program.clos_system.clos_session.Session.{standing_of};
+ghost use Rattle.clos_commentary.specs.clos_system.clos_session.Session.{standing_of};
 ghost use Rattle.clos_commentary.specs.Fault.{fault_text};
 ghost use Rattle.clos_commentary.specs.Forms.{Leaves};
 ghost use Rattle.clos_commentary.specs.Place.{place_after};

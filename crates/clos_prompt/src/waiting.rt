@@ -1,11 +1,12 @@
 //! What a prompt waits with between two lines.
 ghost use Rattle.std.specs.Prelude.{◌≡◌, ◌≤◌, ◌++◌, length, IfOk};
-ghost use Rattle.clos_commentary.specs.clos_program.Program.{is_told};
 ghost use Rattle.clos_prompt.specs.Waiting.{at_first, cleared, exit_status, farewell, given_up, is_idle, left_open, passed, prompt_of, takes_command};
 ghost use Rattle.clos_prompt.specs.WaitingView.{waiting_of};
 
 use crate::command::is_command;
-use clos_commentary::{Place, STATUS_CONDITION, STATUS_DONE, STATUS_FAULT, Summary, fault_line};
+use clos_commentary::{
+    Place, STATUS_CONDITION, STATUS_DONE, STATUS_FAULT, Summary, fault_line, is_told,
+};
 use lisp_tokens::ReadFault;
 use std::alloc::{AllocError, Global};
 
@@ -20,13 +21,6 @@ pub(crate) struct Prompt {
     pub(crate) told: bool,
     /// Whether some of the input could not be read.
     pub(crate) unread: bool,
-}
-
-/// Whether a condition or storage line was written.
-fn is_told(summary: Summary) -> bool
-    ensures { result ≡ is_told summary }
-{
-    summary.conditions > 0 || summary.storages > 0
 }
 
 impl Prompt {

@@ -2,11 +2,12 @@
 //! outputs.
 #![tactic(auto)]
 
+use clos_explained::{run_explained, run_paged};
 use clos_process::{
     Fault, Output, ProcessSession, Program, STATUS_DONE, STATUS_FAULT, STATUS_USAGE, Settings,
     fail, run_words, words,
 };
-use clos_prompt::{run_explained, run_paged, run_prompt};
+use clos_prompt::run_prompt;
 use std::io::{BufReader, IsTerminal, Write};
 use std::process::ExitCode;
 

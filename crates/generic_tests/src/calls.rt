@@ -146,67 +146,120 @@ fn define(
     combinations.define_short(alloc, form)
 }
 
+/// The methods that apply to 3; with one more, on the object 3, those that apply to it and to 4; and without it those that apply
+/// to 3 again.
+fn applicable_in_turn(
+    alloc: Global,
+    generics: &mut Generics,
+) -> Result<[(u64, usize); 4], GenericFault> {
+    let generic = GenericId(SystemFunction::COUNT);
+    let first = applicable(alloc, generics, generic, 3)?;
+    add_eql(alloc, generics, generic)?;
+    let three = applicable(alloc, generics, generic, 3)?;
+    let four = applicable(alloc, generics, generic, 4)?;
+    generics.remove_method(generic, MethodId(10))?;
+    let last = applicable(alloc, generics, generic, 3)?;
+    Ok([first, three, four, last])
+}
+
+/// The same in a new table.
+fn all_applicable(alloc: Global) -> Option<[(u64, usize); 4]> {
+    let mut generics = begin(alloc).ok()?;
+    applicable_in_turn(alloc, &mut generics).ok()
+}
+
 #[test]
 fn methods_come_and_go(rt: HostRuntime) -> Result<(), Fail> {
-    let generic = GenericId(SystemFunction::COUNT);
-    let Ok(mut generics) = begin(rt.alloc()) else {
-        assert!(rt; false);
-        return Ok(());
-    };
-    assert_eq!(rt; applicable(rt.alloc(), &generics, generic, 3)?, (9, 1));
-    let added = add_eql(rt.alloc(), &mut generics, generic);
-    assert!(rt; added.is_ok());
-    assert_eq!(rt; applicable(rt.alloc(), &generics, generic, 3)?, (10, 2));
-    assert_eq!(rt; applicable(rt.alloc(), &generics, generic, 4)?, (9, 1));
-    let removed = generics.remove_method(generic, MethodId(10));
-    assert!(rt; removed.is_ok());
-    assert_eq!(rt; applicable(rt.alloc(), &generics, generic, 3)?, (9, 1));
+    let told = all_applicable(rt.alloc());
+    assert_eq!(rt; told, Some([(9, 1), (10, 2), (9, 1), (9, 1)]));
     Ok(())
+}
+
+/// The accessors that are there, before one is removed and then.
+fn accessors_in_turn(
+    alloc: Global,
+    generics: &mut Generics,
+) -> Result<[(u64, usize); 2], GenericFault> {
+    let before = accessors(alloc, generics)?;
+    generics.remove_method(GenericId(SystemFunction::COUNT), MethodId(9))?;
+    Ok([before, accessors(alloc, generics)?])
+}
+
+/// The same in a new table.
+fn all_accessors(alloc: Global) -> Option<[(u64, usize); 2]> {
+    let mut generics = begin(alloc).ok()?;
+    accessors_in_turn(alloc, &mut generics).ok()
 }
 
 #[test]
 fn accessors_come_and_go(rt: HostRuntime) -> Result<(), Fail> {
-    let generic = GenericId(SystemFunction::COUNT);
-    let Ok(mut generics) = begin(rt.alloc()) else {
-        assert!(rt; false);
-        return Ok(());
-    };
-    assert_eq!(rt; accessors(rt.alloc(), &generics)?, (9, 1));
-    let removed = generics.remove_method(generic, MethodId(9));
-    assert!(rt; removed.is_ok());
-    assert_eq!(rt; accessors(rt.alloc(), &generics)?, (0, 0));
+    let told = all_accessors(rt.alloc());
+    assert_eq!(rt; told, Some([(9, 1), (0, 0)]));
     Ok(())
+}
+
+/// One method combined, with what the meter stands at then, two, and none.
+fn combined_in(
+    alloc: Global,
+    generics: &Generics,
+) -> Result<(u64, &'static str, &'static str, &'static str), AllocError> {
+    let generic = GenericId(SystemFunction::COUNT);
+    let one = combined(alloc, generics, generic, &[MethodId(9)])?;
+    let two = combined(alloc, generics, generic, &[MethodId(9), MethodId(0)])?;
+    let none = combined(alloc, generics, generic, &[])?;
+    Ok((one.1, one.0, two.0, none.0))
+}
+
+/// The same in a new table.
+fn all_combined(alloc: Global) -> Option<(u64, &'static str, &'static str, &'static str)> {
+    let generics = begin(alloc).ok()?;
+    combined_in(alloc, &generics).ok()
 }
 
 #[test]
 fn methods_are_combined(rt: HostRuntime) -> Result<(), Fail> {
-    let generic = GenericId(SystemFunction::COUNT);
-    let Ok(generics) = begin(rt.alloc()) else {
-        assert!(rt; false);
-        return Ok(());
-    };
-    let one = combined(rt.alloc(), &generics, generic, &[MethodId(9)])?;
-    assert_eq!(rt; one.0, "call-method");
-    assert_eq!(rt; one.1, 1);
-    let two = combined(rt.alloc(), &generics, generic, &[MethodId(9), MethodId(0)])?;
-    assert_eq!(rt; two.0, "multiple-value-prog1");
-    let none = combined(rt.alloc(), &generics, generic, &[])?;
-    assert_eq!(rt; none.0, "an empty group");
+    let wanted = (1, "call-method", "multiple-value-prog1", "an empty group");
+    assert_eq!(rt; all_combined(rt.alloc()), Some(wanted));
     Ok(())
+}
+
+/// What keeps three short forms from being defined, in a table with room for one.
+fn refused(alloc: Global, combinations: &mut Combinations) -> [Option<CombinationFault>; 3] {
+    [
+        define(alloc, combinations, Name::fixed(&"AND")).err(),
+        define(alloc, combinations, Name::fixed(&"MINE")).err(),
+        define(alloc, combinations, Name::fixed(&"YOURS")).err(),
+    ]
+}
+
+/// What keeps two of them from being used.
+fn misused(combinations: &Combinations) -> [Option<UseFault>; 2] {
+    [
+        combinations.fits(&Name::fixed(&"MINE"), &Data::new()).err(),
+        combinations
+            .fits(&Name::fixed(&"YOURS"), &Data::new())
+            .err(),
+    ]
+}
+
+/// Both of a new table.
+fn combinations_told(
+    alloc: Global,
+) -> Result<([Option<CombinationFault>; 3], [Option<UseFault>; 2]), AllocError> {
+    let (mut combinations, _meter) = Combinations::new(alloc, 1)?;
+    let refused = refused(alloc, &mut combinations);
+    Ok((refused, misused(&combinations)))
 }
 
 #[test]
 fn combinations_are_defined(rt: HostRuntime) -> Result<(), Fail> {
-    let (mut combinations, _meter) = Combinations::new(rt.alloc(), 1)?;
-    let system = define(rt.alloc(), &mut combinations, Name::fixed(&"AND"));
-    assert_eq!(rt; system.err(), Some(CombinationFault::Predefined));
-    let first = define(rt.alloc(), &mut combinations, Name::fixed(&"MINE"));
-    assert_eq!(rt; first.err(), None);
-    let second = define(rt.alloc(), &mut combinations, Name::fixed(&"YOURS"));
-    assert_eq!(rt; second.err(), Some(CombinationFault::TableLimit));
-    let used = combinations.fits(&Name::fixed(&"MINE"), &Data::new());
-    assert!(rt; used.is_ok());
-    let unknown = combinations.fits(&Name::fixed(&"YOURS"), &Data::new());
-    assert_eq!(rt; unknown.err(), Some(UseFault::Undefined));
+    let (refused, misused) = combinations_told(rt.alloc())?;
+    let wanted = [
+        Some(CombinationFault::Predefined),
+        None,
+        Some(CombinationFault::TableLimit),
+    ];
+    assert_eq!(rt; refused, wanted);
+    assert_eq!(rt; misused, [None, Some(UseFault::Undefined)]);
     Ok(())
 }

@@ -1,4 +1,4 @@
-//! Tests of the programs: what no clause says of their words, texts and statuses.
+//! Tests of the program that runs files: what no clause says of its words, texts and statuses.
 #![tactic(auto)]
 
 #[cfg(test)]
@@ -6,18 +6,6 @@ mod command_line;
 #[cfg(test)]
 mod dependents;
 #[cfg(test)]
-mod explanations;
-#[cfg(test)]
-mod failing;
-#[cfg(test)]
-mod malformed;
-#[cfg(test)]
 mod natives;
 #[cfg(test)]
-mod paged;
-#[cfg(test)]
 mod program;
-#[cfg(test)]
-mod prompt;
-#[cfg(test)]
-mod shown;

@@ -1,7 +1,7 @@
 //! What no clause says: the texts and statuses of the program, and the examples of the repository.
-use crate::failing::{Broken, Forgetful, Tiring};
 use clos_command_line::settings;
 use clos_program::{Output, Session, limits, program};
+use faulty_io::{Broken, Forgetful, Tiring};
 use std::alloc::Global;
 use std::fs::{self, Files};
 use std::io::{self, Read, Write};

@@ -98,15 +98,22 @@ fn define_all(
     define(alloc, classes, shape, 0, CellId(8))
 }
 
-/// So many classes of a shape, the first one defined twice: how many local slots the last one has.
-fn slots_of_last(alloc: Global, shape: Shape, count: u64) -> Result<Option<usize>, ClassFault> {
-    let first = name(alloc, 0)?;
+/// So many classes of a shape in this table, the first one defined twice: how many local slots the last one has.
+fn slots_of_last_in(
+    alloc: Global,
+    classes: &mut Classes,
+    shape: Shape,
+    count: u64,
+) -> Result<Option<usize>, ClassFault> {
+    define_all(alloc, classes, shape, count)?;
     let last = name(alloc, count.saturating_sub(1))?;
+    Ok(slots_of(classes, &last, &name(alloc, 0)?))
+}
+
+/// The same in a new table.
+fn slots_of_last(alloc: Global, shape: Shape, count: u64) -> Result<Option<usize>, ClassFault> {
     let mut classes = Classes::new(alloc, count)?;
-    match define_all(alloc, &mut classes, shape, count) {
-        Ok(()) => Ok(slots_of(&classes, &last, &first)),
-        Err(fault) => Err(fault),
-    }
+    slots_of_last_in(alloc, &mut classes, shape, count)
 }
 
 #[test]

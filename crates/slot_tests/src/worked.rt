@@ -462,14 +462,19 @@ fn defined_again(
 }
 
 /// The same of a class with slots and default initargs.
-fn slots_before_and_after(alloc: Global) -> Result<String, AllocError> {
-    let mut classes = Classes::new(alloc, 1)?;
+fn slots_in(alloc: Global, classes: &mut Classes) -> Result<String, AllocError> {
     let mut line = String::new(alloc);
     let mut made = 0;
     let first = "(defclass a () ((x :initform 1) y) (:default-initargs :y 2))";
-    define_text(alloc, &mut line, &mut classes, first, &mut made)?;
-    defined_again(alloc, &mut line, &mut classes, &mut made)?;
+    define_text(alloc, &mut line, classes, first, &mut made)?;
+    defined_again(alloc, &mut line, classes, &mut made)?;
     Ok(line)
+}
+
+/// The same in a new table.
+fn slots_before_and_after(alloc: Global) -> Result<String, AllocError> {
+    let mut classes = Classes::new(alloc, 1)?;
+    slots_in(alloc, &mut classes)
 }
 
 /// What a class has stays with who holds it, when the class is defined again.
@@ -492,11 +497,20 @@ fn add_to(first: &mut ClassDefinition, second: ClassDefinition) -> Result<(), Al
 }
 
 /// The answer of a table to this definition.
-fn answer_to(alloc: Global, definition: &ClassDefinition) -> Result<String, AllocError> {
+fn answer_in(
+    alloc: Global,
+    classes: &mut Classes,
+    definition: &ClassDefinition,
+) -> Result<String, AllocError> {
     let mut line = String::new(alloc);
-    let mut classes = Classes::new(alloc, 8)?;
-    define(alloc, &mut line, &mut classes, definition, &mut 0)?;
+    define(alloc, &mut line, classes, definition, &mut 0)?;
     Ok(line)
+}
+
+/// The answer of a new table.
+fn answer_to(alloc: Global, definition: &ClassDefinition) -> Result<String, AllocError> {
+    let mut classes = Classes::new(alloc, 8)?;
+    answer_in(alloc, &mut classes, definition)
 }
 
 /// The answer of a table to this definition, to which the slots and default initargs of another were added.

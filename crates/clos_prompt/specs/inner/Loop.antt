@@ -2,8 +2,8 @@
 use Rattle.std.specs.Prelude.{◌≡◌, ℕ, true, List, ◌++◌, Option, Some, IfSome}
 use Rattle.std.specs.Io.BufRead.{take_through, drop_through}
 use Rattle.std.specs.Io.KnownBytes.{Appends}
-use Rattle.clos_commentary.specs.clos_program.clos_system.clos_session.Session.{Standing}
-use Rattle.clos_commentary.specs.clos_program.clos_system.clos_session.clos_machine.clos_meaning.Host.{Host}
+use Rattle.clos_commentary.specs.clos_system.clos_session.Session.{Standing}
+use Rattle.clos_commentary.specs.clos_system.clos_session.clos_machine.clos_meaning.Host.{Host}
 use Rattle.clos_prompt.specs.Prompt.{Answers, Comes, Prompted}
 use Rattle.clos_prompt.specs.Waiting.{Waiting}
 

@@ -1,5 +1,5 @@
 use Rattle.lisp_data.specs.DatumView.{datum_of}
-use Rattle.clos_commentary.specs.clos_program.clos_system.clos_session.Session.{standing_of}
+use Rattle.clos_commentary.specs.clos_system.clos_session.Session.{standing_of}
 use Rattle.clos_prompt.specs.WaitingView.{waiting_of}
 use Rattle.clos_prompt.proofs.Going.{asked, asked_for, failed_in}
 use Rattle.clos_prompt.proofs.call.answer_call.Goals as goal

@@ -1,5 +1,5 @@
 use Rattle.lisp_data.specs.DatumView.{datum_of}
-use Rattle.clos_commentary.specs.clos_program.clos_system.clos_world.World.{seen}
+use Rattle.clos_commentary.specs.clos_system.clos_world.World.{seen}
 use Rattle.clos_prompt.proofs.Asking.{no_call}
 use Rattle.clos_prompt.proofs.command.methods_of.Goals as goal
 

@@ -1,9 +1,9 @@
 use Rattle.std.proofs.Common.{subst}
-use Rattle.clos_commentary.specs.clos_program.clos_system.clos_world.World.{State, seen}
+use Rattle.clos_commentary.specs.clos_system.clos_world.World.{State, seen}
 use Rattle.clos_prompt.specs.Command.{AsksNone}
 use Rattle.clos_prompt.specs.Request.{Wants}
 use Rattle.clos_prompt.specs.declared.command.Request.TheVariants.{Page}
-use Rattle.clos_commentary.specs.clos_program.clos_system.clos_session.Session.{standing_of}
+use Rattle.clos_commentary.specs.clos_system.clos_session.Session.{standing_of}
 use Rattle.clos_prompt.specs.WaitingView.{waiting_of}
 use Rattle.clos_prompt.proofs.Going.{commanded, none_ran}
 use Rattle.clos_prompt.proofs.prompt.answer_command.Goals as goal

@@ -1,6 +1,6 @@
 use Rattle.std.proofs.Common.{◌∙◌}
 use Rattle.std.proofs.lemmas.Result.{IfOk-weaker}
-use Rattle.clos_commentary.specs.clos_program.clos_system.clos_session.Session.{standing_of}
+use Rattle.clos_commentary.specs.clos_system.clos_session.Session.{standing_of}
 use Rattle.clos_prompt.specs.WaitingView.{waiting_of}
 use Rattle.clos_prompt.proofs.Going.{answered, none_ran, stops_at, whatever_fails}
 use Rattle.clos_prompt.proofs.prompt.answer_forms.Goals as goal

@@ -1,6 +1,6 @@
 use Rattle.std.proofs.Common.{◌≡◌, ◌<◌, length, rules}
 use Rattle.std.proofs.lemmas.Result.{IfOk-weaker}
-use Rattle.clos_commentary.specs.clos_program.clos_system.clos_session.Session.{standing_of}
+use Rattle.clos_commentary.specs.clos_system.clos_session.Session.{standing_of}
 use Rattle.clos_prompt.specs.WaitingView.{waiting_of}
 use Rattle.clos_prompt.proofs.Going.{breaks, breaks_in, ends, stands_first, stands_on, whatever_fails}
 use Rattle.clos_prompt.proofs.prompt.answer_lines.Goals as goal

@@ -1,4 +1,4 @@
-use Rattle.clos_commentary.specs.clos_program.clos_system.clos_session.Session.{standing_of}
+use Rattle.clos_commentary.specs.clos_system.clos_session.Session.{standing_of}
 use Rattle.clos_prompt.specs.WaitingView.{waiting_of}
 use Rattle.clos_prompt.specs.inner.Loop.{Stands}
 use Rattle.clos_prompt.proofs.prompt.answer_lines.Given as goal

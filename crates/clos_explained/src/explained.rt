@@ -2,15 +2,13 @@
 ghost use Rattle.std.specs.Prelude.{◌≡◌, ◌⊎◌, ℕ, List, IfOk, IfErr, map};
 ghost use Rattle.std.specs.Io.KnownBytes.{Keeps};
 ghost use Rattle.clos_program.specs.Files.{Runs};
-ghost use Rattle.clos_program.specs.Program.{is_new, is_told};
+ghost use Rattle.clos_program.specs.Program.{is_new};
+ghost use Rattle.clos_commentary.specs.clos_ending.Status.{is_told};
 ghost use Rattle.clos_program.specs.clos_system.Transcript.{Finishes, Ran};
 ghost use Rattle.clos_program.specs.clos_system.clos_session.Session.{standing_of};
 ghost use Rattle.clos_program.specs.clos_system.declared.transcript.Summary.{Summary};
 
-use crate::fault::words;
-use crate::forms::{Left, perform_forms};
-use crate::place::{Place, push_place};
-use crate::told::{Source, tell};
+use clos_commentary::{Left, Place, Source, is_told, perform_forms, push_place, tell, words};
 use clos_program::{
     Dependents, Fault, Natives, Output, STATUS_CONDITION, STATUS_DONE, STATUS_FAULT, Session,
     Settings, Sources, Way, program_in, read_source,
@@ -87,7 +85,7 @@ fn explain_text<'a, N: Natives, D: Dependents, W: Write, E: Write>(
         Err(fault) => return Err(fault),
     };
     let (fault, at) = match left {
-        Left::Nothing => return Ok(summary.conditions > 0 || summary.storages > 0),
+        Left::Nothing => return Ok(is_told(summary)),
         Left::Open(at) => (ReadFault::EndInside(at), at),
         Left::Unread(fault, at) => (fault, at),
     };

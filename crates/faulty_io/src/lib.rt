@@ -1,4 +1,6 @@
-//! Readers and writers that fail.
+//! Readers and writers that fail, for tests.
+#![tactic(auto)]
+
 use std::io::{self, Read, Write};
 
 /// Every read and every write fails.
@@ -38,6 +40,7 @@ impl Write for Forgetful {
 /// So many writes succeed, and then none.
 #[derive(Drop)]
 pub struct Tiring {
+    /// How many are left.
     pub writes: u64,
 }
 

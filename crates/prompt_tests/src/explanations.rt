@@ -1,9 +1,7 @@
 //! How conditions are explained: the mistakes that newcomers make.
 use crate::prompt::{status, status_within};
-use clos_command_line::settings;
 use clos_names::function_names;
-use clos_program::{Limits, Output, Session, limits, program};
-use clos_prompt::run_explained;
+use clos_system::Limits;
 use std::process::Abort;
 use std::test::Fail;
 
@@ -229,69 +227,6 @@ fn tells_which_tables_are_full(rt: HostRuntime) -> Result<(), Fail> {
         text.contains("\n                      0 global variables\n"),
         "{text}"
     );
-    Ok(())
-}
-
-/// Texts whose faults of reading are explained, and how.
-const FAULTS: [(&str, &str); 4] = [
-    (
-        "(f)\n(g",
-        "-:1:1: UNDEFINED-FUNCTION: no function is called F\n-:2:1: the input ends inside of what begins here\nclos: -: reader fault 1 at 4\n",
-    ),
-    (
-        "1\n (list 2\n  #q)",
-        "-:3:3: a # that begins nothing, in what begins at 2:2\nclos: -: reader fault 5 at 13\n",
-    ),
-    (
-        ")",
-        "-:1:1: a closing parenthesis too many\nclos: -: reader fault 2 at 0\n",
-    ),
-    (
-        "\"\u{e9}\" \u{e9}",
-        "-:1:5: a token that can't be read\nclos: -: reader fault 3 at 5\n",
-    ),
-];
-
-/// What is run with explanations has the output and the status of what is run without.
-#[test]
-fn explains_runs(rt: HostRuntime) -> Result<(), Fail> {
-    let alloc = rt.alloc();
-    for (input, wanted) in FAULTS.iter() {
-        let words = ["clos", "--echo", "--notices"];
-        let settings = settings(alloc, &words)?;
-        let mut first = Session::new(alloc, limits(&settings), Vec::new(alloc), Vec::new(alloc))?;
-        let mut second = Session::new(alloc, limits(&settings), Vec::new(alloc), Vec::new(alloc))?;
-        let mut plain = Vec::new(alloc);
-        let mut explained = Vec::new(alloc);
-        let mut faults = Vec::new(alloc);
-        let mut errors = Vec::new(alloc);
-        let status = program(
-            &rt,
-            alloc,
-            &mut first,
-            &settings,
-            &mut input.as_bytes(),
-            &mut Output::new(&mut plain),
-            &mut faults,
-        );
-        let got = run_explained(
-            &rt,
-            alloc,
-            &mut second,
-            &settings,
-            &mut input.as_bytes(),
-            &mut Output::new(&mut explained),
-            &mut errors,
-        );
-        let text = str::from_utf8(errors.as_slice()).unwrap_or("?");
-        assert_eq!(rt; text, *wanted, "the explanations of {input}");
-        assert_eq!(rt;
-            explained.as_slice(),
-            plain.as_slice(),
-            "the output of {input}"
-        );
-        assert_eq!(rt; got, status, "the status of {input}");
-    }
     Ok(())
 }
 

@@ -1,8 +1,8 @@
 //! The page of what files defined.
 use clos_command_line::settings;
+use clos_explained::run_paged;
 use clos_page::{Columns, Edge, Graph, crossings, put_in_order, settle_heights};
 use clos_program::{Output, Session, limits};
-use clos_prompt::run_paged;
 use lisp_data::ClassId;
 use std::fs::{self, Files};
 use std::process::Abort;

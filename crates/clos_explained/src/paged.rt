@@ -1,12 +1,12 @@
 //! Runs of files after which a page of what there is then is written.
-use crate::call::fitting_page;
-use crate::command::{call_of, form_of_arguments};
-use clos_commentary::{
-    Dependents, Fault, FileName, Natives, Output, STATUS_FAULT, Session, Settings, Stop, World,
-    explanation, is_input, read_source, report, run_explained,
-};
+use crate::explained::run_explained;
+use clos_commentary::{Stop, World, call_of, explanation, fitting_page, form_of_arguments};
 use clos_forms::{is_definition, quoted_value};
 use clos_page::{Call, html_page};
+use clos_program::{
+    Dependents, Fault, FileName, Natives, Output, STATUS_FAULT, Session, Settings, is_input,
+    read_source, report,
+};
 use clos_program_error::{all_parts, called_name};
 use lisp_data::{Datum, prin1};
 use lisp_reader::read_form;

@@ -1,6 +1,6 @@
 //! Why the program ends before its last file, and the line that tells it.
 use clos_system::RunFault;
-use lisp_reader::ReadFault;
+use lisp_tokens::ReadFault;
 use std::fmt;
 use std::io::Write;
 

@@ -1,7 +1,7 @@
 //! What a session at a prompt writes, and its status.
-use crate::failing::{Broken, Forgetful, Tiring};
-use clos_program::{Limits, Session};
 use clos_prompt::run_prompt;
+use clos_system::{Limits, Session};
+use faulty_io::{Broken, Forgetful, Tiring};
 use std::io::{BufRead, BufReader, Write};
 use std::process::Abort;
 use std::test::Fail;
