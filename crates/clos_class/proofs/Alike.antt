@@ -10,7 +10,7 @@ use Rattle.clos_precedence.specs.Precedence.{has}
 use Rattle.clos_class.specs.declared.direct.ClassSlots.{ClassSlots}
 use Rattle.clos_class.specs.declared.direct.DirectSlot.{DirectSlot}
 use Rattle.clos_class.specs.declared.rows.Rows.{Rows}
-use Rattle.clos_syntax.specs.declared.class.DefaultInitarg.{DefaultInitarg}
+use Rattle.clos_defclass.specs.declared.class.DefaultInitarg.{DefaultInitarg}
 use Rattle.clos_class.specs.inner.Building.{slot_by}
 use Rattle.clos_class.specs.inner.Keeping.{Kept, Tells, effective_if}
 use Rattle.clos_class.specs.Slots.{Defaults, DirectSlots, Effective, called, distinct, first_allocation, first_initform, first_of_each, names}

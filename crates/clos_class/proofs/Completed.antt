@@ -3,7 +3,7 @@ use Rattle.std.proofs.Common.{◌≡◌, Bool, true, false, List, [], ◌∷◌,
 use Rattle.std.specs.Prelude.{cond}
 use Rattle.std.specs.List.{list_any}
 use Rattle.lisp_data.specs.Name.{Name, same_name}
-use Rattle.clos_syntax.specs.declared.class.DefaultInitarg.{DefaultInitarg}
+use Rattle.clos_defclass.specs.declared.class.DefaultInitarg.{DefaultInitarg}
 use Rattle.clos_class.specs.Slots.{first_of_each}
 use Rattle.clos_class.specs.inner.Building.{completed, with_name}
 use Rattle.clos_class.proofs.Each.{added, filter_all, none_after}

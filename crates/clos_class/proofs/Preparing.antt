@@ -6,7 +6,7 @@ use Rattle.std.proofs.lemmas.Bool.{eq-eqb, eqb-true, le-ltb, lt-ltb}
 use Rattle.std.proofs.lemmas.List.{length-set}
 use Rattle.lisp_data.specs.Name.{Name, same_name}
 use Rattle.lisp_data.specs.declared.ids.ClassId.{ClassId}
-use Rattle.clos_syntax.specs.declared.class.ClassDefinition.{ClassDefinition}
+use Rattle.clos_defclass.specs.declared.class.ClassDefinition.{ClassDefinition}
 use Rattle.clos_hierarchy.specs.Classes.{Classes, Listing, lacking, list_in, number_of, with_class}
 use Rattle.clos_hierarchy.specs.Outlook.{Outlook, listing_among}
 use Rattle.clos_precedence.specs.Precedence.{has}

@@ -4,7 +4,7 @@ use Rattle.std.specs.Prelude.{cond, is_some, nat_lt, option_copied, replicate, s
 use Rattle.std.proofs.lemmas.List.{length-set}
 use Rattle.std.proofs.lemmas.Option.{slice_get_within}
 use Rattle.lisp_data.specs.Name.{Name}
-use Rattle.clos_syntax.specs.declared.class.ClassDefinition.{ClassDefinition}
+use Rattle.clos_defclass.specs.declared.class.ClassDefinition.{ClassDefinition}
 use Rattle.clos_hierarchy.specs.Classes.{Classes}
 use Rattle.clos_hierarchy.specs.Table.{Table as NameTable}
 use Rattle.clos_class.specs.declared.direct.ClassSlots.{ClassSlots}

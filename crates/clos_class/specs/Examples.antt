@@ -5,10 +5,10 @@ use Rattle.lisp_data.specs.Name.{Name}
 use Rattle.clos_forms.specs.Form.{Form}
 use Rattle.clos_class.specs.declared.direct.SlotAllocation.TheVariants.{Local, Shared}
 use Rattle.lisp_data.specs.declared.ids.CellId.{CellId}
-use Rattle.clos_syntax.specs.declared.class.ClassDefinition.{ClassDefinition}
-use Rattle.clos_syntax.specs.declared.slot.Allocation.{Allocation}
-use Rattle.clos_syntax.specs.declared.slot.Allocation.TheVariants.{Instance, Class}
-use Rattle.clos_syntax.specs.declared.slot.SlotSpecifier.{SlotSpecifier}
+use Rattle.clos_defclass.specs.declared.class.ClassDefinition.{ClassDefinition}
+use Rattle.clos_defclass.specs.declared.slot.Allocation.{Allocation}
+use Rattle.clos_defclass.specs.declared.slot.Allocation.TheVariants.{Instance, Class}
+use Rattle.clos_defclass.specs.declared.slot.SlotSpecifier.{SlotSpecifier}
 use Rattle.clos_class.specs.SlotsView.{direct_slots, says_nothing}
 use Rattle.clos_class.specs.Table.{Table, new_cells, with_definition}
 use Rattle.clos_class.specs.Slots.{DirectSlots, accessible, effective_slots, initargs, initform, layout_of}

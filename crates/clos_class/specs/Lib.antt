@@ -4,4 +4,4 @@ pub mod inner
 pub mod Laws
 pub mod Table
 pub mod Examples
-pub use Rattle.clos_syntax.specs as clos_syntax
+pub use Rattle.clos_defclass.specs as clos_defclass

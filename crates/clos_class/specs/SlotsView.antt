@@ -2,9 +2,9 @@
 use Rattle.std.specs.Prelude.{ℕ, ◌==◌, Bool, true, false, List, [], Option, Some, None, option_copied, slice_get}
 use Rattle.std.specs.Option.{option_map_or}
 use Rattle.lisp_data.specs.declared.ids.CellId.{CellId}
-use Rattle.clos_syntax.specs.declared.slot.Allocation.{Allocation}
-use Rattle.clos_syntax.specs.declared.slot.Allocation.TheVariants.{Instance, Class}
-use Rattle.clos_syntax.specs.declared.slot.SlotSpecifier.{SlotSpecifier}
+use Rattle.clos_defclass.specs.declared.slot.Allocation.{Allocation}
+use Rattle.clos_defclass.specs.declared.slot.Allocation.TheVariants.{Instance, Class}
+use Rattle.clos_defclass.specs.declared.slot.SlotSpecifier.{SlotSpecifier}
 use Rattle.clos_class.specs.declared.direct.ClassSlots.{ClassSlots}
 use Rattle.clos_class.specs.declared.direct.DirectSlot.{DirectSlot}
 use Rattle.clos_class.specs.declared.direct.SlotAllocation.{SlotAllocation}

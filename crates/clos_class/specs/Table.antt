@@ -5,11 +5,11 @@ use Rattle.std.specs.Option.{option_or}
 use Rattle.lisp_data.specs.Name.{Name, same_name}
 use Rattle.lisp_data.specs.declared.ids.CellId.{CellId}
 use Rattle.clos_forms.specs.Distinct.{are_distinct}
-use Rattle.clos_syntax.specs.Class.{default_names, slot_names}
-use Rattle.clos_syntax.specs.declared.class.ClassDefinition.{ClassDefinition}
-use Rattle.clos_syntax.specs.declared.slot.Allocation.{Allocation}
-use Rattle.clos_syntax.specs.declared.slot.Allocation.TheVariants.{Instance, Class}
-use Rattle.clos_syntax.specs.declared.slot.SlotSpecifier.{SlotSpecifier}
+use Rattle.clos_defclass.specs.Names.{default_names, slot_names}
+use Rattle.clos_defclass.specs.declared.class.ClassDefinition.{ClassDefinition}
+use Rattle.clos_defclass.specs.declared.slot.Allocation.{Allocation}
+use Rattle.clos_defclass.specs.declared.slot.Allocation.TheVariants.{Instance, Class}
+use Rattle.clos_defclass.specs.declared.slot.SlotSpecifier.{SlotSpecifier}
 use Rattle.clos_hierarchy.specs.Classes.{Classes, list_in, listing, number_of, with_class}
 use Rattle.clos_hierarchy.specs.Table.{Refusal, or_else, or_standard, program_error, refusal as refusal_by_names, when}
 use Rattle.clos_hierarchy.specs.Table.{Table as NameTable}

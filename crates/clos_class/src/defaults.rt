@@ -1,6 +1,6 @@
 //! Default initargs of classes (HyperSpec 4.3.4.2).
 ghost use Rattle.std.specs.Prelude.{◌≡◌, ◌++◌, ◌∷◌, List, IfOk, OnOk};
-ghost use Rattle.clos_syntax.specs.declared.class.DefaultInitarg.{DefaultInitarg};
+ghost use Rattle.clos_defclass.specs.declared.class.DefaultInitarg.{DefaultInitarg};
 ghost use Rattle.clos_precedence.specs.PrecedenceView.{numbers};
 ghost use Rattle.clos_class.specs.Slots.{default_initargs};
 ghost use Rattle.clos_class.specs.SlotsView.{defaults_in};
@@ -8,7 +8,8 @@ ghost use Rattle.clos_class.specs.inner.Building.{completed};
 
 use crate::names::NameSet;
 use crate::rows::Rows;
-use clos_syntax::{DefaultInitarg, Sequence};
+use clos_defclass::DefaultInitarg;
+use clos_forms::Sequence;
 use lisp_data::ClassId;
 use std::alloc::{AllocError, Global};
 

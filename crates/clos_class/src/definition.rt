@@ -1,11 +1,9 @@
 //! What a definition of a class says by itself (HyperSpec 7.7 defclass).
 ghost use Rattle.std.specs.Prelude.{◌≡◌, IfOk};
-ghost use Rattle.clos_syntax.specs.Class.{default_names, slot_names};
 ghost use Rattle.clos_class.specs.Table.{has_shared_slots, is_shared, is_unambiguous};
 
+use clos_defclass::{Allocation, ClassDefinition, SlotSpecifier, default_names, slot_names};
 use clos_forms::are_distinct;
-use clos_syntax::{Allocation, ClassDefinition, DefaultInitarg, SlotSpecifier};
-use lisp_data::Name;
 use std::alloc::{AllocError, Global};
 
 /// Whether a slot is in one cell for all instances.
@@ -23,26 +21,6 @@ pub fn has_shared_slots(slots: &[SlotSpecifier]) -> bool
     ensures { result ≡ has_shared_slots slots.now }
 {
     slots.iter().any(|slot| is_shared(slot.allocation))
-}
-
-fn slot_names(alloc: Global, slots: &[SlotSpecifier]) -> Result<Vec<Name>, AllocError>
-    ensures { IfOk result (λ ns. ns.items ≡ slot_names slots.now) }
-{
-    let mut names = Vec::new(alloc);
-    for slot in slots {
-        names.push(slot.name.copy()?)?;
-    }
-    Ok(names)
-}
-
-fn default_names(alloc: Global, defaults: &[DefaultInitarg]) -> Result<Vec<Name>, AllocError>
-    ensures { IfOk result (λ ns. ns.items ≡ default_names defaults.now) }
-{
-    let mut names = Vec::new(alloc);
-    for default in defaults {
-        names.push(default.name.copy()?)?;
-    }
-    Ok(names)
 }
 
 /// Whether no slot and no default initarg stands twice.

@@ -3,8 +3,8 @@ ghost use Rattle.std.specs.Prelude.{◌≡◌, IfOk};
 ghost use Rattle.clos_class.specs.SlotsView.{allocated, direct_slot, says_nothing};
 
 use crate::names::copy_names;
-use clos_forms::Form;
-use clos_syntax::{Allocation, DefaultInitarg, Sequence, SlotSpecifier};
+use clos_defclass::{Allocation, DefaultInitarg, SlotSpecifier};
+use clos_forms::{Form, Sequence};
 use lisp_data::{CellId, Name};
 use std::alloc::{AllocError, Global};
 

@@ -4,7 +4,7 @@ ghost use Rattle.std.specs.List.{list_any};
 ghost use Rattle.lisp_data.specs.Name.{same_name};
 ghost use Rattle.clos_class.specs.inner.Building.{with_name, with_names};
 
-use clos_syntax::Sequence;
+use clos_forms::Sequence;
 use indexmap::IndexSet;
 use lisp_data::Name;
 use std::alloc::{AllocError, Global};

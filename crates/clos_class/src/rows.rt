@@ -3,7 +3,7 @@ ghost use Rattle.std.specs.Prelude.{◌≡◌, ℕ, ◌==◌, Some, option_copie
 ghost use Rattle.clos_class.specs.SlotsView.{defaults_in, or_said, row_of, slots_in};
 
 use crate::direct::{ClassSlots, DirectSlot};
-use clos_syntax::DefaultInitarg;
+use clos_defclass::DefaultInitarg;
 use lisp_data::ClassId;
 
 /// What classes say of slots: as it is kept, but for one class where that would say something else.

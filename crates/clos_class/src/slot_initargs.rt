@@ -11,7 +11,7 @@ ghost use Rattle.clos_class.specs.inner.Building.{or_no_names, with_names};
 use crate::direct::DirectSlot;
 use crate::names::add_names;
 use crate::rows::Rows;
-use clos_syntax::Sequence;
+use clos_forms::Sequence;
 use lisp_data::{ClassId, Name};
 use std::alloc::{AllocError, Global};
 use std::collections::HashMap;

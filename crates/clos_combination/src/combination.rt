@@ -7,8 +7,8 @@ ghost use Rattle.clos_combination.specs.Combination.{combination_in, combination
 use crate::group::{GroupSpecifier, are_ordered, parse_groups};
 use crate::keyword::{Flags, is_keyword, or_false};
 use crate::parameter::{Parameters, parameter_names, parse_parameters};
-use clos_forms::SyntaxFault;
-use clos_lambda::{Documentation, Sequence, Symbols, are_properties, parse_symbol, parse_value};
+use clos_forms::{Sequence, SyntaxFault};
+use clos_lambda::{Documentation, Symbols, are_properties, parse_symbol, parse_value};
 use clos_template::{Template, parse_template};
 use lisp_data::{Data, Datum, Name};
 use std::alloc::Global;

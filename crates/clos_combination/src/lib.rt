@@ -7,7 +7,8 @@ mod keyword;
 pub mod parameter;
 pub mod pattern;
 
-pub use clos_lambda::{Sequence, is_key};
+pub use clos_forms::Sequence;
+pub use clos_lambda::is_key;
 pub use clos_template::{
     ExpansionFault, MAX_CONSES, Scope, Template, expand, from_elements, nil_symbol, truth,
 };

@@ -6,8 +6,8 @@ ghost use Rattle.clos_forms.specs.Fault.{Gives};
 ghost use Rattle.clos_combination.specs.Pattern.{are_equal, are_wanted, dotted_pattern, every, is_wanted, listed, matches, named_pattern, pattern_in, qualified_by, unqualified, wanted_by, wanted_in};
 ghost use Rattle.clos_combination.specs.PatternView.{wanted_of};
 
-use clos_forms::{SyntaxFault, is_the, quoted_value};
-use clos_lambda::{Sequence, is_symbol_called};
+use clos_forms::{Sequence, SyntaxFault, is_the, quoted_value};
+use clos_lambda::is_symbol_called;
 use lisp_data::{Data, Datum, Dot, Name, Value};
 use std::alloc::{AllocError, Global};
 use std::marker::Model;

@@ -12,7 +12,7 @@ use Rattle.clos_definition.specs.Refusal.{Allows, StopsFor, or_else, table_full,
 use Rattle.clos_store.specs.Objects.{Objects, with_class as objects_with}
 use Rattle.clos_store.specs.Store.{has_room_for}
 use Rattle.lisp_data.specs.Value.{Val}
-use Rattle.clos_syntax.specs.declared.class.ClassDefinition.{ClassDefinition}
+use Rattle.clos_syntax.specs.clos_defclass.declared.class.ClassDefinition.{ClassDefinition}
 use Rattle.clos_watch.specs.declared.notice.Notice.{Notice}
 use Rattle.clos_world.specs.Hearing.{Hearing, telling}
 use Rattle.clos_world.specs.World.{State}

@@ -19,12 +19,12 @@ use Rattle.clos_method.specs.declared.origin.Origin.{Origin}
 use Rattle.clos_method.specs.declared.origin.Origin.TheVariants.{Defmethod, MethodOption}
 use Rattle.clos_method.specs.declared.shape.Shape.{Shape}
 use Rattle.clos_syntax.specs.Laws.{IsSpecialized}
-use Rattle.clos_syntax.specs.declared.class.ClassDefinition.{ClassDefinition}
+use Rattle.clos_syntax.specs.clos_defclass.declared.class.ClassDefinition.{ClassDefinition}
 use Rattle.clos_syntax.specs.declared.generic.GenericDefinition.{GenericDefinition}
 use Rattle.clos_syntax.specs.declared.method.MethodDefinition.{MethodDefinition}
 use Rattle.clos_syntax.specs.declared.method.ParameterSpecializer.{ParameterSpecializer}
-use Rattle.clos_syntax.specs.declared.slot.Accessor.{Accessor}
-use Rattle.clos_syntax.specs.declared.slot.Accessor.TheVariants.{Reader, Writer}
+use Rattle.clos_syntax.specs.clos_defclass.declared.slot.Accessor.{Accessor}
+use Rattle.clos_syntax.specs.clos_defclass.declared.slot.Accessor.TheVariants.{Reader, Writer}
 use Rattle.clos_definition.specs.Accessor.{accessor_method, accessor_methods, accessor_shape, accessors_of, accessors_refusal, function_made, function_of, is_there, number_after, place_of, with_functions}
 use Rattle.clos_definition.specs.declared.accessor.SlotAccessor.{SlotAccessor}
 use Rattle.clos_definition.specs.declared.effect.Effect.{Effect}

@@ -6,9 +6,9 @@ use Rattle.lisp_data.specs.Print.{Specializer, on_class}
 use Rattle.clos_hierarchy.specs.Initial.{number as predefined_number}
 use Rattle.clos_forms.specs.declared.operator.FunctionName.{FunctionName}
 use Rattle.clos_forms.specs.declared.operator.FunctionName.TheVariants.{Symbol}
-use Rattle.clos_syntax.specs.declared.slot.Accessor.{Accessor}
-use Rattle.clos_syntax.specs.declared.slot.Accessor.TheVariants.{Reader, Writer}
-use Rattle.clos_syntax.specs.declared.slot.SlotSpecifier.{SlotSpecifier}
+use Rattle.clos_syntax.specs.clos_defclass.declared.slot.Accessor.{Accessor}
+use Rattle.clos_syntax.specs.clos_defclass.declared.slot.Accessor.TheVariants.{Reader, Writer}
+use Rattle.clos_syntax.specs.clos_defclass.declared.slot.SlotSpecifier.{SlotSpecifier}
 use Rattle.clos_generic.specs.Accessors.{accessors_there}
 use Rattle.clos_generic.specs.Changes.{addition_fits}
 use Rattle.clos_generic.specs.Initial.{standard_options}

@@ -9,7 +9,7 @@ use Rattle.clos_forms.specs.Form.{Form}
 use Rattle.clos_forms.specs.Quotation.{name_value}
 use Rattle.clos_forms.specs.declared.operator.FunctionName.TheVariants.{Symbol}
 use Rattle.clos_store.specs.Store.{has_room_for, with_cells}
-use Rattle.clos_syntax.specs.declared.class.ClassDefinition.{ClassDefinition}
+use Rattle.clos_syntax.specs.clos_defclass.declared.class.ClassDefinition.{ClassDefinition}
 use Rattle.clos_cache.specs.Cache.{Change, of_classes}
 use Rattle.clos_generic.specs.Changes.{Changes}
 use Rattle.clos_generic.specs.declared.changes.Definition.{Definition}

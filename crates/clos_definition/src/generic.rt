@@ -15,14 +15,14 @@ use crate::effect::{Effect, check, reserve};
 use crate::method::{method_with, number_of, push_forms, refuse_specializers};
 use crate::refusal::refuse_taken;
 use clos_class::Classes;
-use clos_forms::Form;
+use clos_forms::{Form, Sequence};
 use clos_generic::{
     Addition, Changes, Definition, Generics, Options, Positions, Removal, copy_name,
     standard_combination,
 };
 use clos_method::{Origin, Shape};
 use clos_store::Slot;
-use clos_syntax::{CombinationUse, GenericDefinition, MethodDefinition, Sequence};
+use clos_syntax::{CombinationUse, GenericDefinition, MethodDefinition};
 use clos_world::{ConditionKind, Stop, UseFault, World, about_name, plain};
 use lisp_data::{GenericId, MethodId, Name};
 use std::alloc::{AllocError, Global};

@@ -6,7 +6,7 @@ use Rattle.lisp_data.specs.declared.value.Value.{Value}
 use Rattle.clos_class.specs.declared.reserve.NewCell.{NewCell}
 use Rattle.clos_forms.specs.declared.operator.FunctionName.{FunctionName}
 use Rattle.clos_machine.specs.clos_world.clos_generic.Table.{number}
-use Rattle.clos_syntax.specs.declared.class.ClassDefinition.{ClassDefinition}
+use Rattle.clos_syntax.specs.clos_defclass.declared.class.ClassDefinition.{ClassDefinition}
 use Rattle.clos_syntax.specs.declared.generic.GenericDefinition.{GenericDefinition}
 use Rattle.clos_syntax.specs.declared.method.MethodDefinition.{MethodDefinition}
 use Rattle.clos_watch.specs.declared.notice.Notice.{Notice}

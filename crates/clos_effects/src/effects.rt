@@ -11,10 +11,10 @@ ghost use Rattle.clos_effects.specs.Effects.{AnswersNoting, UsesAfter, takes_eff
 ghost use Rattle.clos_effects.specs.Hearing.{Heard};
 
 use crate::telling::{prepare_to_tell, tell};
+use clos_defclass::ClassDefinition;
 use clos_definition::{Effect, class_notices, make, make_class, possible_notices, remove};
 use clos_meaning::{ConditionKind, Stop, World, plain};
 use clos_store::Slot;
-use clos_syntax::ClassDefinition;
 use clos_watch::{Dependents, Notice};
 use lisp_data::{ClassId, GenericId, MethodId, Value};
 use std::alloc::Global;

@@ -1,7 +1,7 @@
 //! Circles of classes: of those that would be above each other, and of those that would have to come before each other.
 use clos_circle::{Definition, precedence_circle, superclass_circle};
+use clos_defclass::ClassDefinition;
 use clos_look::{Page, World};
-use clos_syntax::ClassDefinition;
 use clos_top::{Top, parse_top};
 use lisp_data::{Datum, Name};
 use std::alloc::Global;

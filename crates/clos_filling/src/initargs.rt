@@ -9,9 +9,9 @@ ghost use Rattle.clos_machine.specs.clos_meaning.Parameters.{is_symbol_named};
 
 use crate::reached::Reached;
 use clos_class::EffectiveSlot;
+use clos_defclass::DefaultInitarg;
 use clos_machine::parameters::{argument_named, is_allow_other_keys, is_allowing, is_symbol_named};
 use clos_method::Method;
-use clos_syntax::DefaultInitarg;
 use lisp_data::{Name, Value};
 
 /// Whether a value is one of these names.

@@ -64,7 +64,7 @@ use Rattle.clos_forms.specs.clos_names.declared.callee.SlotFunction as of_slots
 use Rattle.clos_forms.specs.clos_names.declared.callee.SlotFunction.TheVariants.{SlotValue, SlotBoundp, SlotMakunbound, SlotExistsP}
 use Rattle.clos_meaning.specs.clos_world.clos_class.Slots.{Effective as Whole, Layout}
 use Rattle.clos_meaning.specs.clos_world.clos_class.declared.effective_slots.EffectiveSlot.{EffectiveSlot}
-use Rattle.clos_syntax.specs.declared.class.DefaultInitarg.{DefaultInitarg}
+use Rattle.clos_syntax.specs.clos_defclass.declared.class.DefaultInitarg.{DefaultInitarg}
 use Rattle.clos_meaning.specs.clos_world.clos_store.Store.{allocated, has_room, slot_found, with_instance}
 use Rattle.clos_meaning.specs.clos_world.clos_store.Update.{with_change, with_update}
 use Rattle.clos_meaning.specs.clos_world.Class.{effective, layout}

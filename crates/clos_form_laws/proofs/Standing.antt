@@ -47,7 +47,7 @@ use Rattle.clos_meaning.specs.clos_world.clos_comb.Table as combinations
 use Rattle.clos_meaning.specs.clos_world.clos_comb.Table.{Combination, standard, short, long}
 use Rattle.clos_method.specs.declared.method.Method.{Method}
 use Rattle.clos_syntax.specs.WellFormed.{HasInit, IsPlain, OfDefault, OfKey, OfKeys, OfLambdaList, OfOptional}
-use Rattle.clos_syntax.specs.declared.class.DefaultInitarg.{DefaultInitarg}
+use Rattle.clos_syntax.specs.clos_defclass.declared.class.DefaultInitarg.{DefaultInitarg}
 use Rattle.lisp_data.specs.Datum.{nesting_of}
 use Rattle.lisp_data.specs.declared.ids.CellId.{CellId}
 use Rattle.lisp_prims.specs.Fault as prims

@@ -7,6 +7,7 @@ pub mod OperatorView
 pub mod Form
 pub mod FormView
 pub mod Fault
+pub mod Sequence
 pub mod Part
 pub mod PartView
 pub mod FunctionName

@@ -10,7 +10,8 @@ use Rattle.clos_forms.specs.FunctionName.{symbol_in, variable_in}
 use Rattle.clos_forms.specs.Grammar.{form_of}
 use Rattle.clos_forms.specs.Part.{at_most_one, only_in}
 use Rattle.clos_forms.specs.declared.part.Context.TheVariants.{Plain}
-use Rattle.clos_lambda.specs.Lists.{list_in, the_one}
+use Rattle.clos_forms.specs.Sequence.{the_one}
+use Rattle.clos_lambda.specs.Lists.{list_in}
 use Rattle.clos_lambda.specs.Sections.{is_lambda_list_keyword, is_symbol_called, front, back, after, past}
 use Rattle.clos_lambda.specs.declared.lambda_list.Optional.{Optional}
 use Rattle.clos_lambda.specs.declared.lambda_list.Key.{Key}

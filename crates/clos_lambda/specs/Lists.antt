@@ -21,19 +21,7 @@ abbrev pub ahead : List Dat → Dats → Dats
 ahead [] l = l
 ahead (d ∷ ds) l = cons d (ahead ds l)
 
--- the only thing of a list, which may be empty
-abbrev pub single : {A : Type 0} → List A → Option (Option A)
-single [] = Some None
-single (x ∷ []) = Some (Some x)
-single (x ∷ y ∷ xs) = None
-
 -- the things of a list that may not be given
 abbrev pub or_none : {A : Type 0} → Option (List A) → List A
 or_none None = []
 or_none (Some xs) = xs
-
--- the one thing of a list
-abbrev pub the_one : {A : Type 0} → List A → Option A
-the_one [] = None
-the_one (x ∷ []) = Some x
-the_one (x ∷ y ∷ xs) = None

@@ -7,7 +7,7 @@ use Rattle.lisp_data.specs.Datum.{Dat, integer, symbol, string, list, dotted, me
 use Rattle.clos_forms.specs.Binding.{each}
 use Rattle.clos_forms.specs.Body.{is_string}
 use Rattle.clos_forms.specs.Fault.{◌>>=◌}
-use Rattle.clos_lambda.specs.Lists.{single}
+use Rattle.clos_forms.specs.Sequence.{single}
 
 -- the keyword of these characters
 abbrev pub is_keyword_called : List ℕ → Name → Bool

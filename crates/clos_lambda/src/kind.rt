@@ -11,8 +11,7 @@ ghost use Rattle.clos_lambda.specs.Sections.{front};
 
 use crate::property::{is_key, is_option};
 use crate::section::ends_section;
-use crate::sequence::Sequence;
-use clos_forms::{Context, Form, SyntaxFault, is_string, parse_form, symbol_name};
+use clos_forms::{Context, Form, Sequence, SyntaxFault, is_string, parse_form, symbol_name};
 use lisp_data::{Data, Datum, Name};
 use std::alloc::Global;
 

@@ -6,16 +6,15 @@ ghost use Rattle.lisp_data.specs.Datum.{Dats};
 ghost use Rattle.lisp_data.specs.DatumView.{datum_of};
 ghost use Rattle.clos_forms.specs.Fault.{Gives};
 ghost use Rattle.clos_lambda.specs.LambdaList.{all_variables, allowing, bare, entries_of, generic_lambda_list_in, given_in, has_init, has_inits, if_distinct, key_in, key_variables, key_with, keyed, keyword_of, keys_from, lambda_list_in, listed_key, listed_optional, named_key, names_in, optional_in, optional_variables, optional_with, optionals_in, ordinary, parameter_in, plain_key, rest_in, unless_keyword, variables_of, with_keys, with_optionals, with_rest};
-ghost use Rattle.clos_lambda.specs.Lists.{the_one};
+ghost use Rattle.clos_forms.specs.Sequence.{the_one};
 
 use crate::kind::{Kind, parse_front, parse_symbol};
 use crate::list::parse_list;
 use crate::parameter::{Parameter, parse_parameters};
 use crate::section::{after, back, is_lambda_list_keyword, is_symbol_called, past};
-use crate::sequence::Sequence;
 use clos_forms::{
-    Context, Form, Scope, SyntaxFault, are_distinct, at_most_one, only, parse_form_within,
-    variable_name,
+    Context, Form, Scope, Sequence, SyntaxFault, are_distinct, at_most_one, only,
+    parse_form_within, variable_name,
 };
 use lisp_data::{Data, Datum, Name};
 use std::alloc::{AllocError, Global};

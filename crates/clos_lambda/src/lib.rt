@@ -7,7 +7,6 @@ mod list;
 mod parameter;
 mod property;
 mod section;
-pub mod sequence;
 
 pub use kind::{
     Documentation, Ignored, Kind, PlainForms, Symbols, parse_documentation, parse_each,
@@ -21,4 +20,3 @@ pub use lambda_list::{
 pub use list::parse_list;
 pub use property::{are_properties, arguments, is_key, is_option};
 pub use section::{back, is_symbol_called};
-pub use sequence::Sequence;

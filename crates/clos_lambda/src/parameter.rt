@@ -7,8 +7,7 @@ ghost use Rattle.clos_forms.specs.Fault.{Gives};
 ghost use Rattle.clos_lambda.specs.Sections.{front};
 
 use crate::section::ends_section;
-use crate::sequence::Sequence;
-use clos_forms::{Scope, SyntaxFault};
+use clos_forms::{Scope, Sequence, SyntaxFault};
 use lisp_data::{Data, Datum};
 use std::alloc::Global;
 

@@ -8,7 +8,7 @@ use Rattle.clos_forms.specs.Form.{Form}
 use Rattle.clos_forms.specs.declared.operator.FunctionName.{FunctionName}
 use Rattle.clos_forms.specs.declared.operator.FunctionName.TheVariants.{Symbol, Setf}
 use Rattle.clos_session.specs.clos_world.clos_generic.Table.{named as generic_named, number}
-use Rattle.clos_syntax.specs.declared.class.ClassDefinition.{ClassDefinition}
+use Rattle.clos_syntax.specs.clos_defclass.declared.class.ClassDefinition.{ClassDefinition}
 use Rattle.clos_syntax.specs.declared.function.FunctionDefinition.{FunctionDefinition}
 use Rattle.clos_syntax.specs.declared.generic.GenericDefinition.{GenericDefinition}
 use Rattle.clos_syntax.specs.declared.method.MethodDefinition.{MethodDefinition}

@@ -13,7 +13,7 @@ use Rattle.clos_generic.proofs.Members.{each_of}
 use Rattle.clos_method.specs.Method.{system_method}
 use Rattle.clos_method.specs.System.{system_functions}
 use Rattle.clos_session.specs.clos_world.clos_hierarchy.Initial.{predefined}
-use Rattle.clos_syntax.specs.declared.slot.Accessor.TheVariants.{Reader, Writer}
+use Rattle.clos_syntax.specs.clos_defclass.declared.slot.Accessor.TheVariants.{Reader, Writer}
 use Rattle.clos_method.specs.declared.method.Method.{Method}
 use Rattle.clos_session.specs.clos_definition_forms.clos_definition.declared.accessor.SlotAccessor.{SlotAccessor}
 use Rattle.clos_session.specs.clos_definition_forms.clos_definition.Accessor.{accessor_body, accessor_method, accessors_of, function_of, number_after}
@@ -30,9 +30,9 @@ use Rattle.clos_session.specs.clos_world.declared.functions.Function.{Function}
 use Rattle.clos_session.specs.clos_world.declared.limits.Limits.{Limits}
 use Rattle.clos_session.specs.clos_world.Initial.{initial}
 use Rattle.clos_syntax.specs.WellFormed.{HasInit, OfDefault, OfMethod, OfSlot}
-use Rattle.clos_syntax.specs.declared.class.ClassDefinition.{ClassDefinition}
+use Rattle.clos_syntax.specs.clos_defclass.declared.class.ClassDefinition.{ClassDefinition}
 use Rattle.clos_syntax.specs.declared.method.MethodDefinition.{MethodDefinition}
-use Rattle.clos_syntax.specs.declared.slot.SlotSpecifier.{SlotSpecifier}
+use Rattle.clos_syntax.specs.clos_defclass.declared.slot.SlotSpecifier.{SlotSpecifier}
 use Rattle.clos_method.specs.Shape.{shape_of}
 use Rattle.clos_top.specs.Top.{any_top, has_method, top_of}
 use Rattle.clos_top.specs.WellFormed as top_forms

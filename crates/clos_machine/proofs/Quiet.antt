@@ -8,7 +8,7 @@ use Rattle.clos_forms.specs.Quotation.{name_value}
 use Rattle.clos_meaning.specs.clos_world.Values.{last_first}
 use Rattle.clos_meaning.specs.clos_world.World.{State, unbound, held}
 use Rattle.clos_meaning.specs.clos_world.clos_class.Slots.{Effective}
-use Rattle.clos_meaning.specs.clos_world.clos_class.clos_syntax.declared.class.DefaultInitarg.{DefaultInitarg}
+use Rattle.clos_meaning.specs.clos_world.clos_class.clos_defclass.declared.class.DefaultInitarg.{DefaultInitarg}
 use Rattle.clos_meaning.specs.clos_world.clos_class.declared.effective_slots.EffectiveSlot.{EffectiveSlot}
 use Rattle.clos_forms.specs.clos_names.Callee.{callee_of}
 use Rattle.clos_meaning.specs.Bodies.{parameters_run}

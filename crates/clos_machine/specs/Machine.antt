@@ -16,7 +16,7 @@ use Rattle.clos_forms.specs.Quotation.{name_value}
 use Rattle.clos_meaning.specs.clos_world.Globals.{Variables, is_global}
 use Rattle.clos_meaning.specs.clos_world.Values.{last_first}
 use Rattle.clos_meaning.specs.clos_world.clos_class.Slots.{Effective}
-use Rattle.clos_meaning.specs.clos_world.clos_class.clos_syntax.declared.class.DefaultInitarg.{DefaultInitarg}
+use Rattle.clos_meaning.specs.clos_world.clos_class.clos_defclass.declared.class.DefaultInitarg.{DefaultInitarg}
 use Rattle.clos_meaning.specs.clos_world.clos_class.declared.effective_slots.EffectiveSlot.{EffectiveSlot}
 use Rattle.clos_meaning.specs.clos_world.World.{State, held, Local, bound_as, unbound}
 use Rattle.clos_meaning.specs.clos_world.declared.condition.Condition.{Condition}

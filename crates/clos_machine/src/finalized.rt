@@ -3,8 +3,8 @@ ghost use Rattle.std.specs.Prelude.{◌≡◌, IfOk};
 ghost use Rattle.clos_meaning.specs.clos_world.Class.{effective};
 ghost use Rattle.clos_meaning.specs.clos_world.World.{seen};
 
+use clos_defclass::DefaultInitarg;
 use clos_meaning::{Effective, EffectiveSlot, Layout, World};
-use clos_syntax::DefaultInitarg;
 use lisp_data::ClassId;
 use std::alloc::AllocError;
 use std::marker::Model;

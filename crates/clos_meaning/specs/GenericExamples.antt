@@ -14,7 +14,7 @@ use Rattle.clos_world.specs.Initial.{initial}
 use Rattle.clos_world.specs.Limits.{standard}
 use Rattle.clos_world.specs.World.{State}
 use Rattle.clos_world.specs.clos_class.Table as classes
-use Rattle.clos_world.specs.clos_class.clos_syntax.declared.class.ClassDefinition.{ClassDefinition}
+use Rattle.clos_world.specs.clos_class.clos_defclass.declared.class.ClassDefinition.{ClassDefinition}
 use Rattle.clos_world.specs.clos_generic.Initial as generics
 use Rattle.clos_world.specs.clos_generic.Table.{Function}
 use Rattle.clos_world.specs.clos_store.Store.{allocated, with_instance}

@@ -5,7 +5,7 @@ use Rattle.lisp_data.specs.Name.{Name}
 use Rattle.lisp_data.specs.Value.{Val, instance}
 use Rattle.lisp_prims.specs.Primitive.{truth}
 use Rattle.clos_forms.specs.Quotation.{name_value}
-use Rattle.clos_world.specs.clos_class.clos_syntax.declared.class.DefaultInitarg.{DefaultInitarg}
+use Rattle.clos_world.specs.clos_class.clos_defclass.declared.class.DefaultInitarg.{DefaultInitarg}
 use Rattle.clos_world.specs.clos_method.Keywords.{method_allows, method_names}
 use Rattle.clos_world.specs.clos_method.System.{system_number}
 use Rattle.clos_world.specs.clos_method.declared.method.Method.{Method}

@@ -7,7 +7,7 @@ use Rattle.lisp_data.specs.Value.{Val, instance}
 use Rattle.lisp_data.specs.declared.ids.ClassId.{ClassId}
 use Rattle.lisp_data.specs.declared.ids.InstanceId.{InstanceId}
 use Rattle.clos_forms.specs.Quotation.{name_value}
-use Rattle.clos_syntax.specs.declared.class.DefaultInitarg.{DefaultInitarg}
+use Rattle.clos_defclass.specs.declared.class.DefaultInitarg.{DefaultInitarg}
 use Rattle.clos_class.specs.Slots.{Effective}
 use Rattle.clos_machine.specs.clos_world.clos_store.Store.{allocated, has_room, next_instance, with_instance}
 use Rattle.clos_machine.specs.clos_world.Class.{class_name, effective}

@@ -1,7 +1,7 @@
 -- What the parts of these protocols are told to do.
 use Rattle.std.specs.Prelude.{◌≡◌, ℕ, List, [], ◌∷◌, Option, Some, None, if◌then◌else◌}
 use Rattle.lisp_data.specs.Value.{Val}
-use Rattle.clos_syntax.specs.declared.class.DefaultInitarg.{DefaultInitarg}
+use Rattle.clos_defclass.specs.declared.class.DefaultInitarg.{DefaultInitarg}
 use Rattle.clos_machine.specs.clos_world.declared.condition.Condition.{Condition}
 use Rattle.clos_class.specs.Slots.{Effective}
 use Rattle.clos_machine.specs.clos_meaning.Contexts.{Context, known}

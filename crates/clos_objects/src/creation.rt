@@ -11,6 +11,7 @@ ghost use Rattle.clos_machine.specs.Fault.{TellsCondition};
 ghost use Rattle.clos_objects.specs.Objects.{Enters, default_first, ungiven};
 
 use crate::classes::designate;
+use clos_defclass::DefaultInitarg;
 use clos_filling::initargs::{invalid_initarg, is_given};
 use clos_filling::reached::methods_reached;
 use clos_forms::{Forms, value_named};
@@ -23,7 +24,6 @@ use clos_machine::{
     Arguments, Condition, ConditionKind, Context, Stop, Values, World, about, about_both, plain,
 };
 use clos_method::SystemFunction;
-use clos_syntax::DefaultInitarg;
 use lisp_data::{ClassId, InstanceId, Value};
 use std::alloc::{AllocError, Global};
 

@@ -9,7 +9,7 @@ use Rattle.clos_forms.specs.declared.operator.FunctionName.{FunctionName}
 use Rattle.clos_forms.specs.declared.operator.FunctionName.TheVariants.{Symbol, Setf}
 use Rattle.clos_definition_forms.specs.clos_generic.Table.{named as generic_named, number}
 use Rattle.clos_top.specs.Top.{top_of}
-use Rattle.clos_top.specs.clos_syntax.declared.class.ClassDefinition.{ClassDefinition}
+use Rattle.clos_top.specs.clos_syntax.clos_defclass.declared.class.ClassDefinition.{ClassDefinition}
 use Rattle.clos_top.specs.clos_syntax.declared.generic.GenericDefinition.{GenericDefinition}
 use Rattle.clos_top.specs.clos_syntax.declared.method.MethodDefinition.{MethodDefinition}
 use Rattle.clos_top.specs.declared.top.Top.{Top}

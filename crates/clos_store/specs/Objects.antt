@@ -3,7 +3,7 @@ use Rattle.std.specs.Prelude.{ℕ, List, Option, Some, None, length, option_map,
 use Rattle.lisp_data.specs.Value.{Val}
 use Rattle.clos_hierarchy.specs.Classes.{listing}
 use Rattle.clos_hierarchy.specs.Table.{list_if}
-use Rattle.clos_syntax.specs.declared.class.ClassDefinition.{ClassDefinition}
+use Rattle.clos_defclass.specs.declared.class.ClassDefinition.{ClassDefinition}
 use Rattle.clos_class.specs.Slots.{Layout, layout_of, same_layout}
 use Rattle.clos_class.specs.SlotsView.{direct_slots}
 use Rattle.clos_class.specs.Table.{Table, with_definition}

@@ -14,7 +14,7 @@ use crate::fault::StoreFault;
 use crate::slot::Slot;
 use crate::store::Store;
 use clos_class::{Changed, ClassFault, Classes, Layout, Reserved};
-use clos_syntax::ClassDefinition;
+use clos_defclass::ClassDefinition;
 use lisp_data::{CellId, ClassId, InstanceId, Name, Value};
 use std::alloc::{AllocError, Global};
 use std::marker::Model;

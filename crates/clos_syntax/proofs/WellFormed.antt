@@ -18,14 +18,16 @@ use Rattle.clos_forms.specs.declared.part.Context.{Context}
 use Rattle.clos_forms.specs.declared.part.Context.TheVariants.{Plain, Method}
 use Rattle.clos_forms.proofs.WellFormed.{form_is_well_formed, forms_are_well_formed}
 use Rattle.clos_lambda.specs.LambdaList.{all_variables, allowing, bare, generic_lambda_list_in, given_in, has_inits, if_distinct, key_in, key_with, keyed, keyword_of, keys_from, lambda_list_in, listed_key, listed_optional, named_key, optional_in, optional_with, optionals_in, ordinary, parameter_in, plain_key, rest_in, with_keys, with_optionals, with_rest}
-use Rattle.clos_lambda.specs.Lists.{list_in, or_none, single}
+use Rattle.clos_forms.specs.Sequence.{single}
+use Rattle.clos_lambda.specs.Lists.{list_in, or_none}
 use Rattle.clos_lambda.specs.Sections.{after, back, front, is_symbol_called, past}
 use Rattle.clos_lambda.specs.PlainForm.{form_in}
 use Rattle.clos_lambda.specs.Property.{anything, arguments_in, documentation_in, option_in, options_of, value_in, values_of}
 use Rattle.clos_lambda.specs.declared.lambda_list.Keys.{Keys}
 use Rattle.clos_lambda.specs.declared.lambda_list.LambdaList.{LambdaList}
 use Rattle.clos_lambda.specs.declared.lambda_list.Optional.{Optional}
-use Rattle.clos_syntax.specs.Class.{class_in, class_option_in, class_options_in, class_with, default_names, default_with, defaults_from, defaults_in, documentation_option_in, if_distinct_defaults, if_distinct_slots, metaclass_in, new_class_in, slot_names, slots_in, superclasses_in}
+use Rattle.clos_defclass.specs.Names.{default_names, slot_names}
+use Rattle.clos_syntax.specs.Class.{class_in, class_option_in, class_options_in, class_with, default_with, defaults_from, defaults_in, documentation_option_in, if_distinct_defaults, if_distinct_slots, metaclass_in, new_class_in, slots_in, superclasses_in}
 use Rattle.clos_syntax.specs.Function.{function_in, function_with}
 use Rattle.clos_syntax.specs.FunctionName.{new_function_in}
 use Rattle.clos_syntax.specs.Generic.{combination_use_in, fits, generic, generic_in, generic_option_in, generic_options_in, generic_with, method_option_in, symbols_in}
@@ -33,8 +35,8 @@ use Rattle.clos_syntax.specs.Method.{eql_specializer, listed_specializer, method
 use Rattle.clos_syntax.specs.Slot.{accessors_in, allocation_in, are_slot_options, listed_slot, or_instance, slot_from, slot_in, slot_with}
 use Rattle.clos_syntax.specs.Variable.{documented, init_in, is_documentation, variable_definition_in}
 use Rattle.clos_syntax.specs.WellFormed.{HasInit, IsPlain, OfClass, OfDefault, OfFunction, OfGeneric, OfKey, OfKeys, OfLambdaList, OfMethod, OfOptional, OfSlot, OfSpecializer, OfVariable}
-use Rattle.clos_syntax.specs.declared.class.ClassDefinition.{ClassDefinition}
-use Rattle.clos_syntax.specs.declared.class.DefaultInitarg.{DefaultInitarg}
+use Rattle.clos_defclass.specs.declared.class.ClassDefinition.{ClassDefinition}
+use Rattle.clos_defclass.specs.declared.class.DefaultInitarg.{DefaultInitarg}
 use Rattle.clos_syntax.specs.declared.function.FunctionDefinition.{FunctionDefinition}
 use Rattle.clos_syntax.specs.declared.generic.CombinationUse.{CombinationUse}
 use Rattle.clos_syntax.specs.declared.generic.GenericDefinition.{GenericDefinition}
@@ -42,9 +44,9 @@ use Rattle.clos_syntax.specs.declared.generic.GenericOptions.{GenericOptions}
 use Rattle.clos_syntax.specs.declared.method.MethodDefinition.{MethodDefinition}
 use Rattle.clos_syntax.specs.declared.method.ParameterSpecializer.{ParameterSpecializer}
 use Rattle.clos_syntax.specs.declared.method.ParameterSpecializer.TheVariants.{Eql}
-use Rattle.clos_syntax.specs.declared.slot.Accessor.{Accessor}
-use Rattle.clos_syntax.specs.declared.slot.Allocation.{Allocation}
-use Rattle.clos_syntax.specs.declared.slot.SlotSpecifier.{SlotSpecifier}
+use Rattle.clos_defclass.specs.declared.slot.Accessor.{Accessor}
+use Rattle.clos_defclass.specs.declared.slot.Allocation.{Allocation}
+use Rattle.clos_defclass.specs.declared.slot.SlotSpecifier.{SlotSpecifier}
 use Rattle.clos_syntax.specs.declared.variable.Definer.{Definer}
 use Rattle.clos_syntax.specs.declared.variable.Definer.TheVariants.{DefVar, DefParameter}
 use Rattle.clos_syntax.proofs.WhereGiven.{passes, keeps, either, all_of_each, single_law, each_given}

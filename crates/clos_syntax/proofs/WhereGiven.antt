@@ -5,7 +5,7 @@ use Rattle.std.proofs.lemmas.List.Elements.{All-nil, All-cons, All-head}
 use Rattle.lisp_data.specs.Datum.{Dat, Dats, nil, cons, length_of}
 use Rattle.clos_forms.specs.Binding.{each}
 use Rattle.clos_forms.specs.Fault.{◌>>=◌}
-use Rattle.clos_lambda.specs.Lists.{single}
+use Rattle.clos_forms.specs.Sequence.{single}
 
 -- ---- what holds of a value that may be there
 

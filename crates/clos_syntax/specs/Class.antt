@@ -12,10 +12,11 @@ use Rattle.clos_lambda.specs.Lists.{list_in, or_none}
 use Rattle.clos_lambda.specs.Sections.{is_symbol_called}
 use Rattle.clos_lambda.specs.PlainForm.{form_in}
 use Rattle.clos_lambda.specs.Property.{documentation_in, is_option, option_in, arguments_in}
+use Rattle.clos_defclass.specs.Names.{default_names, slot_names}
+use Rattle.clos_defclass.specs.declared.class.ClassDefinition.{ClassDefinition}
+use Rattle.clos_defclass.specs.declared.class.DefaultInitarg.{DefaultInitarg}
+use Rattle.clos_defclass.specs.declared.slot.SlotSpecifier.{SlotSpecifier}
 use Rattle.clos_syntax.specs.Slot.{slot_in}
-use Rattle.clos_syntax.specs.declared.class.ClassDefinition.{ClassDefinition}
-use Rattle.clos_syntax.specs.declared.class.DefaultInitarg.{DefaultInitarg}
-use Rattle.clos_syntax.specs.declared.slot.SlotSpecifier.{SlotSpecifier}
 
 -- the classes that there are from the start (4.3.7)
 abbrev pub predefined_classes : List (List ℕ)
@@ -39,10 +40,6 @@ if_distinct_names ns = if are_distinct ns then Some ns else None
 abbrev pub superclasses_in : Dat → Option (List Name)
 superclasses_in d = list_in d >>= each symbol_in >>= if_distinct_names
 
-abbrev pub slot_names : List SlotSpecifier → List Name
-slot_names [] = []
-slot_names (s ∷ ss) = s.name ∷ slot_names ss
-
 abbrev pub if_distinct_slots : List SlotSpecifier → Option (List SlotSpecifier)
 if_distinct_slots ss = if are_distinct (slot_names ss) then Some ss else None
 
@@ -63,10 +60,6 @@ abbrev pub defaults_from : Dats → Option (List DefaultInitarg)
 defaults_from nil = Some []
 defaults_from (cons k nil) = None
 defaults_from (cons k (cons v l)) = default_with k v >>= λ x. defaults_from l >>= λ xs. Some (x ∷ xs)
-
-abbrev pub default_names : List DefaultInitarg → List Name
-default_names [] = []
-default_names (d ∷ ds) = d.name ∷ default_names ds
 
 abbrev pub if_distinct_defaults : List DefaultInitarg → Option (List DefaultInitarg)
 if_distinct_defaults ds = if are_distinct (default_names ds) then Some ds else None

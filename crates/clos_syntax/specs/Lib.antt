@@ -1,3 +1,4 @@
+pub use Rattle.clos_defclass.specs as clos_defclass
 pub mod FunctionName
 pub mod Method
 pub mod Function

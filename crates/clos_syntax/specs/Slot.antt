@@ -9,11 +9,11 @@ use Rattle.clos_forms.specs.declared.operator.FunctionName.TheVariants.{Setf}
 use Rattle.clos_lambda.specs.PlainForm.{form_in}
 use Rattle.clos_lambda.specs.Property.{anything, documentation_in, is_key, values_of, value_in}
 use Rattle.clos_syntax.specs.FunctionName.{method_function_in, method_symbol_in}
-use Rattle.clos_syntax.specs.declared.slot.Accessor.{Accessor}
-use Rattle.clos_syntax.specs.declared.slot.Accessor.TheVariants.{Reader, Writer}
-use Rattle.clos_syntax.specs.declared.slot.Allocation.{Allocation}
-use Rattle.clos_syntax.specs.declared.slot.Allocation.TheVariants.{Instance, Class}
-use Rattle.clos_syntax.specs.declared.slot.SlotSpecifier.{SlotSpecifier}
+use Rattle.clos_defclass.specs.declared.slot.Accessor.{Accessor}
+use Rattle.clos_defclass.specs.declared.slot.Accessor.TheVariants.{Reader, Writer}
+use Rattle.clos_defclass.specs.declared.slot.Allocation.{Allocation}
+use Rattle.clos_defclass.specs.declared.slot.Allocation.TheVariants.{Instance, Class}
+use Rattle.clos_defclass.specs.declared.slot.SlotSpecifier.{SlotSpecifier}
 
 -- ---- accessors
 

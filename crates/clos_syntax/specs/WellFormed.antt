@@ -8,14 +8,14 @@ use Rattle.clos_lambda.specs.declared.lambda_list.Key.{Key}
 use Rattle.clos_lambda.specs.declared.lambda_list.Keys.{Keys}
 use Rattle.clos_lambda.specs.declared.lambda_list.LambdaList.{LambdaList}
 use Rattle.clos_lambda.specs.declared.lambda_list.Optional.{Optional}
-use Rattle.clos_syntax.specs.declared.class.ClassDefinition.{ClassDefinition}
-use Rattle.clos_syntax.specs.declared.class.DefaultInitarg.{DefaultInitarg}
+use Rattle.clos_defclass.specs.declared.class.ClassDefinition.{ClassDefinition}
+use Rattle.clos_defclass.specs.declared.class.DefaultInitarg.{DefaultInitarg}
 use Rattle.clos_syntax.specs.declared.function.FunctionDefinition.{FunctionDefinition}
 use Rattle.clos_syntax.specs.declared.generic.GenericDefinition.{GenericDefinition}
 use Rattle.clos_syntax.specs.declared.method.MethodDefinition.{MethodDefinition}
 use Rattle.clos_syntax.specs.declared.method.ParameterSpecializer.{ParameterSpecializer}
 use Rattle.clos_syntax.specs.declared.method.ParameterSpecializer.TheVariants.{Class, Eql}
-use Rattle.clos_syntax.specs.declared.slot.SlotSpecifier.{SlotSpecifier}
+use Rattle.clos_defclass.specs.declared.slot.SlotSpecifier.{SlotSpecifier}
 use Rattle.clos_syntax.specs.declared.variable.VariableDefinition.{VariableDefinition}
 
 -- a form outside of any method's body

@@ -1,35 +1,20 @@
 //! Classes (HyperSpec 7.7 `defclass`).
-ghost use Rattle.std.specs.Prelude.{◌≡◌, IfOk, option_map};
+ghost use Rattle.std.specs.Prelude.{◌≡◌, option_map};
 ghost use Rattle.lisp_data.specs.DatumView.{datum_of};
 ghost use Rattle.clos_forms.specs.Fault.{Gives};
 ghost use Rattle.clos_forms.specs.clos_names.Names.{is_one_of};
 ghost use Rattle.clos_lambda.specs.Lists.{or_none};
-ghost use Rattle.clos_syntax.specs.Class.{class_in, class_option_in, class_options_in, class_with, default_names, default_with, defaults_from, defaults_in, documentation_option_in, if_distinct_defaults, metaclass_in, new_class_in, only_argument_in, predefined_classes, slot_names, slots_in, standard_class_in, superclasses_in};
+ghost use Rattle.clos_syntax.specs.Class.{class_in, class_option_in, class_options_in, class_with, default_with, defaults_from, defaults_in, documentation_option_in, if_distinct_defaults, metaclass_in, new_class_in, only_argument_in, predefined_classes, slots_in, standard_class_in, superclasses_in};
 
-use crate::slot::{SlotSpecifier, Slots};
-use clos_forms::{Form, SyntaxFault, are_distinct, is_among, only};
+use crate::slot::Slots;
+use clos_defclass::{ClassDefinition, DefaultInitarg, SlotSpecifier, default_names, slot_names};
+use clos_forms::{Sequence, SyntaxFault, are_distinct, is_among, only};
 use clos_lambda::{
-    Kind, Sequence, Symbols, arguments, is_option, is_symbol_called, parse_documentation,
-    parse_each, parse_list, parse_option, parse_plain_form, parse_symbol,
+    Kind, Symbols, arguments, is_option, is_symbol_called, parse_documentation, parse_each,
+    parse_list, parse_option, parse_plain_form, parse_symbol,
 };
 use lisp_data::{Data, Datum, Name};
-use std::alloc::{AllocError, Global};
-
-/// The initialization argument that a class gives where a call does not (HyperSpec 7.1.3).
-#[derive(Drop)]
-pub struct DefaultInitarg {
-    pub name: Name,
-    pub form: Form,
-}
-
-/// What a `defclass` defines. No superclass, slot name or default initarg stands twice in it.
-#[derive(Drop)]
-pub struct ClassDefinition {
-    pub name: Name,
-    pub superclasses: Sequence<Name>,
-    pub slots: Sequence<SlotSpecifier>,
-    pub defaults: Sequence<DefaultInitarg>,
-}
+use std::alloc::Global;
 
 /// The classes that there are from the start (HyperSpec 4.3.7).
 #[rattlefmt::skip]
@@ -119,16 +104,6 @@ fn parse_superclasses(alloc: Global, datum: &Datum) -> Result<Sequence<Name>, Sy
     Ok(names)
 }
 
-fn slot_names(alloc: Global, slots: &[SlotSpecifier]) -> Result<Vec<Name>, AllocError>
-    ensures { IfOk result (λ ns. ns.items ≡ slot_names slots.now) }
-{
-    let mut names = Vec::new(alloc);
-    for slot in slots {
-        names.push(slot.name.copy()?)?;
-    }
-    Ok(names)
-}
-
 /// Slots, no name twice.
 fn parse_slots(alloc: Global, datum: &Datum) -> Result<Sequence<SlotSpecifier>, SyntaxFault>
     ensures { Gives (λ ss. ss) result (slots_in (datum_of datum.now)) }
@@ -185,16 +160,6 @@ fn parse_defaults_from(
         }
     }
     Ok(defaults)
-}
-
-fn default_names(alloc: Global, defaults: &[DefaultInitarg]) -> Result<Vec<Name>, AllocError>
-    ensures { IfOk result (λ ns. ns.items ≡ default_names defaults.now) }
-{
-    let mut names = Vec::new(alloc);
-    for default in defaults {
-        names.push(default.name.copy()?)?;
-    }
-    Ok(names)
 }
 
 /// The initargs of a `:default-initargs` option, none twice.

@@ -8,10 +8,10 @@ ghost use Rattle.clos_syntax.specs.Generic.{combination_use_in, combination_with
 use crate::class::DocumentationOptions;
 use crate::function_name::parse_new_function;
 use crate::method::{MethodDefinition, parse_method};
-use clos_forms::{FunctionName, SyntaxFault, are_among, are_distinct, is_declaration};
+use clos_forms::{FunctionName, Sequence, SyntaxFault, are_among, are_distinct, is_declaration};
 use clos_lambda::{
-    Kind, LambdaList, Sequence, Symbols, arguments, is_option, parse_each,
-    parse_generic_lambda_list, parse_option, parse_options, parse_symbol,
+    Kind, LambdaList, Symbols, arguments, is_option, parse_each, parse_generic_lambda_list,
+    parse_option, parse_options, parse_symbol,
 };
 use lisp_data::{Data, Datum, Name};
 use std::alloc::{AllocError, Global};

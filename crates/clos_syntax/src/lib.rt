@@ -9,11 +9,11 @@ pub mod method;
 pub mod slot;
 pub mod variable;
 
-pub use class::{ClassDefinition, DefaultInitarg, parse_class};
-pub use clos_lambda::{Key, Keys, LambdaList, Optional, Sequence};
+pub use class::parse_class;
+pub use clos_defclass::{Accessor, Allocation, ClassDefinition, DefaultInitarg, SlotSpecifier};
+pub use clos_lambda::{Key, Keys, LambdaList, Optional};
 pub use function::{FunctionDefinition, parse_function};
 pub use function_name::parse_method_function;
 pub use generic::{CombinationUse, GenericDefinition, parse_generic};
 pub use method::{MethodDefinition, ParameterSpecializer, parse_method};
-pub use slot::{Accessor, Allocation, SlotSpecifier};
 pub use variable::{Definer, VariableDefinition, parse_variable};

@@ -6,9 +6,9 @@ ghost use Rattle.clos_forms.specs.Fault.{Gives};
 ghost use Rattle.clos_lambda.specs.Lists.{ahead};
 ghost use Rattle.clos_syntax.specs.Method.{eql_specializer, is_qualifier, listed_specializer, method_in, method_with, past_qualifiers, qualified, qualifiers_in, required_in, specialized, specialized_name, specializer_in, specializer_named, specializers_in, t_name};
 
-use clos_forms::{Context, Form, Forms, Scope, SyntaxFault, is_the, only, parse_body};
+use clos_forms::{Context, Form, Forms, Scope, Sequence, SyntaxFault, is_the, only, parse_body};
 use clos_lambda::{
-    Kind, LambdaList, Sequence, back, is_symbol_called, parse_front, parse_list, parse_parameter,
+    Kind, LambdaList, back, is_symbol_called, parse_front, parse_list, parse_parameter,
     parse_plain_form, parse_with_optionals,
 };
 use lisp_data::{Data, Datum, Name};

@@ -5,38 +5,14 @@ ghost use Rattle.clos_forms.specs.Fault.{Gives};
 ghost use Rattle.clos_syntax.specs.Slot.{accessor_in, accessors_at, accessors_in, allocation_in, are_slot_options, is_slot_key, listed_slot, or_instance, reader_in, slot_from, slot_in, slot_with, writer_in};
 
 use crate::function_name::{parse_method_function, parse_method_symbol};
-use clos_forms::{Form, FunctionName, SyntaxFault};
+use clos_defclass::{Accessor, Allocation, SlotSpecifier};
+use clos_forms::{FunctionName, Sequence, SyntaxFault};
 use clos_lambda::{
-    Documentation, Ignored, Kind, PlainForms, Sequence, Symbols, is_key, parse_symbol, parse_value,
+    Documentation, Ignored, Kind, PlainForms, Symbols, is_key, parse_symbol, parse_value,
     parse_values,
 };
 use lisp_data::{Data, Datum, Name};
 use std::alloc::{AllocError, Global};
-
-/// Where the values of a slot are kept (HyperSpec 7.5.1).
-#[derive(Clone, Copy, Debug, Drop, PartialEq, Eq)]
-pub enum Allocation {
-    Instance,
-    Class,
-}
-
-/// A method that reads or writes a slot (HyperSpec 7.5.2).
-#[derive(Drop)]
-pub enum Accessor {
-    Reader(Name),
-    Writer(FunctionName),
-}
-
-/// A slot of a `defclass` (HyperSpec 7.5.3).
-#[derive(Drop)]
-pub struct SlotSpecifier {
-    pub name: Name,
-    pub initargs: Sequence<Name>,
-    /// In written order. An `:accessor` is a reader and then a writer.
-    pub accessors: Sequence<Accessor>,
-    pub initform: Option<Form>,
-    pub allocation: Allocation,
-}
 
 /// Slot specifiers.
 pub(crate) struct Slots;

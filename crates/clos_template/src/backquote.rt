@@ -10,8 +10,8 @@ ghost use Rattle.clos_template.specs.PartView.{part_of, shape_told};
 
 use crate::operator::Operator;
 use crate::part::{Part, Role, Shape, as_it_is, atom};
-use clos_forms::{SyntaxFault, only};
-use clos_lambda::{Sequence, is_symbol_called};
+use clos_forms::{Sequence, SyntaxFault, only};
+use clos_lambda::is_symbol_called;
 use lisp_data::{Data, Datum};
 use std::alloc::{AllocError, Global};
 

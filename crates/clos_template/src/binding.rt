@@ -14,10 +14,10 @@ ghost use Rattle.clos_template.specs.Shape.{after_head, bodies_of, body_part, cl
 use crate::operator::Operator;
 use crate::part::{Part, Role, Shape, push_body, push_inits, push_part};
 use clos_forms::{
-    Entry, SyntaxFault, are_distinct, bindings_of, is_the, names_of, only, parse_bindings,
-    symbol_name,
+    Entry, Sequence, SyntaxFault, are_distinct, bindings_of, is_the, names_of, only,
+    parse_bindings, symbol_name,
 };
-use clos_lambda::{Sequence, parse_parameter};
+use clos_lambda::parse_parameter;
 use lisp_data::{Data, Datum, Name};
 use std::alloc::{AllocError, Global};
 

@@ -1,7 +1,6 @@
 //! The operators of templates.
 
-use clos_forms::Bindings;
-use clos_lambda::Sequence;
+use clos_forms::{Bindings, Sequence};
 use lisp_data::{Datum, Name};
 
 /// A function of templates (HyperSpec 5.3, 14.2).

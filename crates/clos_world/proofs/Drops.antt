@@ -13,7 +13,7 @@ use Rattle.clos_cache.specs.Key.{Key}
 use Rattle.clos_cache.proofs.Places.{one_item}
 use Rattle.clos_class.specs.Table as classes
 use Rattle.clos_class.specs.Table.{with_definition as with_definition_of}
-use Rattle.clos_class.specs.clos_syntax.declared.class.ClassDefinition.{ClassDefinition}
+use Rattle.clos_class.specs.clos_defclass.declared.class.ClassDefinition.{ClassDefinition}
 use Rattle.clos_comb.specs.Effective.{combined_for, effective}
 use Rattle.clos_comb.specs.Left.{IsCalledAlike, IsLeft}
 use Rattle.clos_generic.specs.TableView.{AreThere}

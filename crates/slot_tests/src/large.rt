@@ -1,6 +1,7 @@
 //! Many classes, each with a slot.
 use clos_class::{ClassFault, Classes};
-use clos_syntax::{Allocation, ClassDefinition, Sequence, SlotSpecifier};
+use clos_forms::Sequence;
+use clos_syntax::{Allocation, ClassDefinition, SlotSpecifier};
 use lisp_data::{CellId, Name};
 use std::alloc::{AllocError, Global};
 use std::ops::Range;

@@ -1,7 +1,8 @@
 //! Each call succeeds where there is memory and room.
 use clos_class::{ClassFault, Classes, Layout};
+use clos_forms::Sequence;
 use clos_store::{Store, StoreFault};
-use clos_syntax::{Allocation, ClassDefinition, Sequence, SlotSpecifier};
+use clos_syntax::{Allocation, ClassDefinition, SlotSpecifier};
 use lisp_data::{CellId, ClassId, Name, Value};
 use std::alloc::{AllocError, Global};
 use std::process::Abort;

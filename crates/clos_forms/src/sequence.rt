@@ -1,9 +1,9 @@
 //! Things in order.
 ghost use Rattle.std.specs.Prelude.{◌≡◌, ◌++◌, ◌∷◌, [], OnOk, length};
-ghost use Rattle.clos_lambda.specs.Lists.{single, the_one};
 ghost use Rattle.clos_forms.specs.Fault.{Gives};
+ghost use Rattle.clos_forms.specs.Sequence.{single, the_one};
 
-use clos_forms::SyntaxFault;
+use crate::fault::SyntaxFault;
 use std::alloc::{AllocError, Global};
 use std::marker::Model;
 
@@ -71,7 +71,7 @@ impl<T> Sequence<T> {
     }
 
     /// The one thing; none and several are a fault.
-    pub(crate) fn into_one(self) -> Result<T, SyntaxFault>
+    pub fn into_one(self) -> Result<T, SyntaxFault>
     where
         T: Drop,
         ensures { Gives (λ x. x) result (the_one self) }

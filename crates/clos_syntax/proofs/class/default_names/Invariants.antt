@@ -1,6 +1,0 @@
-use Rattle.std.proofs.Common.{◌≡◌, ◌++◌, drop}
-use Rattle.clos_syntax.specs.Class.{default_names}
-use Rattle.clos_syntax.proofs.class.default_names.Given as goal
-
-abbrev pub invariant-loop-default : goal.invariant-loop-default
-invariant-loop-default l = l.names.items ++ default_names (drop l.default-index l.defaults) ≡ default_names l.defaults
