@@ -29,7 +29,7 @@ use clos_machine::{
     setter_value,
 };
 use lisp_data::{Name, Value};
-use lisp_prims::Primitive;
+use lisp_prims::{Primitive, apply};
 use std::alloc::{AllocError, Global};
 
 /// A call of the function of this name begins with its arguments.
@@ -60,7 +60,7 @@ pub fn compute(
     ensures small { Grows value_weight machine.old.levels result machine.new }
 {
     let _ = world;
-    match primitive.call(alloc, values.as_slice()) {
+    match apply(primitive, alloc, values.as_slice()) {
         Ok(value) => Ok(Doing::Give(value)),
         Err(fault) => Err(of_function(alloc, fault)),
     }

@@ -19,8 +19,7 @@ use clos_next_methods::methods::call_method;
 use clos_next_methods::next_methods::{call_next_method, has_next};
 use clos_objects_core::class_functions::truth;
 use clos_places::assignment::{change, set_next, set_next_place};
-use lisp_prims::Primitive;
-use lisp_prims::arithmetic::Arithmetic;
+use lisp_prims::{Arithmetic, Primitive};
 use std::alloc::Global;
 
 /// A form begins.

@@ -7,9 +7,9 @@ use Rattle.lisp_data.specs.Value.{Val}
 use Rattle.lisp_data.specs.Value as value
 use Rattle.lisp_prims.specs.Fault as prims
 use Rattle.lisp_prims.specs.Primitive.{answer, truth}
-use Rattle.lisp_prims.specs.declared.arithmetic.Arithmetic.TheVariants.{Sum, Difference}
-use Rattle.lisp_prims.specs.declared.primitive.Primitive as of_values
-use Rattle.lisp_prims.specs.declared.primitive.Primitive.TheVariants.{Number}
+use Rattle.lisp_prims.specs.lisp_functions.declared.arithmetic.Arithmetic.TheVariants.{Sum, Difference}
+use Rattle.lisp_prims.specs.lisp_functions.declared.primitive.Primitive as of_values
+use Rattle.lisp_prims.specs.lisp_functions.declared.primitive.Primitive.TheVariants.{Number}
 use Rattle.clos_forms.specs.Form.{Form, Forms, nil, cons, parts_in, operator_in}
 use Rattle.clos_forms.specs.Operator as of
 use Rattle.clos_forms.specs.Operator.{Callable, Operator, Bound, BoundSlot, Place, variable_place, slot_value_place, call_place}

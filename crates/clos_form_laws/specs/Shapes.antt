@@ -3,7 +3,7 @@
 use Rattle.std.specs.Prelude.{◌≡◌, ℕ, List, [], ◌∷◌, Bool, true, Option, Some, None, is_some, map, ⊤}
 use Rattle.lisp_data.specs.Name.{Name}
 use Rattle.lisp_data.specs.Value.{Val, list, nil as no_values}
-use Rattle.lisp_prims.specs.declared.primitive.Primitive.{Primitive}
+use Rattle.lisp_prims.specs.lisp_functions.declared.primitive.Primitive.{Primitive}
 use Rattle.clos_forms.specs.Form.{Form, form, Forms, nil, cons, list_from, operator_in, parts_in}
 use Rattle.clos_forms.specs.Operator.{Bound, Callable, the_method, made, Operator, Place}
 use Rattle.clos_forms.specs.Operator as of

@@ -16,8 +16,8 @@ use Rattle.clos_forms.specs.clos_names.declared.callee.ClassFunction.TheVariants
 use Rattle.clos_forms.specs.clos_names.declared.callee.Output.TheVariants.{Princ, Prin1, Print}
 use Rattle.clos_forms.specs.clos_names.declared.callee.SlotFunction.{SlotFunction}
 use Rattle.clos_forms.specs.clos_names.declared.callee.SlotFunction.TheVariants.{SlotValue, SlotBoundp, SlotMakunbound, SlotExistsP}
-use Rattle.clos_session.specs.clos_definition_forms.lisp_prims.Primitive.{entry_of, names, primitive_of}
-use Rattle.clos_session.specs.clos_definition_forms.lisp_prims.declared.primitive.Primitive.{Primitive}
+use Rattle.clos_session.specs.clos_definition_forms.lisp_prims.lisp_functions.Primitive.{entry_of, names, primitive_of}
+use Rattle.clos_session.specs.clos_definition_forms.lisp_prims.lisp_functions.declared.primitive.Primitive.{Primitive}
 use Rattle.clos_laws.specs.Names.{FunctionsAreNamed, is_of_language}
 
 -- ---- tests that hold alike

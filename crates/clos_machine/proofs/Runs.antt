@@ -7,7 +7,7 @@ use Rattle.lisp_data.specs.declared.value.Value.{Value}
 use Rattle.lisp_data.specs.Name.{Name}
 use Rattle.lisp_prims.specs.Fault as prims
 use Rattle.lisp_prims.specs.Primitive.{answer}
-use Rattle.lisp_prims.specs.declared.primitive.Primitive as of_values
+use Rattle.lisp_prims.specs.lisp_functions.declared.primitive.Primitive as of_values
 use Rattle.lisp_prims.specs.Fault.{StandsFor, AnswersUnlessMemory}
 use Rattle.lisp_prims.specs.declared.fault.PrimFault.{PrimFault}
 use Rattle.lisp_prims.specs.declared.fault.PrimFault.TheVariants as prims_fault

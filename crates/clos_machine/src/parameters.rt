@@ -4,8 +4,8 @@ ghost use Rattle.std.specs.List.{list_any};
 ghost use Rattle.lisp_data.specs.ValueView.{value_of};
 ghost use Rattle.lisp_prims.specs.Predicates.{is_symbol};
 ghost use Rattle.lisp_prims.specs.Primitive.{answer, truth};
-ghost use Rattle.lisp_prims.specs.declared.lists.ListFunction.TheVariants.{List};
-ghost use Rattle.lisp_prims.specs.declared.primitive.Primitive.TheVariants.{Listed};
+ghost use Rattle.lisp_prims.specs.lisp_functions.declared.lists.ListFunction.TheVariants.{List};
+ghost use Rattle.lisp_prims.specs.lisp_functions.declared.primitive.Primitive.TheVariants.{Listed};
 ghost use Rattle.clos_meaning.specs.Calls.{keys_are_even};
 ghost use Rattle.clos_meaning.specs.Parameters.{are_even, are_pairs, is_symbol_named, argument_named, is_allow_other_keys, is_allowing, is_accepted, are_accepted, keys_fit, after_optional, count_fits, fits, argument, required_sources, init_source, given_source, first_and_others, listed, variable_sources, optional_sources, rest_sources, entry_sources, key_sources, sources, requires_only};
 ghost use Rattle.clos_machine.specs.ParametersView.{source_of, parameter_of};
@@ -16,8 +16,7 @@ use clos_forms::{Form, is_the};
 use clos_lambda::{Key, Keys, LambdaList, Optional};
 use clos_meaning::{Condition, Stop};
 use lisp_data::{Name, Value};
-use lisp_prims::Primitive;
-use lisp_prims::lists::ListFunction;
+use lisp_prims::{ListFunction, Primitive, apply};
 use std::alloc::{AllocError, Global};
 use std::collections::VecDeque;
 use std::marker::Model;
@@ -413,7 +412,7 @@ fn push_rest(
 fn listed(alloc: Global, values: &[Value]) -> Result<Origin, AllocError>
     ensures { IfOk result (λ r. source_of r ≡ listed (answer (Listed List) (map value_of values.now))) }
 {
-    match Primitive::Listed(ListFunction::List).call(alloc, values) {
+    match apply(Primitive::Listed(ListFunction::List), alloc, values) {
         Ok(list) => Ok(Origin::Argument(list)),
         Err(fault) => match of_function(alloc, fault) {
             Stop::Refused(condition) => Ok(Origin::Refused(condition)),

@@ -18,8 +18,7 @@ use clos_meaning::{
     ConditionKind, Discarded, Layout, Lost, Stop, SystemFunction, Values, World, plain,
 };
 use lisp_data::{InstanceId, Name, Value};
-use lisp_prims::Primitive;
-use lisp_prims::lists::ListFunction;
+use lisp_prims::{ListFunction, Primitive, apply};
 use std::alloc::{AllocError, Global};
 
 /// The layout of the class of an instance.
@@ -45,7 +44,7 @@ pub fn due(world: &mut World, id: InstanceId) -> Result<Option<Layout>, AllocErr
 pub fn listed(alloc: Global, values: &[Value]) -> Result<Value, Stop>
     ensures { Tells (listed (map value_of values.now)) result }
 {
-    match Primitive::Listed(ListFunction::List).call(alloc, values) {
+    match apply(Primitive::Listed(ListFunction::List), alloc, values) {
         Ok(list) => Ok(list),
         Err(fault) => Err(of_function(alloc, fault)),
     }

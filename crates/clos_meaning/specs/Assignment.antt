@@ -3,7 +3,7 @@ use Rattle.std.specs.Prelude.{List, [], ◌∷◌, Option, Some, None, is_some, 
 use Rattle.lisp_data.specs.Name.{Name, same_name}
 use Rattle.lisp_data.specs.Value.{Val}
 use Rattle.lisp_prims.specs.Primitive.{answer}
-use Rattle.lisp_prims.specs.declared.primitive.Primitive.{Primitive}
+use Rattle.lisp_prims.specs.lisp_functions.declared.primitive.Primitive.{Primitive}
 use Rattle.clos_forms.specs.Quotation.{name_value}
 use Rattle.clos_world.specs.Globals.{is_global, with_global}
 use Rattle.clos_world.specs.World.{Local, bound_as, local_named, held}

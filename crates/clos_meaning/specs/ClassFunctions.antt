@@ -7,8 +7,8 @@ use Rattle.lisp_data.specs.ValueView.{value_of}
 use Rattle.lisp_data.specs.declared.value.Value.{Value}
 use Rattle.lisp_prims.specs.Fault as prims
 use Rattle.lisp_prims.specs.Primitive.{answer, truth}
-use Rattle.lisp_prims.specs.declared.lists.ListFunction.TheVariants as lists
-use Rattle.lisp_prims.specs.declared.primitive.Primitive.TheVariants.{Listed}
+use Rattle.lisp_prims.specs.lisp_functions.declared.lists.ListFunction.TheVariants as lists
+use Rattle.lisp_prims.specs.lisp_functions.declared.primitive.Primitive.TheVariants.{Listed}
 use Rattle.clos_forms.specs.Quotation.{name_value}
 use Rattle.clos_world.specs.clos_class.Table.{Table}
 use Rattle.clos_world.specs.Class.{named, precedence, precedence_or_none, class_name}

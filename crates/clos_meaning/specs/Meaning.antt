@@ -4,9 +4,9 @@ use Rattle.lisp_data.specs.Name.{Name}
 use Rattle.lisp_data.specs.Print.{Called, by_symbol, by_setf}
 use Rattle.lisp_data.specs.Value.{Val, integer, generic, list, nil}
 use Rattle.lisp_prims.specs.Primitive.{truth, answer}
-use Rattle.lisp_prims.specs.declared.primitive.Primitive.{Primitive}
-use Rattle.lisp_prims.specs.declared.primitive.Primitive.TheVariants.{Number}
-use Rattle.lisp_prims.specs.declared.arithmetic.Arithmetic.TheVariants.{Sum, Difference}
+use Rattle.lisp_prims.specs.lisp_functions.declared.primitive.Primitive.{Primitive}
+use Rattle.lisp_prims.specs.lisp_functions.declared.primitive.Primitive.TheVariants.{Number}
+use Rattle.lisp_prims.specs.lisp_functions.declared.arithmetic.Arithmetic.TheVariants.{Sum, Difference}
 use Rattle.clos_forms.specs.Form.{Form, Forms, operator_in, parts_in}
 use Rattle.clos_forms.specs.Form as form
 use Rattle.clos_forms.specs.clos_names.Names.{is_one_of, functions}

@@ -7,8 +7,8 @@ use Rattle.lisp_data.specs.Value.{Val, symbol, list, nil}
 use Rattle.lisp_prims.specs.Fault as prims
 use Rattle.lisp_prims.specs.Predicates.{is_symbol}
 use Rattle.lisp_prims.specs.Primitive.{answer, truth}
-use Rattle.lisp_prims.specs.declared.lists.ListFunction.TheVariants as lists
-use Rattle.lisp_prims.specs.declared.primitive.Primitive.TheVariants.{Listed}
+use Rattle.lisp_prims.specs.lisp_functions.declared.lists.ListFunction.TheVariants as lists
+use Rattle.lisp_prims.specs.lisp_functions.declared.primitive.Primitive.TheVariants.{Listed}
 use Rattle.clos_forms.specs.Form.{Form}
 use Rattle.clos_world.specs.clos_lambda.declared.lambda_list.Key.{Key}
 use Rattle.clos_world.specs.clos_lambda.declared.lambda_list.Keys.{Keys}

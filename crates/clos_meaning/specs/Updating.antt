@@ -3,8 +3,8 @@ use Rattle.std.specs.Prelude.{ℕ, List, [], ◌∷◌, Option, Some, None, map,
 use Rattle.lisp_data.specs.Name.{Name}
 use Rattle.lisp_data.specs.Value.{Val, instance}
 use Rattle.lisp_prims.specs.Primitive.{answer}
-use Rattle.lisp_prims.specs.declared.lists.ListFunction.TheVariants as lists
-use Rattle.lisp_prims.specs.declared.primitive.Primitive.TheVariants.{Listed}
+use Rattle.lisp_prims.specs.lisp_functions.declared.lists.ListFunction.TheVariants as lists
+use Rattle.lisp_prims.specs.lisp_functions.declared.primitive.Primitive.TheVariants.{Listed}
 use Rattle.clos_forms.specs.Quotation.{name_value}
 use Rattle.clos_world.specs.clos_class.Slots.{Layout}
 use Rattle.clos_world.specs.clos_method.declared.system.SystemFunction.TheVariants.{UpdateInstanceForRedefinedClass}

@@ -1,8 +1,8 @@
 -- What the functions of the language are, by their names (HyperSpec 3.1.2.1.2.3).
 use Rattle.std.specs.Prelude.{Option, Some, None, codes, if◌then◌else◌}
 use Rattle.lisp_data.specs.Name.{Name}
-use Rattle.lisp_prims.specs.Primitive.{primitive_of}
-use Rattle.lisp_prims.specs.declared.primitive.Primitive as of_values
+use Rattle.lisp_functions.specs.Primitive.{primitive_of}
+use Rattle.lisp_functions.specs.declared.primitive.Primitive as of_values
 use Rattle.clos_names.specs.Names.{is_called}
 use Rattle.clos_names.specs.declared.callee.Callee.{Callee}
 use Rattle.clos_names.specs.declared.callee.Callee.TheVariants.{Output, Terpri, Primitive, MakeInstance, ChangeClass, FindMethod, NativeCall, ClassFunction, SlotFunction, Defined}

@@ -4,7 +4,7 @@ ghost use Rattle.clos_names.specs.Callee.{callee_of, class_function, class_funct
 
 use crate::names::is_the;
 use lisp_data::Name;
-use lisp_prims::Primitive;
+use lisp_functions::Primitive;
 
 /// An output function of one argument (HyperSpec 22.4 `write`).
 #[derive(Clone, Copy, Debug, Drop, PartialEq, Eq)]

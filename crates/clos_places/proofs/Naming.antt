@@ -2,7 +2,7 @@
 use Rattle.std.proofs.Common.{◌≡◌, ℕ, List, ◌++◌, Option, Some, None, Result, Ok, ap, ◌∙◌}
 use Rattle.lisp_data.specs.Name.{Name}
 use Rattle.lisp_data.specs.Value.{Val}
-use Rattle.lisp_prims.specs.declared.primitive.Primitive.{Primitive}
+use Rattle.lisp_prims.specs.lisp_functions.declared.primitive.Primitive.{Primitive}
 use Rattle.clos_machine.specs.clos_world.Values.{last_first, only_value}
 use Rattle.clos_machine.specs.clos_world.World.{State}
 use Rattle.clos_machine.specs.clos_world.declared.condition.Stop.{Stop}

@@ -22,7 +22,7 @@ use clos_machine::moves::{act_under, begin_under, collect_next, done, give_up};
 use clos_machine::names::value_of_variable;
 use clos_machine::{ConditionKind, Stop, Values, World, about_name, plain};
 use lisp_data::{Name, Value};
-use lisp_prims::Primitive;
+use lisp_prims::{Primitive, apply};
 use std::alloc::Global;
 
 /// The variable of a `setq` form at this place, and the next place.
@@ -574,7 +574,7 @@ fn combine(alloc: Global, primitive: Primitive, old: &Value, amount: &Value) -> 
     let mut values = Values::new(alloc);
     values.push(old.copy()?)?;
     values.push(amount.copy()?)?;
-    match primitive.call(alloc, values.as_slice()) {
+    match apply(primitive, alloc, values.as_slice()) {
         Ok(value) => Ok(value),
         Err(fault) => Err(of_function(alloc, fault)),
     }

@@ -2,7 +2,7 @@
 use clos_look::{Page, World};
 use clos_names::is_the;
 use lisp_data::{Name, Value};
-use lisp_prims::{PrimFault, Primitive};
+use lisp_prims::{PrimFault, Primitive, apply};
 use std::alloc::{AllocError, Global};
 
 /// No function of the language takes more required and optional arguments.
@@ -74,7 +74,7 @@ fn refuses(alloc: Global, primitive: Primitive, count: u64) -> Result<bool, Allo
     for _ in 0..count {
         arguments.push(Value::Int(1))?;
     }
-    match primitive.call(alloc, arguments.as_slice()) {
+    match apply(primitive, alloc, arguments.as_slice()) {
         Err(PrimFault::ProgramError) => Ok(true),
         _ => Ok(false),
     }

@@ -9,8 +9,8 @@ use Rattle.lisp_prims.specs.Fault.{Condition, division_by_zero, given}
 use Rattle.lisp_prims.specs.Width.{in_range}
 use Rattle.lisp_prims.specs.declared.arithmetic.Step.{Step}
 use Rattle.lisp_prims.specs.declared.arithmetic.Step.TheVariants.{Add, Multiply, Subtract, Maximum, Minimum}
-use Rattle.lisp_prims.specs.declared.arithmetic.Arithmetic.{Arithmetic}
-use Rattle.lisp_prims.specs.declared.arithmetic.Arithmetic.TheVariants.{Sum, Product, Difference, Greatest, Least, Increment, Decrement, Absolute, Floor, Truncate, Modulus, Remainder}
+use Rattle.lisp_functions.specs.declared.arithmetic.Arithmetic.{Arithmetic}
+use Rattle.lisp_functions.specs.declared.arithmetic.Arithmetic.TheVariants.{Sum, Product, Difference, Greatest, Least, Increment, Decrement, Absolute, Floor, Truncate, Modulus, Remainder}
 
 abbrev pub operation : Step → ℤ → ℤ → ℤ
 operation Add = λ m n. m +ℤ n

@@ -4,8 +4,8 @@ use Rattle.std.specs.Ordering.{int_eq}
 use Rattle.lisp_data.specs.Value.{Val}
 use Rattle.lisp_prims.specs.Arguments.{some_integers_of}
 use Rattle.lisp_prims.specs.Fault.{Condition, given}
-use Rattle.lisp_prims.specs.declared.comparison.Comparison.{Comparison}
-use Rattle.lisp_prims.specs.declared.comparison.Comparison.TheVariants.{Same, Less, Greater, AtMost, AtLeast}
+use Rattle.lisp_functions.specs.declared.comparison.Comparison.{Comparison}
+use Rattle.lisp_functions.specs.declared.comparison.Comparison.TheVariants.{Same, Less, Greater, AtMost, AtLeast}
 
 abbrev pub relation : Comparison → ℤ → ℤ → Bool
 relation Same = int_eq

@@ -1,3 +1,4 @@
+pub use Rattle.lisp_functions.specs as lisp_functions
 pub mod Arguments
 pub mod Arithmetic
 pub mod Comparison

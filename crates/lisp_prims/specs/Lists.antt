@@ -6,8 +6,8 @@ use Rattle.lisp_data.specs.Limits.{most_elements, most_nesting}
 use Rattle.lisp_prims.specs.Arguments.{any, one_of, two_of}
 use Rattle.lisp_prims.specs.Fault.{Condition, program_error, type_error, unsupported, given}
 use Rattle.lisp_prims.specs.Width.{in_range}
-use Rattle.lisp_prims.specs.declared.lists.ListFunction.{ListFunction}
-use Rattle.lisp_prims.specs.declared.lists.ListFunction.TheVariants.{Car, Cdr, Second, Third, Nth, Cons, List as Listing, ListStar, Append, Reverse}
+use Rattle.lisp_functions.specs.declared.lists.ListFunction.{ListFunction}
+use Rattle.lisp_functions.specs.declared.lists.ListFunction.TheVariants.{Car, Cdr, Second, Third, Nth, Cons, List as Listing, ListStar, Append, Reverse}
 
 abbrev pub list_of : Val → Result Vals Condition
 list_of (list l) = Ok l

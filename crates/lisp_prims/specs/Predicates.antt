@@ -6,12 +6,12 @@ use Rattle.lisp_data.specs.Keys.{same_value}
 use Rattle.lisp_data.specs.Value.{Val, integer, symbol, string, list, nil, cons}
 use Rattle.lisp_prims.specs.Arguments.{any, integer_of, one_of, two_of}
 use Rattle.lisp_prims.specs.Fault.{Condition, unsupported, given}
-use Rattle.lisp_prims.specs.declared.predicates.Predicate.{Predicate}
-use Rattle.lisp_prims.specs.declared.predicates.Predicate.TheVariants.{Value, Integer, Eql, Equal}
-use Rattle.lisp_prims.specs.declared.predicates.ValueTest.{ValueTest}
-use Rattle.lisp_prims.specs.declared.predicates.ValueTest.TheVariants.{Null, Atom, Consp, Listp, Symbolp, Integerp, Stringp}
-use Rattle.lisp_prims.specs.declared.predicates.IntegerTest.{IntegerTest}
-use Rattle.lisp_prims.specs.declared.predicates.IntegerTest.TheVariants.{Zerop, Plusp, Minusp, Evenp, Oddp}
+use Rattle.lisp_functions.specs.declared.predicates.Predicate.{Predicate}
+use Rattle.lisp_functions.specs.declared.predicates.Predicate.TheVariants.{Value, Integer, Eql, Equal}
+use Rattle.lisp_functions.specs.declared.predicates.ValueTest.{ValueTest}
+use Rattle.lisp_functions.specs.declared.predicates.ValueTest.TheVariants.{Null, Atom, Consp, Listp, Symbolp, Integerp, Stringp}
+use Rattle.lisp_functions.specs.declared.predicates.IntegerTest.{IntegerTest}
+use Rattle.lisp_functions.specs.declared.predicates.IntegerTest.TheVariants.{Zerop, Plusp, Minusp, Evenp, Oddp}
 
 abbrev pub is_nil : Val → Bool
 is_nil (list nil) = true

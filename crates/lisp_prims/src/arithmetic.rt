@@ -10,23 +10,7 @@ use crate::arguments::{integer, one_integer, two_integers};
 use crate::fault::PrimFault;
 use crate::width::Integer;
 use lisp_data::Value;
-
-/// The functions that give a number of integers.
-#[derive(Clone, Copy, Debug, Drop, PartialEq, Eq)]
-pub enum Arithmetic {
-    Sum,
-    Product,
-    Difference,
-    Greatest,
-    Least,
-    Increment,
-    Decrement,
-    Absolute,
-    Floor,
-    Truncate,
-    Modulus,
-    Remainder,
-}
+use lisp_functions::Arithmetic;
 
 /// An operation on two numbers that goes over all arguments.
 #[derive(Clone, Copy, Debug, Drop, PartialEq, Eq)]
@@ -38,36 +22,34 @@ pub enum Step {
     Minimum,
 }
 
-impl Arithmetic {
-    /// The number that the function gives.
-    pub fn call(self, args: &[Value]) -> Result<Integer, PrimFault>
-        ensures { Answers result (number_of self (map value_of args.now)) }
-    {
-        match self {
-            Arithmetic::Sum => in_turn(Step::Add, 0, args),
-            Arithmetic::Product => in_turn(Step::Multiply, 1, args),
-            Arithmetic::Difference => difference(args),
-            Arithmetic::Greatest => some_in_turn(Step::Maximum, args),
-            Arithmetic::Least => some_in_turn(Step::Minimum, args),
-            Arithmetic::Increment => within(one_integer(args)?.checked_add(1)),
-            Arithmetic::Decrement => within(one_integer(args)?.checked_sub(1)),
-            Arithmetic::Absolute => within(one_integer(args)?.checked_abs()),
-            Arithmetic::Floor => {
-                let (number, divisor) = divisible(args)?;
-                within(floor(number, divisor))
-            }
-            Arithmetic::Truncate => {
-                let (number, divisor) = divisible(args)?;
-                within(number.checked_div(divisor))
-            }
-            Arithmetic::Modulus => {
-                let (number, divisor) = divisible(args)?;
-                Ok(modulus(number, divisor))
-            }
-            Arithmetic::Remainder => {
-                let (number, divisor) = divisible(args)?;
-                Ok(rest(number, divisor))
-            }
+/// The number that the function gives.
+pub fn call(function: Arithmetic, args: &[Value]) -> Result<Integer, PrimFault>
+    ensures { Answers result (number_of function (map value_of args.now)) }
+{
+    match function {
+        Arithmetic::Sum => in_turn(Step::Add, 0, args),
+        Arithmetic::Product => in_turn(Step::Multiply, 1, args),
+        Arithmetic::Difference => difference(args),
+        Arithmetic::Greatest => some_in_turn(Step::Maximum, args),
+        Arithmetic::Least => some_in_turn(Step::Minimum, args),
+        Arithmetic::Increment => within(one_integer(args)?.checked_add(1)),
+        Arithmetic::Decrement => within(one_integer(args)?.checked_sub(1)),
+        Arithmetic::Absolute => within(one_integer(args)?.checked_abs()),
+        Arithmetic::Floor => {
+            let (number, divisor) = divisible(args)?;
+            within(floor(number, divisor))
+        }
+        Arithmetic::Truncate => {
+            let (number, divisor) = divisible(args)?;
+            within(number.checked_div(divisor))
+        }
+        Arithmetic::Modulus => {
+            let (number, divisor) = divisible(args)?;
+            Ok(modulus(number, divisor))
+        }
+        Arithmetic::Remainder => {
+            let (number, divisor) = divisible(args)?;
+            Ok(rest(number, divisor))
         }
     }
 }

@@ -9,57 +9,42 @@ use crate::arguments::integer;
 use crate::fault::PrimFault;
 use crate::width::Integer;
 use lisp_data::Value;
+use lisp_functions::Comparison;
 
-/// The functions that compare integers.
-#[derive(Clone, Copy, Debug, Drop, PartialEq, Eq)]
-pub enum Comparison {
-    /// `=`
-    Same,
-    /// `<`
-    Less,
-    /// `>`
-    Greater,
-    /// `<=`
-    AtMost,
-    /// `>=`
-    AtLeast,
+/// Whether each number stands so to the next.
+pub fn call(comparison: Comparison, args: &[Value]) -> Result<bool, PrimFault>
+    ensures { Answers result (order_of comparison (map value_of args.now)) }
+{
+    match args {
+        [] => Err(PrimFault::ProgramError),
+        [first, rest @ ..] => orders(comparison, integer(first)?, rest),
+    }
 }
 
-impl Comparison {
-    /// Whether each number stands so to the next.
-    pub fn call(self, args: &[Value]) -> Result<bool, PrimFault>
-        ensures { Answers result (order_of self (map value_of args.now)) }
-    {
-        match args {
-            [] => Err(PrimFault::ProgramError),
-            [first, rest @ ..] => self.orders(integer(first)?, rest),
+fn orders(comparison: Comparison, first: Integer, rest: &[Value]) -> Result<bool, PrimFault>
+    ensures { Answers result (given (integers_of (map value_of rest.now)) (λ ns. Ok (in_order (relation comparison) first ns))) }
+{
+    let mut last = first;
+    let mut holds = true;
+    for value in rest {
+        let number = integer(value)?;
+        if holds {
+            holds = is_so(comparison, last, number);
         }
+        last = number;
     }
+    Ok(holds)
+}
 
-    fn orders(self, first: Integer, rest: &[Value]) -> Result<bool, PrimFault>
-        ensures { Answers result (given (integers_of (map value_of rest.now)) (λ ns. Ok (in_order (relation self) first ns))) }
-    {
-        let mut last = first;
-        let mut holds = true;
-        for value in rest {
-            let number = integer(value)?;
-            if holds {
-                holds = self.holds(last, number);
-            }
-            last = number;
-        }
-        Ok(holds)
-    }
-
-    fn holds(self, left: Integer, right: Integer) -> bool
-        ensures { result ≡ relation self left right }
-    {
-        match self {
-            Comparison::Same => left == right,
-            Comparison::Less => left < right,
-            Comparison::Greater => left > right,
-            Comparison::AtMost => left <= right,
-            Comparison::AtLeast => left >= right,
-        }
+/// Whether one number stands so to another.
+fn is_so(comparison: Comparison, left: Integer, right: Integer) -> bool
+    ensures { result ≡ relation comparison left right }
+{
+    match comparison {
+        Comparison::Same => left == right,
+        Comparison::Less => left < right,
+        Comparison::Greater => left > right,
+        Comparison::AtMost => left <= right,
+        Comparison::AtLeast => left >= right,
     }
 }

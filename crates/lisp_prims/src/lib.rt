@@ -12,5 +12,6 @@ pub mod primitive;
 pub mod width;
 
 pub use fault::PrimFault;
-pub use primitive::{Primitive, call, serves};
+pub use lisp_functions::{Arithmetic, ListFunction, Primitive};
+pub use primitive::{apply, call, serves};
 pub use width::Integer;

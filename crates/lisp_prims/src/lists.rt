@@ -12,43 +12,27 @@ use crate::arguments::two;
 use crate::fault::PrimFault;
 use crate::width::{Integer, Natural};
 use lisp_data::{Items, MAX_ELEMENTS, MAX_NESTING, Name, Value};
+use lisp_functions::ListFunction;
 use std::alloc::{AllocError, Global};
 
-/// The functions that give a list or an element.
-#[derive(Clone, Copy, Debug, Drop, PartialEq, Eq)]
-pub enum ListFunction {
-    Car,
-    Cdr,
-    Second,
-    Third,
-    Nth,
-    Cons,
-    List,
-    ListStar,
-    Append,
-    Reverse,
-}
-
-impl ListFunction {
-    /// The list or the element.
-    pub fn call(self, alloc: Global, args: &[Value]) -> Result<Value, PrimFault>
-        ensures { AnswersUnlessMemory value_of result (list_value self (map value_of args.now)) }
-    {
-        match self {
-            ListFunction::Car => element_at(0, one_list(args)?),
-            ListFunction::Cdr => rest(one_list(args)?),
-            ListFunction::Second => element_at(1, one_list(args)?),
-            ListFunction::Third => element_at(2, one_list(args)?),
-            ListFunction::Nth => {
-                let (position, items) = position_and_list(args)?;
-                element_at(position, items)
-            }
-            ListFunction::Cons => cons(alloc, args),
-            ListFunction::List => list_before(alloc, args, &Items::new()),
-            ListFunction::ListStar => list_star(alloc, args),
-            ListFunction::Append => append(alloc, args),
-            ListFunction::Reverse => reverse(alloc, one_list(args)?),
+/// The list or the element.
+pub fn call(function: ListFunction, alloc: Global, args: &[Value]) -> Result<Value, PrimFault>
+    ensures { AnswersUnlessMemory value_of result (list_value function (map value_of args.now)) }
+{
+    match function {
+        ListFunction::Car => element_at(0, one_list(args)?),
+        ListFunction::Cdr => rest(one_list(args)?),
+        ListFunction::Second => element_at(1, one_list(args)?),
+        ListFunction::Third => element_at(2, one_list(args)?),
+        ListFunction::Nth => {
+            let (position, items) = position_and_list(args)?;
+            element_at(position, items)
         }
+        ListFunction::Cons => cons(alloc, args),
+        ListFunction::List => list_before(alloc, args, &Items::new()),
+        ListFunction::ListStar => list_star(alloc, args),
+        ListFunction::Append => append(alloc, args),
+        ListFunction::Reverse => reverse(alloc, one_list(args)?),
     }
 }
 

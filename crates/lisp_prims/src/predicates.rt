@@ -8,95 +8,55 @@ use crate::arguments::{one, one_integer, two};
 use crate::fault::PrimFault;
 use crate::width::Integer;
 use lisp_data::{Value, eql, equal};
+use lisp_functions::{IntegerTest, Predicate, ValueTest};
 
-/// The functions that test one value of any type.
-#[derive(Clone, Copy, Debug, Drop, PartialEq, Eq)]
-pub enum ValueTest {
-    Null,
-    Atom,
-    Consp,
-    Listp,
-    Symbolp,
-    Integerp,
-    Stringp,
-}
-
-/// The functions that test one integer.
-#[derive(Clone, Copy, Debug, Drop, PartialEq, Eq)]
-pub enum IntegerTest {
-    Zerop,
-    Plusp,
-    Minusp,
-    Evenp,
-    Oddp,
-}
-
-/// The functions that test values.
-#[derive(Clone, Copy, Debug, Drop, PartialEq, Eq)]
-pub enum Predicate {
-    /// It tests one value.
-    Value(ValueTest),
-    /// It tests one integer.
-    Integer(IntegerTest),
-    /// Whether two values are one object.
-    Eql,
-    /// Whether two values are alike.
-    Equal,
-}
-
-impl Predicate {
-    /// Whether the test holds.
-    pub fn call(self, args: &[Value]) -> Result<bool, PrimFault>
-        ensures { Answers result (truth_of self (map value_of args.now)) }
-    {
-        match self {
-            Predicate::Value(test) => {
-                let value = one(args)?;
-                Ok(test.holds_of(value))
-            }
-            Predicate::Integer(test) => {
-                let number = one_integer(args)?;
-                Ok(test.holds_of(number))
-            }
-            Predicate::Eql => {
-                let (left, right) = two(args)?;
-                same_object(left, right)
-            }
-            Predicate::Equal => {
-                let (left, right) = two(args)?;
-                Ok(left == right)
-            }
+/// Whether the test holds.
+pub fn call(predicate: Predicate, args: &[Value]) -> Result<bool, PrimFault>
+    ensures { Answers result (truth_of predicate (map value_of args.now)) }
+{
+    match predicate {
+        Predicate::Value(test) => {
+            let value = one(args)?;
+            Ok(holds_of(test, value))
+        }
+        Predicate::Integer(test) => {
+            let number = one_integer(args)?;
+            Ok(holds_of_integer(test, number))
+        }
+        Predicate::Eql => {
+            let (left, right) = two(args)?;
+            same_object(left, right)
+        }
+        Predicate::Equal => {
+            let (left, right) = two(args)?;
+            Ok(left == right)
         }
     }
 }
 
-impl ValueTest {
-    fn holds_of(self, value: &Value) -> bool
-        ensures { result ≡ holds_of self (value_of value.now) }
-    {
-        match self {
-            ValueTest::Null => is_nil(value),
-            ValueTest::Atom => !is_cons(value),
-            ValueTest::Consp => is_cons(value),
-            ValueTest::Listp => matches!(value, Value::List(_)),
-            ValueTest::Symbolp => is_symbol(value),
-            ValueTest::Integerp => matches!(value, Value::Int(_)),
-            ValueTest::Stringp => matches!(value, Value::Str(_)),
-        }
+fn holds_of(test: ValueTest, value: &Value) -> bool
+    ensures { result ≡ holds_of test (value_of value.now) }
+{
+    match test {
+        ValueTest::Null => is_nil(value),
+        ValueTest::Atom => !is_cons(value),
+        ValueTest::Consp => is_cons(value),
+        ValueTest::Listp => matches!(value, Value::List(_)),
+        ValueTest::Symbolp => is_symbol(value),
+        ValueTest::Integerp => matches!(value, Value::Int(_)),
+        ValueTest::Stringp => matches!(value, Value::Str(_)),
     }
 }
 
-impl IntegerTest {
-    fn holds_of(self, number: Integer) -> bool
-        ensures { result ≡ holds_of_integer self number }
-    {
-        match self {
-            IntegerTest::Zerop => number == 0,
-            IntegerTest::Plusp => number > 0,
-            IntegerTest::Minusp => number < 0,
-            IntegerTest::Evenp => is_even(number),
-            IntegerTest::Oddp => !is_even(number),
-        }
+fn holds_of_integer(test: IntegerTest, number: Integer) -> bool
+    ensures { result ≡ holds_of_integer test number }
+{
+    match test {
+        IntegerTest::Zerop => number == 0,
+        IntegerTest::Plusp => number > 0,
+        IntegerTest::Minusp => number < 0,
+        IntegerTest::Evenp => is_even(number),
+        IntegerTest::Oddp => !is_even(number),
     }
 }
 

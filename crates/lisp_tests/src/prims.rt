@@ -1,7 +1,7 @@
 //! Which names are served, and the limits of lists.
 use crate::given::{DEEP, LONG, Sevens, large};
 use lisp_data::{Name, Value};
-use lisp_prims::{PrimFault, Primitive, call, serves};
+use lisp_prims::{PrimFault, Primitive, apply, call, serves};
 use std::alloc::Global;
 use std::process::Abort;
 
@@ -70,7 +70,7 @@ fn condition_of(answer: &Option<Result<Value, PrimFault>>) -> Option<u8> {
 /// Whether the length of the longest list is this integer.
 fn is_length(alloc: Global, number: i64) -> Option<bool> {
     let list = large(alloc, Sevens::Long(LONG), 7).ok()?;
-    match &Primitive::named(&Name::fixed(&"LENGTH"))?.call(alloc, &[list]) {
+    match &apply(Primitive::named(&Name::fixed(&"LENGTH"))?, alloc, &[list]) {
         Ok(Value::Int(length)) => Some(*length == number),
         _ => Some(false),
     }

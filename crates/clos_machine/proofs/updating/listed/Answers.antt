@@ -1,8 +1,8 @@
 use Rattle.std.proofs.Common.{map}
 use Rattle.lisp_data.specs.ValueView.{value_of}
 use Rattle.lisp_prims.specs.Primitive.{answer}
-use Rattle.lisp_prims.specs.declared.lists.ListFunction.TheVariants.{List}
-use Rattle.lisp_prims.specs.declared.primitive.Primitive.TheVariants.{Listed}
+use Rattle.lisp_prims.specs.lisp_functions.declared.lists.ListFunction.TheVariants.{List}
+use Rattle.lisp_prims.specs.lisp_functions.declared.primitive.Primitive.TheVariants.{Listed}
 use Rattle.clos_machine.proofs.Updates.{not_listed}
 use Rattle.clos_machine.proofs.updating.listed.Goals as goal
 

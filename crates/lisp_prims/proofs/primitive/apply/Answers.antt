@@ -3,10 +3,10 @@ use Rattle.lisp_data.specs.ValueView.{value_of}
 use Rattle.lisp_prims.specs.Fault.{AnswersUnlessMemory}
 use Rattle.lisp_prims.specs.Predicates.{truth_of}
 use Rattle.lisp_prims.specs.Primitive.{answer}
-use Rattle.lisp_prims.specs.declared.primitive.Primitive.{Primitive}
-use Rattle.lisp_prims.specs.declared.primitive.Primitive.TheVariants.{Test}
+use Rattle.lisp_functions.specs.declared.primitive.Primitive.{Primitive}
+use Rattle.lisp_functions.specs.declared.primitive.Primitive.TheVariants.{Test}
 use Rattle.lisp_prims.proofs.OnFaults.{unless_memory}
-use Rattle.lisp_prims.proofs.primitive.Primitive.call.Goals as goal
+use Rattle.lisp_prims.proofs.primitive.apply.Goals as goal
 
 pub returns-in-Test-clause-answer : goal.returns-in-Test-clause-answer
 returns-in-Test-clause-answer c =

@@ -1,6 +1,6 @@
 use Rattle.std.proofs.Common.{◌≡◌, drop, map}
-use Rattle.lisp_prims.specs.Primitive.{entry_of, told}
-use Rattle.lisp_prims.proofs.primitive.entry_of.Given as goal
+use Rattle.lisp_functions.specs.Primitive.{entry_of, told}
+use Rattle.lisp_functions.proofs.primitive.entry_of.Given as goal
 
 abbrev pub invariant-loop-text : goal.invariant-loop-text
 invariant-loop-text l =
