@@ -2,8 +2,8 @@
 use Rattle.std.specs.Prelude.{◌≡◌, codes, is_some, true, false}
 use Rattle.lisp_data.specs.Datum.{Dat, Dats, cons, list, symbol}
 use Rattle.lisp_data.specs.Name.{Name}
-use Rattle.clos_system.specs.clos_world.World.{State}
-use Rattle.clos_system.specs.clos_world.clos_generic.Table.{named}
+use Rattle.clos_ending.specs.clos_system.clos_world.World.{State}
+use Rattle.clos_ending.specs.clos_system.clos_world.clos_generic.Table.{named}
 use Rattle.clos_forms.specs.declared.operator.FunctionName.TheVariants.{Symbol}
 
 -- a datum is a call of a generic function by its symbol

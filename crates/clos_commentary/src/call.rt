@@ -2,7 +2,7 @@
 ghost use Rattle.std.specs.Prelude.{◌≡◌, IfNone, IfOk, IfSome};
 ghost use Rattle.lisp_data.specs.Datum.{Dats};
 ghost use Rattle.lisp_data.specs.DatumView.{datum_of};
-ghost use Rattle.clos_system.specs.clos_world.World.{seen};
+ghost use Rattle.clos_ending.specs.clos_system.clos_world.World.{seen};
 ghost use Rattle.clos_commentary.specs.Call.{IsCall, form_of_arguments};
 
 use clos_explain::{World, methods_page};

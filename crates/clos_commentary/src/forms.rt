@@ -2,15 +2,14 @@
 ghost use Rattle.std.specs.Prelude.{◌≡◌, ◌≤◌, ◌<◌, ◌+◌, ◌^◌, ℕ, List, length, IfOk, IfErr, OnErr};
 ghost use Rattle.lisp_data.specs.DatumView.{datum_of};
 ghost use Rattle.lisp_tokens.specs.declared.fault.ReadFault.TheVariants.{Memory};
-ghost use Rattle.clos_system.specs.Transcript.{Comes, Performed, Performs, Ran};
-ghost use Rattle.clos_system.specs.clos_session.Session.{standing_of};
-ghost use Rattle.clos_system.specs.declared.transcript.Summary.{Summary};
+ghost use Rattle.clos_ending.specs.clos_system.Transcript.{Comes, Performed, Performs, Ran};
+ghost use Rattle.clos_ending.specs.clos_system.clos_session.Session.{standing_of};
+ghost use Rattle.clos_ending.specs.clos_system.declared.transcript.Summary.{Summary};
 ghost use Rattle.clos_commentary.specs.Forms.{IsRefused, Leaves};
 
 use crate::place::Place;
 use crate::told::{Source, explain};
-use clos_ending::Fault;
-use clos_system::{Dependents, Natives, RunFault, Session, Summary, run_form};
+use clos_ending::{Dependents, Fault, Natives, RunFault, Session, Summary, run_form};
 use lisp_data::Datum;
 use lisp_reader::read_form;
 use lisp_tokens::{ReadFault, skip_gaps};

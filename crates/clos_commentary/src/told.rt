@@ -3,9 +3,8 @@ ghost use Rattle.std.specs.Io.KnownBytes.{Keeps};
 
 use crate::locate::locate;
 use crate::place::{Place, push_place};
-use clos_ending::{Fault, FileName};
+use clos_ending::{Fault, FileName, Stop};
 use clos_explain::{World, explanation};
-use clos_system::Stop;
 use lisp_data::{Datum, Value};
 use std::alloc::{AllocError, Global};
 use std::io::Write;

@@ -2,15 +2,15 @@
 use Rattle.std.proofs.Common.{◌≡◌, ℕ, List, Option, Result, Ok, ap, sym, subst, ◌∙◌}
 use Rattle.lisp_data.specs.Value.{Val}
 use Rattle.lisp_data.specs.declared.value.Value.{Value}
-use Rattle.clos_machine.specs.clos_world.Uses.{uses_of}
-use Rattle.clos_machine.specs.clos_world.World.{State, seen}
-use Rattle.clos_machine.specs.clos_world.clos_cache.Cache.{Change}
-use Rattle.clos_machine.specs.clos_world.clos_cache.Uses.{Uses}
-use Rattle.clos_machine.specs.clos_world.declared.condition.Stop.{Stop}
-use Rattle.clos_machine.specs.clos_world.declared.tables.World.{World}
-use Rattle.clos_definition.specs.Effect.{concerned_by}
-use Rattle.clos_definition.specs.Removal.{concerned_by_removal, removable}
-use Rattle.clos_definition.specs.declared.effect.Effect.{Effect}
+use Rattle.clos_eval.specs.clos_machine.clos_world.Uses.{uses_of}
+use Rattle.clos_eval.specs.clos_machine.clos_world.World.{State, seen}
+use Rattle.clos_eval.specs.clos_machine.clos_world.clos_cache.Cache.{Change}
+use Rattle.clos_eval.specs.clos_machine.clos_world.clos_cache.Uses.{Uses}
+use Rattle.clos_eval.specs.clos_machine.clos_world.declared.condition.Stop.{Stop}
+use Rattle.clos_eval.specs.clos_machine.clos_world.declared.tables.World.{World}
+use Rattle.clos_effects.specs.clos_definition.Effect.{concerned_by}
+use Rattle.clos_effects.specs.clos_definition.Removal.{concerned_by_removal, removable}
+use Rattle.clos_effects.specs.clos_definition.declared.effect.Effect.{Effect}
 use Rattle.clos_effects.specs.Effects.{UsesAfter}
 use Rattle.clos_definition_forms.specs.Definition.{concerned_if, value_at, values_concerned}
 

@@ -3,31 +3,31 @@ use Rattle.std.proofs.Common.{◌≡◌, ℕ, List, [], ◌∷◌, Option, Some,
 use Rattle.std.specs.Prelude.{ℤ}
 use Rattle.lisp_data.specs.Value.{Val, class, generic, method}
 use Rattle.lisp_data.specs.declared.value.Value.{Value}
-use Rattle.clos_class.specs.declared.reserve.NewCell.{NewCell}
+use Rattle.clos_effects.specs.clos_class.declared.reserve.NewCell.{NewCell}
 use Rattle.clos_forms.specs.declared.operator.FunctionName.{FunctionName}
-use Rattle.clos_machine.specs.clos_world.clos_generic.Table.{number}
+use Rattle.clos_eval.specs.clos_machine.clos_world.clos_generic.Table.{number}
 use Rattle.clos_syntax.specs.clos_defclass.declared.class.ClassDefinition.{ClassDefinition}
 use Rattle.clos_syntax.specs.declared.generic.GenericDefinition.{GenericDefinition}
 use Rattle.clos_syntax.specs.declared.method.MethodDefinition.{MethodDefinition}
-use Rattle.clos_watch.specs.declared.notice.Notice.{Notice}
-use Rattle.clos_machine.specs.clos_world.Uses.{uses_of}
-use Rattle.clos_machine.specs.clos_world.World.{State, seen}
-use Rattle.clos_machine.specs.clos_world.declared.condition.Condition.{Condition}
-use Rattle.clos_machine.specs.clos_world.declared.condition.Stop.{Stop}
-use Rattle.clos_machine.specs.clos_world.declared.condition.Stop.TheVariants.{Refused, Storage}
-use Rattle.clos_machine.specs.clos_world.declared.tables.World.{World}
-use Rattle.clos_definition.specs.Class.{accessors_concerned, cells_needed, class_concerned, class_concerned_by, class_notices, class_number, class_refusal, initforms, lists_concerned, noting, with_accessors, with_class, with_defined_class}
-use Rattle.clos_definition.specs.Effect.{concerned_by, with_effect}
-use Rattle.clos_definition.specs.Generic.{eql_forms, generic_concerned, generic_refusal, with_defined_generic}
-use Rattle.clos_definition.specs.Method.{eql_form, method_concerned, method_refusal, with_defined_method}
-use Rattle.clos_definition.specs.Refusal.{StopsFor}
-use Rattle.clos_definition.specs.Removal.{Finds, concerned_by_removal, removable, with_removed}
-use Rattle.clos_definition.specs.declared.effect.Effect.{Effect}
+use Rattle.clos_effects.specs.clos_watch.declared.notice.Notice.{Notice}
+use Rattle.clos_eval.specs.clos_machine.clos_world.Uses.{uses_of}
+use Rattle.clos_eval.specs.clos_machine.clos_world.World.{State, seen}
+use Rattle.clos_eval.specs.clos_machine.clos_world.declared.condition.Condition.{Condition}
+use Rattle.clos_eval.specs.clos_machine.clos_world.declared.condition.Stop.{Stop}
+use Rattle.clos_eval.specs.clos_machine.clos_world.declared.condition.Stop.TheVariants.{Refused, Storage}
+use Rattle.clos_eval.specs.clos_machine.clos_world.declared.tables.World.{World}
+use Rattle.clos_effects.specs.clos_definition.Class.{accessors_concerned, cells_needed, class_concerned, class_concerned_by, class_notices, class_number, class_refusal, initforms, lists_concerned, noting, with_accessors, with_class, with_defined_class}
+use Rattle.clos_effects.specs.clos_definition.Effect.{concerned_by, with_effect}
+use Rattle.clos_effects.specs.clos_definition.Generic.{eql_forms, generic_concerned, generic_refusal, with_defined_generic}
+use Rattle.clos_effects.specs.clos_definition.Method.{eql_form, method_concerned, method_refusal, with_defined_method}
+use Rattle.clos_effects.specs.clos_definition.Refusal.{StopsFor}
+use Rattle.clos_effects.specs.clos_definition.Removal.{Finds, concerned_by_removal, removable, with_removed}
+use Rattle.clos_effects.specs.clos_definition.declared.effect.Effect.{Effect}
 use Rattle.clos_eval.specs.Evaluation.{Performs}
-use Rattle.clos_machine.specs.Machine.{Answers}
-use Rattle.clos_machine.specs.clos_meaning.Host.{Host}
-use Rattle.clos_machine.specs.clos_meaning.Outcome.{Run, Stopped, leaves}
-use Rattle.clos_machine.specs.clos_world.clos_cache.Cache.{Change}
+use Rattle.clos_eval.specs.clos_machine.Machine.{Answers}
+use Rattle.clos_eval.specs.clos_machine.clos_meaning.Host.{Host}
+use Rattle.clos_eval.specs.clos_machine.clos_meaning.Outcome.{Run, Stopped, leaves}
+use Rattle.clos_eval.specs.clos_machine.clos_world.clos_cache.Cache.{Change}
 use Rattle.clos_definition_forms.specs.Definition.{class_made, concerned_if, define_class, define_generic, define_method, generic_made, method_made, removed_if, unless, value_at, values_concerned, values_removed}
 use Rattle.clos_effects.specs.Effects.{AnswersNoting, takes_effect}
 use Rattle.clos_definition_forms.specs.Forms.{forms_evaluated}

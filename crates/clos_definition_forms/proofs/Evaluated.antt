@@ -6,22 +6,22 @@ use Rattle.lisp_data.specs.ValueView.{value_of}
 use Rattle.lisp_data.specs.declared.value.Value.{Value}
 use Rattle.clos_forms.specs.Form.{Form}
 use Rattle.clos_eval.specs.Evaluation.{Comes, GoesOn, Performs, followed}
-use Rattle.clos_machine.specs.clos_world.Uses.{AtMostOneMore, uses_of}
-use Rattle.clos_machine.specs.clos_world.World.{State, seen, unbound}
-use Rattle.clos_machine.specs.clos_world.clos_cache.Cache.{Change}
-use Rattle.clos_machine.specs.clos_world.declared.condition.Stop.{Stop}
-use Rattle.clos_machine.specs.clos_world.declared.condition.Stop.TheVariants.{Refused, Storage}
-use Rattle.clos_machine.specs.clos_world.declared.tables.World.{World}
-use Rattle.clos_machine.specs.Machine.{Answers, AnswersWith}
-use Rattle.clos_machine.specs.Uses.{KeepsBy, MadeSome}
-use Rattle.clos_machine.specs.clos_meaning.Contexts.{known}
-use Rattle.clos_machine.specs.clos_meaning.Host.{Host, answered_by}
-use Rattle.clos_machine.specs.clos_meaning.Meaning.{evaluation}
-use Rattle.clos_machine.specs.clos_meaning.Outcome.{Asked, Looked, Noted, Out, Gave, Stopped, Run, then_do, leaves}
-use Rattle.clos_machine.specs.clos_meaning.Uses.{after_notes, most, notes_by}
-use Rattle.clos_machine.proofs.Answering.{answers_as, answers_with, leaves_then, stopped_then}
-use Rattle.clos_machine.proofs.Uses.{after_more, keeps_as, made_of_more, none_made, notes_longer, notes_stopped, nothing_more, same_answers}
-use Rattle.clos_machine.proofs.clos_meaning.Quiet.{evaluation_quiet}
+use Rattle.clos_eval.specs.clos_machine.clos_world.Uses.{AtMostOneMore, uses_of}
+use Rattle.clos_eval.specs.clos_machine.clos_world.World.{State, seen, unbound}
+use Rattle.clos_eval.specs.clos_machine.clos_world.clos_cache.Cache.{Change}
+use Rattle.clos_eval.specs.clos_machine.clos_world.declared.condition.Stop.{Stop}
+use Rattle.clos_eval.specs.clos_machine.clos_world.declared.condition.Stop.TheVariants.{Refused, Storage}
+use Rattle.clos_eval.specs.clos_machine.clos_world.declared.tables.World.{World}
+use Rattle.clos_eval.specs.clos_machine.Machine.{Answers, AnswersWith}
+use Rattle.clos_eval.specs.clos_machine.Uses.{KeepsBy, MadeSome}
+use Rattle.clos_eval.specs.clos_machine.clos_meaning.Contexts.{known}
+use Rattle.clos_eval.specs.clos_machine.clos_meaning.Host.{Host, answered_by}
+use Rattle.clos_eval.specs.clos_machine.clos_meaning.Meaning.{evaluation}
+use Rattle.clos_eval.specs.clos_machine.clos_meaning.Outcome.{Asked, Looked, Noted, Out, Gave, Stopped, Run, then_do, leaves}
+use Rattle.clos_eval.specs.clos_machine.clos_meaning.Uses.{after_notes, most, notes_by}
+use Rattle.clos_eval.proofs.clos_machine.Answering.{answers_as, answers_with, leaves_then, stopped_then}
+use Rattle.clos_eval.proofs.clos_machine.Uses.{after_more, keeps_as, made_of_more, none_made, notes_longer, notes_stopped, nothing_more, same_answers}
+use Rattle.clos_eval.proofs.clos_machine.clos_meaning.Quiet.{evaluation_quiet}
 use Rattle.clos_effects.specs.Effects.{AnswersNoting, UsesAfter}
 use Rattle.clos_definition_forms.specs.Forms.{EndsBefore, evaluated, form_evaluated, forms_evaluated}
 use Rattle.clos_definition_forms.specs.Variable.{room_below}

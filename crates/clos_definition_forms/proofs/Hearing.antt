@@ -3,13 +3,13 @@ use Rattle.std.proofs.Common.{◌≡◌, ℕ, List, [], drop, length, ap, ◌∙
 use Rattle.std.specs.Prelude.{ℤ, Option}
 use Rattle.lisp_data.specs.Value.{Val}
 use Rattle.clos_forms.specs.Form.{Form}
-use Rattle.clos_machine.specs.clos_world.Definitions.{Same}
-use Rattle.clos_machine.specs.clos_world.World.{State, seen}
-use Rattle.clos_machine.specs.clos_world.declared.condition.Stop.{Stop}
-use Rattle.clos_machine.specs.clos_world.declared.tables.World.{World}
-use Rattle.clos_machine.specs.clos_meaning.Host.{Host}
-use Rattle.clos_watch.specs.Watching.{heard_after}
-use Rattle.clos_watch.specs.declared.notice.Notice.{Notice}
+use Rattle.clos_eval.specs.clos_machine.clos_world.Definitions.{Same}
+use Rattle.clos_eval.specs.clos_machine.clos_world.World.{State, seen}
+use Rattle.clos_eval.specs.clos_machine.clos_world.declared.condition.Stop.{Stop}
+use Rattle.clos_eval.specs.clos_machine.clos_world.declared.tables.World.{World}
+use Rattle.clos_eval.specs.clos_machine.clos_meaning.Host.{Host}
+use Rattle.clos_effects.specs.clos_watch.Watching.{heard_after}
+use Rattle.clos_effects.specs.clos_watch.declared.notice.Notice.{Notice}
 use Rattle.clos_effects.specs.Hearing.{Heard}
 use Rattle.clos_effects.proofs.Hearing.{unheard}
 use Rattle.clos_eval.specs.Evaluation.{GoesOn}

@@ -3,14 +3,14 @@ use Rattle.std.proofs.Common.{ℕ, ◌+◌, ◌++◌, List, [], ◌∷◌, Optio
 use Rattle.std.specs.Prelude.{⊤, ℤ, option_map, if◌then◌else◌}
 use Rattle.lisp_data.specs.Value.{Val, list, nil}
 use Rattle.clos_forms.specs.Form.{Form}
-use Rattle.clos_machine.specs.clos_world.World.{State, seen}
-use Rattle.clos_machine.specs.clos_world.declared.condition.Stop.{Stop}
-use Rattle.clos_machine.specs.clos_world.declared.condition.Stop.TheVariants.{Refused, Storage}
-use Rattle.clos_machine.specs.clos_world.declared.tables.World.{World}
-use Rattle.clos_machine.specs.clos_meaning.Host.{Host, answered_by, may_answer}
-use Rattle.clos_machine.specs.clos_meaning.Meaning.{evaluation}
-use Rattle.clos_machine.specs.clos_meaning.Outcome.{Asked, End, Given, Looked, Noted, Out, Gave, Signalled, Stopped, Run, ends_in, then_do}
-use Rattle.clos_machine.proofs.clos_meaning.Kept.{Follows, SameAfter, evaluation_kept, shifted, stays}
+use Rattle.clos_eval.specs.clos_machine.clos_world.World.{State, seen}
+use Rattle.clos_eval.specs.clos_machine.clos_world.declared.condition.Stop.{Stop}
+use Rattle.clos_eval.specs.clos_machine.clos_world.declared.condition.Stop.TheVariants.{Refused, Storage}
+use Rattle.clos_eval.specs.clos_machine.clos_world.declared.tables.World.{World}
+use Rattle.clos_eval.specs.clos_machine.clos_meaning.Host.{Host, answered_by, may_answer}
+use Rattle.clos_eval.specs.clos_machine.clos_meaning.Meaning.{evaluation}
+use Rattle.clos_eval.specs.clos_machine.clos_meaning.Outcome.{Asked, End, Given, Looked, Noted, Out, Gave, Signalled, Stopped, Run, ends_in, then_do}
+use Rattle.clos_eval.proofs.clos_machine.clos_meaning.Kept.{Follows, SameAfter, evaluation_kept, shifted, stays}
 use Rattle.clos_eval.specs.Evaluation.{GoesOn}
 use Rattle.clos_definition_forms.specs.Forms.{EndsBefore, form_evaluated, forms_evaluated}
 use Rattle.clos_definition_forms.specs.Variable.{room_below}

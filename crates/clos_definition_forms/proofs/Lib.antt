@@ -6,6 +6,6 @@ pub mod Defining
 pub mod Kept
 pub mod Hearing
 pub mod Watched
-pub use Rattle.clos_machine.proofs as clos_machine
-pub use Rattle.clos_definition.proofs as clos_definition
+pub use Rattle.clos_eval.proofs.clos_machine as clos_machine
+pub use Rattle.clos_effects.proofs.clos_definition as clos_definition
 pub use Rattle.clos_effects.proofs as clos_effects

@@ -5,13 +5,13 @@ use Rattle.lisp_data.specs.declared.value.Value.{Value}
 use Rattle.clos_forms.specs.Form.{Form}
 use Rattle.clos_syntax.specs.declared.variable.VariableDefinition.{VariableDefinition}
 use Rattle.clos_eval.specs.Evaluation.{Performs}
-use Rattle.clos_machine.specs.Machine.{Answers}
-use Rattle.clos_machine.specs.clos_meaning.Host.{Host}
-use Rattle.clos_machine.specs.clos_meaning.Outcome.{Out, step_then}
-use Rattle.clos_machine.specs.clos_world.Uses.{uses_of}
-use Rattle.clos_machine.specs.clos_world.World.{seen}
-use Rattle.clos_machine.specs.clos_world.declared.condition.Stop.{Stop}
-use Rattle.clos_machine.specs.clos_world.declared.tables.World.{World}
+use Rattle.clos_eval.specs.clos_machine.Machine.{Answers}
+use Rattle.clos_eval.specs.clos_machine.clos_meaning.Host.{Host}
+use Rattle.clos_eval.specs.clos_machine.clos_meaning.Outcome.{Out, step_then}
+use Rattle.clos_eval.specs.clos_machine.clos_world.Uses.{uses_of}
+use Rattle.clos_eval.specs.clos_machine.clos_world.World.{seen}
+use Rattle.clos_eval.specs.clos_machine.clos_world.declared.condition.Stop.{Stop}
+use Rattle.clos_eval.specs.clos_machine.clos_world.declared.tables.World.{World}
 use Rattle.clos_definition_forms.proofs.Evaluated.{performs_alone, performs_as}
 use Rattle.clos_definition_forms.specs.Variable.{admits, declared, given_value, keeps_value, named, new_value, variable_defined}
 

@@ -4,18 +4,18 @@ use Rattle.std.specs.Prelude.{ℕ, List, [], ◌∷◌, length, map, slice_get, 
 use Rattle.lisp_data.specs.Value.{Val, class, generic, list, method, nil}
 use Rattle.clos_forms.specs.Form.{Form}
 use Rattle.clos_forms.specs.declared.operator.FunctionName.{FunctionName}
-use Rattle.clos_machine.specs.clos_world.clos_generic.Table.{number}
+use Rattle.clos_eval.specs.clos_machine.clos_world.clos_generic.Table.{number}
 use Rattle.clos_syntax.specs.clos_defclass.declared.class.ClassDefinition.{ClassDefinition}
 use Rattle.clos_syntax.specs.declared.generic.GenericDefinition.{GenericDefinition}
 use Rattle.clos_syntax.specs.declared.method.MethodDefinition.{MethodDefinition}
-use Rattle.clos_machine.specs.clos_world.World.{State}
-use Rattle.clos_machine.specs.clos_world.declared.condition.Condition.{Condition}
-use Rattle.clos_definition.specs.Class.{cells_needed, class_concerned, class_number, class_refusal, initforms, with_defined_class}
-use Rattle.clos_definition.specs.Generic.{eql_forms, generic_concerned, generic_refusal, with_defined_generic}
-use Rattle.clos_definition.specs.Method.{eql_form, method_concerned, method_refusal, with_defined_method}
-use Rattle.clos_definition.specs.Removal.{concerned_by_removal, removable, with_removed}
-use Rattle.clos_machine.specs.clos_meaning.Outcome.{Run, Stopped}
-use Rattle.clos_machine.specs.clos_world.clos_cache.Cache.{Change}
+use Rattle.clos_eval.specs.clos_machine.clos_world.World.{State}
+use Rattle.clos_eval.specs.clos_machine.clos_world.declared.condition.Condition.{Condition}
+use Rattle.clos_effects.specs.clos_definition.Class.{cells_needed, class_concerned, class_number, class_refusal, initforms, with_defined_class}
+use Rattle.clos_effects.specs.clos_definition.Generic.{eql_forms, generic_concerned, generic_refusal, with_defined_generic}
+use Rattle.clos_effects.specs.clos_definition.Method.{eql_form, method_concerned, method_refusal, with_defined_method}
+use Rattle.clos_effects.specs.clos_definition.Removal.{concerned_by_removal, removable, with_removed}
+use Rattle.clos_eval.specs.clos_machine.clos_meaning.Outcome.{Run, Stopped}
+use Rattle.clos_eval.specs.clos_machine.clos_world.clos_cache.Cache.{Change}
 use Rattle.clos_effects.specs.Effects.{takes_effect}
 use Rattle.clos_definition_forms.specs.Forms.{forms_evaluated}
 

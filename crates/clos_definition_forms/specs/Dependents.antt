@@ -5,17 +5,17 @@ use Rattle.lisp_data.specs.Value.{Val, integer, symbol, string, list, class, gen
 use Rattle.lisp_prims.specs.Primitive.{truth}
 use Rattle.clos_forms.specs.Form.{Form}
 use Rattle.clos_forms.specs.Quotation.{name_value}
-use Rattle.clos_machine.specs.clos_meaning.ClassFunctions.{symbol_in, wrong_type}
-use Rattle.clos_machine.specs.clos_meaning.Outcome.{Gave, Run, Stopped, step_then}
-use Rattle.clos_machine.specs.clos_world.World.{State}
-use Rattle.clos_machine.specs.clos_world.declared.condition.Condition.{Condition}
-use Rattle.clos_machine.specs.clos_world.declared.condition.ConditionKind.TheVariants.{UnknownDependent}
-use Rattle.clos_machine.specs.clos_world.declared.condition.Stop.{Stop}
-use Rattle.clos_machine.specs.clos_world.declared.condition.Stop.TheVariants.{Refused, Storage}
-use Rattle.clos_watch.specs.Handed.{place_of}
-use Rattle.clos_watch.specs.Watching.{Watching, with_dependent, without_dependent}
-use Rattle.clos_watch.specs.declared.notice.Metaobject.{Metaobject}
-use Rattle.clos_watch.specs.declared.notice.Metaobject.TheVariants.{Class, Generic}
+use Rattle.clos_eval.specs.clos_machine.clos_meaning.ClassFunctions.{symbol_in, wrong_type}
+use Rattle.clos_eval.specs.clos_machine.clos_meaning.Outcome.{Gave, Run, Stopped, step_then}
+use Rattle.clos_eval.specs.clos_machine.clos_world.World.{State}
+use Rattle.clos_eval.specs.clos_machine.clos_world.declared.condition.Condition.{Condition}
+use Rattle.clos_eval.specs.clos_machine.clos_world.declared.condition.ConditionKind.TheVariants.{UnknownDependent}
+use Rattle.clos_eval.specs.clos_machine.clos_world.declared.condition.Stop.{Stop}
+use Rattle.clos_eval.specs.clos_machine.clos_world.declared.condition.Stop.TheVariants.{Refused, Storage}
+use Rattle.clos_effects.specs.clos_watch.Handed.{place_of}
+use Rattle.clos_effects.specs.clos_watch.Watching.{Watching, with_dependent, without_dependent}
+use Rattle.clos_effects.specs.clos_watch.declared.notice.Metaobject.{Metaobject}
+use Rattle.clos_effects.specs.clos_watch.declared.notice.Metaobject.TheVariants.{Class, Generic}
 use Rattle.clos_definition_forms.specs.Definition.{value_at}
 use Rattle.clos_definition_forms.specs.Forms.{forms_evaluated}
 use Rattle.clos_definition_forms.specs.declared.dependents.Change.{Change}

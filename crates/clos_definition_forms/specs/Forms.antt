@@ -4,12 +4,12 @@ use Rattle.std.specs.Prelude.{ℕ, ℤ, List, [], ◌∷◌, ◌++◌, Option, S
 use Rattle.lisp_data.specs.Value.{Val}
 use Rattle.clos_forms.specs.Form.{Form}
 use Rattle.clos_eval.specs.Evaluation.{Performs, followed}
-use Rattle.clos_machine.specs.clos_world.World.{seen}
-use Rattle.clos_machine.specs.clos_world.declared.condition.Stop.{Stop}
-use Rattle.clos_machine.specs.clos_world.declared.tables.World.{World}
-use Rattle.clos_machine.specs.clos_meaning.Host.{Host}
-use Rattle.clos_machine.specs.clos_meaning.Meaning.{evaluation}
-use Rattle.clos_machine.specs.clos_meaning.Outcome.{Run, leaves}
+use Rattle.clos_eval.specs.clos_machine.clos_world.World.{seen}
+use Rattle.clos_eval.specs.clos_machine.clos_world.declared.condition.Stop.{Stop}
+use Rattle.clos_eval.specs.clos_machine.clos_world.declared.tables.World.{World}
+use Rattle.clos_eval.specs.clos_machine.clos_meaning.Host.{Host}
+use Rattle.clos_eval.specs.clos_machine.clos_meaning.Meaning.{evaluation}
+use Rattle.clos_eval.specs.clos_machine.clos_meaning.Outcome.{Run, leaves}
 use Rattle.clos_definition_forms.specs.Variable.{room_below}
 
 -- what follows with the value of a form, in the room of a definition

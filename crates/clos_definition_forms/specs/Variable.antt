@@ -7,11 +7,11 @@ use Rattle.clos_forms.specs.Quotation.{name_value}
 use Rattle.clos_syntax.specs.declared.variable.Definer.{Definer}
 use Rattle.clos_syntax.specs.declared.variable.Definer.TheVariants.{DefVar, DefParameter}
 use Rattle.clos_syntax.specs.declared.variable.VariableDefinition.{VariableDefinition}
-use Rattle.clos_machine.specs.clos_world.Globals.{is_global, global_value, with_global}
-use Rattle.clos_machine.specs.clos_world.World.{State}
-use Rattle.clos_machine.specs.clos_world.declared.condition.ConditionKind.TheVariants.{TableLimit}
-use Rattle.clos_machine.specs.clos_meaning.Meaning.{evaluation}
-use Rattle.clos_machine.specs.clos_meaning.Outcome.{Gave, Run, then_do, stopped, step_then}
+use Rattle.clos_eval.specs.clos_machine.clos_world.Globals.{is_global, global_value, with_global}
+use Rattle.clos_eval.specs.clos_machine.clos_world.World.{State}
+use Rattle.clos_eval.specs.clos_machine.clos_world.declared.condition.ConditionKind.TheVariants.{TableLimit}
+use Rattle.clos_eval.specs.clos_machine.clos_meaning.Meaning.{evaluation}
+use Rattle.clos_eval.specs.clos_machine.clos_meaning.Outcome.{Gave, Run, then_do, stopped, step_then}
 
 -- how deep the forms may nest that stand in a definition
 abbrev pub room_below : State → ℕ

@@ -2,12 +2,12 @@
 //! is refused takes none.
 ghost use Rattle.std.specs.Prelude.{◌≡◌, [], ◌∷◌, None, Some, IfOk, map};
 ghost use Rattle.lisp_data.specs.ValueView.{value_of};
-ghost use Rattle.clos_machine.specs.clos_world.Uses.{uses_of};
-ghost use Rattle.clos_machine.specs.clos_world.World.{seen};
-ghost use Rattle.clos_definition.specs.Class.{class_concerned, initforms};
+ghost use Rattle.clos_eval.specs.clos_machine.clos_world.Uses.{uses_of};
+ghost use Rattle.clos_eval.specs.clos_machine.clos_world.World.{seen};
+ghost use Rattle.clos_effects.specs.clos_definition.Class.{class_concerned, initforms};
 ghost use Rattle.clos_syntax.specs.Laws.{IsSpecialized};
-ghost use Rattle.clos_definition.specs.Generic.{IsWellRead, eql_forms, generic_concerned};
-ghost use Rattle.clos_definition.specs.Method.{eql_form, method_concerned};
+ghost use Rattle.clos_effects.specs.clos_definition.Generic.{IsWellRead, eql_forms, generic_concerned};
+ghost use Rattle.clos_effects.specs.clos_definition.Method.{eql_form, method_concerned};
 ghost use Rattle.clos_eval.specs.Evaluation.{Performs};
 ghost use Rattle.clos_definition_forms.specs.Definition.{class_made, define_class, define_generic, define_method, generic_made, method_made, remove_method, value_at, values_concerned, values_removed};
 ghost use Rattle.clos_effects.specs.Effects.{AnswersNoting, UsesAfter};
@@ -15,18 +15,14 @@ ghost use Rattle.clos_definition_forms.specs.Forms.{forms_evaluated};
 ghost use Rattle.clos_effects.specs.Hearing.{Heard};
 
 use crate::forms::evaluate_forms;
-use clos_class::NewCell;
-use clos_definition::{
-    check_class, check_generic, check_method, find_removable, generic_forms, method_forms,
-    number_of, prepare_class, prepare_generic, prepare_method,
+use clos_effects::{
+    Dependents, NewCell, Slot, check_class, check_generic, check_method, find_removable,
+    generic_forms, make_prepared_class, method_forms, number_of, prepare_class, prepare_generic,
+    prepare_method, take_effect, take_out,
 };
-use clos_effects::{make_prepared_class, take_effect, take_out};
-use clos_eval::Natives;
+use clos_eval::{Natives, Stop, World};
 use clos_forms::{Form, FunctionName};
-use clos_machine::{Stop, World};
-use clos_store::Slot;
 use clos_syntax::{ClassDefinition, GenericDefinition, MethodDefinition};
-use clos_watch::Dependents;
 use lisp_data::{Items, MethodId, Value};
 use std::alloc::{AllocError, Global};
 

@@ -2,22 +2,18 @@
 ghost use Rattle.std.specs.Prelude.{◌≡◌, OnErr, OnOk, true};
 ghost use Rattle.lisp_data.specs.ValueView.{value_of};
 ghost use Rattle.lisp_prims.specs.Primitive.{truth};
-ghost use Rattle.clos_machine.specs.Machine.{Answers};
-ghost use Rattle.clos_machine.specs.clos_meaning.ClassFunctions.{symbol_in};
-ghost use Rattle.clos_machine.specs.clos_world.Uses.{uses_of};
-ghost use Rattle.clos_machine.specs.clos_world.World.{seen};
+ghost use Rattle.clos_eval.specs.clos_machine.Machine.{Answers};
+ghost use Rattle.clos_eval.specs.clos_machine.clos_meaning.ClassFunctions.{symbol_in};
+ghost use Rattle.clos_eval.specs.clos_machine.clos_world.Uses.{uses_of};
+ghost use Rattle.clos_eval.specs.clos_machine.clos_world.World.{seen};
 ghost use Rattle.clos_eval.specs.Evaluation.{Performs};
 ghost use Rattle.clos_definition_forms.specs.Dependents.{FindsNamed, FindsWatched, change_dependents, dependent_named, metaobject_in, takes_step, values_watched, watched, with_change};
 
 use crate::definition::{both, value_or_nil};
 use crate::forms::evaluate_forms;
-use clos_eval::{Natives, symbol_in};
+use clos_effects::{Metaobject, Slot, place_of};
+use clos_eval::{ConditionKind, Natives, Stop, World, about_name, plain, symbol_in, t, wrong_type};
 use clos_forms::Form;
-use clos_machine::fault::wrong_type;
-use clos_machine::truth::t;
-use clos_machine::{ConditionKind, Stop, World, about_name, plain};
-use clos_store::Slot;
-use clos_watch::{Metaobject, place_of};
 use lisp_data::Value;
 use std::alloc::{AllocError, Global};
 

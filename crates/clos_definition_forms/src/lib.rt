@@ -8,12 +8,12 @@ mod forms;
 mod function;
 mod variable;
 
-pub use clos_eval::{Native, Natives, Relation, evaluate};
-pub use clos_machine::{
-    Condition, ConditionKind, Limits, Stop, Values, World, called_value, plain,
-};
-pub use clos_watch::{
+pub use clos_effects::{
     Callback, Dependent, Dependents, Handed, Listener, Notice, Recorder, place_of,
+};
+pub use clos_eval::{
+    Condition, ConditionKind, Limits, Native, Natives, Relation, Stop, Values, World, called_value,
+    evaluate, plain,
 };
 pub use combination::define_combination;
 pub use definition::{defclass, defgeneric, defmethod, remove_method};

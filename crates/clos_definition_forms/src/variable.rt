@@ -3,17 +3,16 @@ ghost use Rattle.std.specs.Prelude.{◌≡◌, ℕ, ◌+◌, ◌-◌, option_map
 ghost use Rattle.lisp_data.specs.Value.{Val};
 ghost use Rattle.lisp_data.specs.ValueView.{value_of};
 ghost use Rattle.clos_forms.specs.Quotation.{name_value};
-ghost use Rattle.clos_machine.specs.clos_world.Uses.{uses_of};
-ghost use Rattle.clos_machine.specs.clos_world.World.{State, seen};
-ghost use Rattle.clos_machine.specs.Machine.{Answers};
+ghost use Rattle.clos_eval.specs.clos_machine.clos_world.Uses.{uses_of};
+ghost use Rattle.clos_eval.specs.clos_machine.clos_world.World.{State, seen};
+ghost use Rattle.clos_eval.specs.clos_machine.Machine.{Answers};
 ghost use Rattle.clos_eval.specs.Evaluation.{Performs};
-ghost use Rattle.clos_machine.specs.clos_meaning.Meaning.{evaluation};
-ghost use Rattle.clos_machine.specs.clos_meaning.Outcome.{step_then};
+ghost use Rattle.clos_eval.specs.clos_machine.clos_meaning.Meaning.{evaluation};
+ghost use Rattle.clos_eval.specs.clos_machine.clos_meaning.Outcome.{step_then};
 ghost use Rattle.clos_definition_forms.specs.Variable.{admits, variable_defined, keeps_value, declared, given_value, named, value_given};
 
-use clos_eval::{Natives, evaluate};
+use clos_eval::{ConditionKind, Natives, Stop, World, evaluate, plain};
 use clos_forms::{Form, value_named};
-use clos_machine::{ConditionKind, Stop, World, plain};
 use clos_syntax::{Definer, VariableDefinition};
 use lisp_data::{Name, Value};
 use std::alloc::Global;

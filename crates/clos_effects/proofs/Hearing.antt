@@ -1,8 +1,8 @@
 -- What is heard of an effect.
 use Rattle.std.proofs.Common.{◌≡◌, ℕ, suc, ◌+◌, ◌≤◌, ◌++◌, List, [], ◌∷◌, drop, length, append-nil, length-append, arith, refl, ap, sym, ◌∙◌}
 use Rattle.clos_meaning.specs.clos_world.World.{State}
-use Rattle.clos_watch.specs.Watching.{Watching, heard_after, heard_from, times_told}
-use Rattle.clos_watch.specs.declared.notice.Notice.{Notice}
+use Rattle.clos_definition.specs.clos_watch.Watching.{Watching, heard_after, heard_from, times_told}
+use Rattle.clos_definition.specs.clos_watch.declared.notice.Notice.{Notice}
 use Rattle.clos_effects.specs.Hearing.{Heard}
 
 -- ---- the notices since a state

@@ -1,7 +1,7 @@
 -- What dependents hear of a form (AMOP chapter 6).
 use Rattle.std.specs.Prelude.{◌≡◌, List, drop, length}
-use Rattle.clos_watch.specs.Watching.{heard_after}
-use Rattle.clos_watch.specs.declared.notice.Notice.{Notice}
+use Rattle.clos_definition.specs.clos_watch.Watching.{heard_after}
+use Rattle.clos_definition.specs.clos_watch.declared.notice.Notice.{Notice}
 use Rattle.clos_meaning.specs.clos_world.World.{State}
 
 -- the notices of the changes that led from the one state to the other

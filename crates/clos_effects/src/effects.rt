@@ -12,10 +12,10 @@ ghost use Rattle.clos_effects.specs.Hearing.{Heard};
 
 use crate::telling::{prepare_to_tell, tell};
 use clos_defclass::ClassDefinition;
-use clos_definition::{Effect, class_notices, make, make_class, possible_notices, remove};
+use clos_definition::{
+    Dependents, Effect, Notice, Slot, class_notices, make, make_class, possible_notices, remove,
+};
 use clos_meaning::{ConditionKind, Stop, World, plain};
-use clos_store::Slot;
-use clos_watch::{Dependents, Notice};
 use lisp_data::{ClassId, GenericId, MethodId, Value};
 use std::alloc::Global;
 

@@ -4,4 +4,9 @@
 mod effects;
 mod telling;
 
+pub use clos_definition::{
+    Callback, Dependent, Dependents, Handed, Listener, Metaobject, NewCell, Notice, Recorder, Slot,
+    check_class, check_generic, check_method, find_removable, generic_forms, method_forms,
+    number_of, place_of, prepare_class, prepare_generic, prepare_method,
+};
 pub use effects::{make_prepared_class, take_effect, take_out};

@@ -2,10 +2,10 @@
 ghost use Rattle.std.specs.Prelude.{◌≡◌, ◌<◌, ◌≤◌, ℕ, OnOk, drop, length};
 ghost use Rattle.clos_meaning.specs.clos_world.Uses.{uses_of};
 ghost use Rattle.clos_meaning.specs.clos_world.World.{seen};
-ghost use Rattle.clos_watch.specs.Watching.{heard_after, times_told};
+ghost use Rattle.clos_definition.specs.clos_watch.Watching.{heard_after, times_told};
 
+use clos_definition::{Dependents, Notice};
 use clos_meaning::World;
-use clos_watch::{Dependents, Notice};
 use std::alloc::AllocError;
 
 /// Has room for all of these notices, in the list of all changes and among the dependents that hear them.

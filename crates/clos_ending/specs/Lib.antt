@@ -1,1 +1,2 @@
 pub mod Status
+pub use Rattle.clos_system.specs as clos_system

@@ -5,11 +5,11 @@ use Rattle.std.specs.Prelude.{IfErr, IfSome, if◌then◌else◌}
 use Rattle.std.specs.Io.KnownBytes.{Appends, Keeps}
 use Rattle.std.proofs.KnownBytes.{Appends-nil, Appends-trans, Keeps-refl}
 use Rattle.std.proofs.lemmas.List.{drop_more}
-use Rattle.clos_system.specs.clos_session.Session.{Standing}
-use Rattle.clos_system.specs.clos_session.clos_machine.clos_meaning.Host.{Host}
-use Rattle.clos_system.specs.declared.transcript.RunFault.{RunFault}
-use Rattle.clos_system.specs.declared.transcript.RunFault.TheVariants.{Read, TooLong, Reader, Write, Memory}
-use Rattle.clos_system.specs.Transcript.{RunFaults}
+use Rattle.clos_ending.specs.clos_system.clos_session.Session.{Standing}
+use Rattle.clos_ending.specs.clos_system.clos_session.clos_machine.clos_meaning.Host.{Host}
+use Rattle.clos_ending.specs.clos_system.declared.transcript.RunFault.{RunFault}
+use Rattle.clos_ending.specs.clos_system.declared.transcript.RunFault.TheVariants.{Read, TooLong, Reader, Write, Memory}
+use Rattle.clos_ending.specs.clos_system.Transcript.{RunFaults}
 use Rattle.clos_program.specs.Files.{Stopped, Writes, input_after, known_as, known_texts, next, none}
 use Rattle.clos_program.specs.Program.{Failed, Ran, is_input}
 use Rattle.clos_program.specs.inner.Files.{SoFar}

@@ -2,8 +2,8 @@
 use Rattle.std.proofs.Common.{◌≡◌, ◌⊎◌, ℕ, List, ◌∷◌, ◌++◌, Option, Some, None, Result, Ok, Err, Bool, true, false, length, refl, subst, inl, inr}
 use Rattle.std.specs.Prelude.{IfOk, IfErr, MatchResult}
 use Rattle.std.specs.Io.KnownBytes.{Appends, Keeps}
-use Rattle.clos_system.specs.clos_session.Session.{Standing}
-use Rattle.clos_system.specs.clos_session.clos_machine.clos_meaning.Host.{Host}
+use Rattle.clos_ending.specs.clos_system.clos_session.Session.{Standing}
+use Rattle.clos_ending.specs.clos_system.clos_session.clos_machine.clos_meaning.Host.{Host}
 use Rattle.clos_program.specs.Files.{RanAll, RunsFiles, Stopped, StopsAt}
 use Rattle.clos_program.specs.Lines.{lined, lined_of}
 use Rattle.clos_program.specs.Notices.{with_asked}

@@ -3,12 +3,12 @@ use Rattle.std.proofs.Common.{◌≡◌, ◌⊎◌, ◌∙◌, ℕ, List, ◌∷
 use Rattle.std.specs.Prelude.{IfOk, IfErr, MatchResult}
 use Rattle.std.specs.Io.KnownBytes.{Appends, Keeps}
 use Rattle.std.proofs.lemmas.List.{drop_at}
-use Rattle.clos_system.specs.Transcript.{RunFaults}
-use Rattle.clos_system.specs.clos_transcript.Told.{ends_line}
-use Rattle.clos_system.specs.clos_session.Session.{Standing}
-use Rattle.clos_system.specs.clos_session.clos_machine.clos_meaning.Host.{Host}
-use Rattle.clos_system.specs.declared.transcript.RunFault.{RunFault}
-use Rattle.clos_system.specs.declared.transcript.RunFault.TheVariants.{Read, TooLong, Reader, Write, Memory}
+use Rattle.clos_ending.specs.clos_system.Transcript.{RunFaults}
+use Rattle.clos_ending.specs.clos_system.clos_transcript.Told.{ends_line}
+use Rattle.clos_ending.specs.clos_system.clos_session.Session.{Standing}
+use Rattle.clos_ending.specs.clos_system.clos_session.clos_machine.clos_meaning.Host.{Host}
+use Rattle.clos_ending.specs.clos_system.declared.transcript.RunFault.{RunFault}
+use Rattle.clos_ending.specs.clos_system.declared.transcript.RunFault.TheVariants.{Read, TooLong, Reader, Write, Memory}
 use Rattle.clos_program.specs.Lines.{lined, lined_of}
 use Rattle.clos_program.specs.Notices.{with_asked}
 use Rattle.clos_ending.specs.Status.{fault_status, status_of}

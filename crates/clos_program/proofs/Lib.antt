@@ -3,4 +3,4 @@ pub mod Lines
 pub mod Following
 pub mod Followed
 pub mod Files
-pub use Rattle.clos_system.proofs as system_proofs
+pub use Rattle.clos_ending.proofs.clos_system as system_proofs

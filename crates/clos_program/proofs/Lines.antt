@@ -3,7 +3,7 @@ use Rattle.std.proofs.Common.{◌≡◌, ℕ, ◌+◌, ◌-◌, ◌≤◌, ◌&&
 use Rattle.std.specs.Io.KnownBytes.{Appends, Keeps}
 use Rattle.std.proofs.lemmas.Bool.{ltb-false, le-ltb}
 use Rattle.std.proofs.lemmas.List.{drop-append-le, drop_all, length-append}
-use Rattle.clos_system.specs.clos_transcript.Told.{ends_line}
+use Rattle.clos_ending.specs.clos_system.clos_transcript.Told.{ends_line}
 use Rattle.clos_program.specs.Lines.{is_lined, is_same, lined}
 
 low : (b s : Bool) → (not b && s) ≡ true → b ≡ false

@@ -2,7 +2,7 @@
 use Rattle.std.proofs.Common.{◌≡◌, List, [], ◌∷◌, length, get_or, ap, ◌∙◌, arith, refl, rules, w64, FitsSigned, to_z, of_z}
 use Rattle.std.specs.Int.{w128}
 use Rattle.std.specs.Prelude.{ℤ, pos, negsuc, ◌+ℤ◌, ◌*ℤ◌}
-use Rattle.clos_system.specs.clos_session.clos_native.Relation.{weighed}
+use Rattle.clos_ending.specs.clos_system.clos_session.clos_native.Relation.{weighed}
 
 pub weighed_two : (xs : List ℤ) → length xs ≡ 2 → weighed (pos 3 ∷ negsuc 1 ∷ []) (pos 7) xs ≡ (pos 3 *ℤ get_or xs 0 (pos 0)) +ℤ
     ((negsuc 1 *ℤ get_or xs 1 (pos 0)) +ℤ pos 7)

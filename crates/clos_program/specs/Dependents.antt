@@ -1,7 +1,7 @@
 -- The kinds of notices.
 use Rattle.std.specs.Prelude.{ℤ, pos}
-use Rattle.clos_system.specs.clos_session.clos_watch.declared.notice.Notice.{Notice}
-use Rattle.clos_system.specs.clos_session.clos_watch.declared.notice.Notice.TheVariants.{ClassRedefined, MethodAdded, MethodRemoved, GenericRedefined}
+use Rattle.clos_ending.specs.clos_system.clos_session.clos_watch.declared.notice.Notice.{Notice}
+use Rattle.clos_ending.specs.clos_system.clos_session.clos_watch.declared.notice.Notice.TheVariants.{ClassRedefined, MethodAdded, MethodRemoved, GenericRedefined}
 
 abbrev pub kind_number : Notice → ℤ
 kind_number (ClassRedefined c) = pos 1

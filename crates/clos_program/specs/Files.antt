@@ -1,12 +1,12 @@
 -- What the program does where files are named, the input perhaps among them.
 use Rattle.std.specs.Prelude.{◌≡◌, ◌⊎◌, ℕ, ◌||◌, List, [], ◌∷◌, ◌++◌, Bool, true, false, Option, None, if◌then◌else◌, drop}
 use Rattle.std.specs.Io.KnownBytes.{Appends, Keeps}
-use Rattle.clos_system.specs.Transcript as Transcript
+use Rattle.clos_ending.specs.clos_system.Transcript as Transcript
 use Rattle.lisp_reader.specs.Gaps.{Gaps}
-use Rattle.clos_system.specs.Transcript.{OverText}
-use Rattle.clos_system.specs.declared.transcript.Summary.{Summary}
-use Rattle.clos_system.specs.clos_session.Session.{Standing}
-use Rattle.clos_system.specs.clos_session.clos_machine.clos_meaning.Host.{Host}
+use Rattle.clos_ending.specs.clos_system.Transcript.{OverText}
+use Rattle.clos_ending.specs.clos_system.declared.transcript.Summary.{Summary}
+use Rattle.clos_ending.specs.clos_system.clos_session.Session.{Standing}
+use Rattle.clos_ending.specs.clos_system.clos_session.clos_machine.clos_meaning.Host.{Host}
 use Rattle.clos_program.specs.Notices.{with_asked}
 use Rattle.clos_ending.specs.Status.{fault_status, is_told, status_of}
 use Rattle.clos_program.specs.Program.{Failed, RunsInput, is_input, is_input_alone}

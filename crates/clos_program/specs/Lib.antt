@@ -4,4 +4,4 @@ pub mod Notices
 pub mod Program
 pub mod Files
 pub mod Dependents
-pub use Rattle.clos_system.specs as clos_system
+pub use Rattle.clos_ending.specs.clos_system as clos_system

@@ -1,6 +1,6 @@
 -- Writers that keep whether a line has ended.
 use Rattle.std.specs.Prelude.{ℕ, ◌-◌, ◌&&◌, Bool, true, false, not, List, ◌∷◌, Option, Some, None, if◌then◌else◌, length, drop, nat_lt}
-use Rattle.clos_system.specs.clos_transcript.Told.{ends_line}
+use Rattle.clos_ending.specs.clos_system.clos_transcript.Told.{ends_line}
 use Rattle.clos_program.specs.declared.output.Output.{Output}
 
 abbrev pub is_same : Bool → Bool → Bool

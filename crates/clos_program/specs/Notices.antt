@@ -2,12 +2,12 @@
 use Rattle.std.specs.Prelude.{◌≡◌, ℕ, Bool, true, false, List, [], ◌∷◌, ◌++◌, Option, Some, None, codes, ⊤, option_map, slice_get, unwrap_or}
 use Rattle.std.specs.List.{flat_map}
 use Rattle.lisp_data.specs.Name.{Name}
-use Rattle.clos_system.specs.clos_transcript.Told.{fresh_line}
-use Rattle.clos_system.specs.clos_session.Notices.{notice_text}
-use Rattle.clos_system.specs.clos_session.Session.{Standing}
-use Rattle.clos_system.specs.clos_session.clos_watch.Handed.{place_of}
-use Rattle.clos_system.specs.clos_session.clos_watch.declared.notice.Notice.{Notice}
-use Rattle.clos_system.specs.clos_world.World.{State}
+use Rattle.clos_ending.specs.clos_system.clos_transcript.Told.{fresh_line}
+use Rattle.clos_ending.specs.clos_system.clos_session.Notices.{notice_text}
+use Rattle.clos_ending.specs.clos_system.clos_session.Session.{Standing}
+use Rattle.clos_ending.specs.clos_system.clos_session.clos_watch.Handed.{place_of}
+use Rattle.clos_ending.specs.clos_system.clos_session.clos_watch.declared.notice.Notice.{Notice}
+use Rattle.clos_ending.specs.clos_system.clos_world.World.{State}
 
 -- what the dependent of a name has heard
 abbrev pub heard_of : Standing → Name → List Notice

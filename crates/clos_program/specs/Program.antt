@@ -2,12 +2,12 @@
 use Rattle.std.specs.Prelude.{◌≡◌, ◌⊎◌, ℕ, List, [], ◌∷◌, ◌++◌, Bool, true, false, Option, codes}
 use Rattle.std.specs.Str.{bytes_eq}
 use Rattle.std.specs.Io.KnownBytes.{Appends, Keeps}
-use Rattle.clos_system.specs.clos_session.Session.{Standing}
-use Rattle.clos_system.specs.clos_session.clos_machine.clos_meaning.Host.{Host}
-use Rattle.clos_system.specs.Transcript.{Finishes, OverText, RunFaults}
-use Rattle.clos_system.specs.clos_transcript.Told.{ends_line}
-use Rattle.clos_system.specs.declared.transcript.RunFault.{RunFault}
-use Rattle.clos_system.specs.declared.transcript.Summary.{Summary}
+use Rattle.clos_ending.specs.clos_system.clos_session.Session.{Standing}
+use Rattle.clos_ending.specs.clos_system.clos_session.clos_machine.clos_meaning.Host.{Host}
+use Rattle.clos_ending.specs.clos_system.Transcript.{Finishes, OverText, RunFaults}
+use Rattle.clos_ending.specs.clos_system.clos_transcript.Told.{ends_line}
+use Rattle.clos_ending.specs.clos_system.declared.transcript.RunFault.{RunFault}
+use Rattle.clos_ending.specs.clos_system.declared.transcript.Summary.{Summary}
 use Rattle.clos_ending.specs.Status.{fault_status, is_told, status_of}
 use Rattle.clos_program.specs.Notices.{Follow, with_asked}
 use Rattle.clos_program.specs.declared.output.Output.{Output}

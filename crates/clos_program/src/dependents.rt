@@ -2,7 +2,7 @@
 ghost use Rattle.std.specs.Prelude.{◌≡◌, pos};
 ghost use Rattle.clos_program.specs.Dependents.{kind_number};
 
-use clos_system::{Listener, Notice};
+use clos_ending::{Listener, Notice};
 
 /// Answers the number of a notice's kind.
 #[derive(Drop)]

@@ -11,11 +11,9 @@ mod way;
 
 pub use clos_command_line::Settings;
 pub use clos_ending::{
-    Fault, FileName, STATUS_CONDITION, STATUS_DONE, STATUS_FAULT, STATUS_USAGE, report,
-};
-pub use clos_system::{
-    Callback, Dependent, Dependents, Handed, Limits, Native, Natives, Notice, Performed, Recorder,
-    Relation, RunFault, Session, Stop, Summary, read_source, run_form,
+    Callback, Dependent, Dependents, Fault, FileName, Handed, Limits, Native, Natives, Notice,
+    Performed, Recorder, Relation, RunFault, STATUS_CONDITION, STATUS_DONE, STATUS_FAULT,
+    STATUS_USAGE, Session, Stop, Summary, read_source, report, run_form,
 };
 pub use dependents::{KindNumber, kind_number};
 pub use natives::{affine, low};

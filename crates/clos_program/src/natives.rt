@@ -1,6 +1,6 @@
 //! The functions that the program `clos` stores for the programs that it runs.
 ghost use Rattle.std.specs.Prelude.{◌≡◌, ◌∷◌, [], pos, negsuc, false, int_lt, length, ◌+ℤ◌, ◌*ℤ◌};
-ghost use Rattle.clos_system.specs.clos_session.clos_native.Relation.{clamped, weighed};
+ghost use Rattle.clos_ending.specs.clos_system.clos_session.clos_native.Relation.{clamped, weighed};
 
 /// Three times the first, less two times the second, and 7, within -1000 and 1000.
 #[tactic(auto, using(crate::proofs::Sums::weighed_two))]

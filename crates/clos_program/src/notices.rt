@@ -1,10 +1,10 @@
 //! What the program's dependents heard, as it is written after the last file.
 ghost use Rattle.std.specs.Prelude.{◌≡◌, ◌++◌, ℕ, List, IfOk, OnOk};
-ghost use Rattle.clos_system.specs.clos_transcript.Told.{ends_line};
-ghost use Rattle.clos_system.specs.clos_session.Session.{standing_of};
+ghost use Rattle.clos_ending.specs.clos_system.clos_transcript.Told.{ends_line};
+ghost use Rattle.clos_ending.specs.clos_system.clos_session.Session.{standing_of};
 ghost use Rattle.clos_program.specs.Notices.{notice_line, notice_lines, with_notices};
 
-use clos_system::{Dependents, Natives, Notice, Session, print_notice};
+use clos_ending::{Dependents, Natives, Notice, Session, print_notice};
 use lisp_data::Name;
 use std::alloc::{AllocError, Global};
 

@@ -2,8 +2,8 @@
 ghost use Rattle.std.specs.Prelude.{◌≡◌, ◌⊎◌, ◌||◌, IfOk, IfErr, MatchResult, map, true, false};
 ghost use Rattle.std.specs.List.{list_any};
 ghost use Rattle.std.specs.Io.KnownBytes.{Keeps};
-ghost use Rattle.clos_system.specs.clos_world.Limits.{standard};
-ghost use Rattle.clos_system.specs.clos_session.Session.{standing_of};
+ghost use Rattle.clos_ending.specs.clos_system.clos_world.Limits.{standard};
+ghost use Rattle.clos_ending.specs.clos_system.clos_session.Session.{standing_of};
 ghost use Rattle.clos_ending.specs.Status.{fault_status, status_of};
 ghost use Rattle.clos_program.specs.Lines.{lined_of};
 ghost use Rattle.clos_program.specs.Files.{RanAll, Runs, Stopped, known_as, known_texts};
@@ -14,8 +14,10 @@ use crate::output::Output;
 use crate::sources::Sources;
 use crate::way::{Plainly, Way};
 use clos_command_line::Settings;
-use clos_ending::{Fault, STATUS_CONDITION, STATUS_DONE, STATUS_FAULT, report};
-use clos_system::{Dependents, Limits, Natives, Session};
+use clos_ending::{
+    Dependents, Fault, Limits, Natives, STATUS_CONDITION, STATUS_DONE, STATUS_FAULT, Session,
+    report,
+};
 use std::alloc::Global;
 use std::io::{Read, Write};
 

@@ -1,10 +1,9 @@
 //! How the text of a file is run.
 ghost use Rattle.std.specs.Prelude.{◌≡◌, IfOk, IfErr};
-ghost use Rattle.clos_system.specs.clos_session.Session.{standing_of};
+ghost use Rattle.clos_ending.specs.clos_system.clos_session.Session.{standing_of};
 ghost use Rattle.clos_program.specs.Program.{Failed, Ran};
 
-use clos_ending::{Fault, is_told};
-use clos_system::{Dependents, Natives, Session, run};
+use clos_ending::{Dependents, Fault, Natives, Session, is_told, run};
 use std::alloc::Global;
 use std::io::{Read, Write};
 

@@ -1,8 +1,8 @@
 -- What the loop over the files keeps.
 use Rattle.std.specs.Prelude.{◌≡◌, ℕ, List, ◌++◌, Bool, Option, Some, IfSome}
 use Rattle.std.specs.Io.KnownBytes.{Appends}
-use Rattle.clos_system.specs.clos_session.Session.{Standing}
-use Rattle.clos_system.specs.clos_session.clos_machine.clos_meaning.Host.{Host}
+use Rattle.clos_ending.specs.clos_system.clos_session.Session.{Standing}
+use Rattle.clos_ending.specs.clos_system.clos_session.clos_machine.clos_meaning.Host.{Host}
 use Rattle.clos_program.specs.Files.{RanTexts, known_texts}
 
 -- where the loop over the names stands: so much is known of the input then

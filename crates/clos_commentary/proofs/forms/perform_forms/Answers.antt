@@ -1,10 +1,10 @@
 use Rattle.std.proofs.Common.{◌<◌, [], arith, refl, Ok, Some}
 use Rattle.lisp_data.specs.DatumView.{datum_of}
 use Rattle.lisp_reader.specs.Answers.{Answers}
-use Rattle.clos_system.specs.clos_session.Session.{standing_of}
-use Rattle.clos_system.specs.Transcript.{begins}
-use Rattle.clos_system.specs.declared.transcript.RunFault.TheVariants.{Write}
-use Rattle.clos_system.proofs.Runs.{appends_none, stands_on, fails_after}
+use Rattle.clos_ending.specs.clos_system.clos_session.Session.{standing_of}
+use Rattle.clos_ending.specs.clos_system.Transcript.{begins}
+use Rattle.clos_ending.specs.clos_system.declared.transcript.RunFault.TheVariants.{Write}
+use Rattle.clos_ending.proofs.clos_system.Runs.{appends_none, stands_on, fails_after}
 use Rattle.clos_commentary.proofs.forms.perform_forms.Goals as goal
 
 pub loop-found-init : goal.loop-found-init

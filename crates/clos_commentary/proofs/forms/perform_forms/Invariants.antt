@@ -1,6 +1,6 @@
 use Rattle.std.proofs.Common.{◌-◌, length}
-use Rattle.clos_system.specs.clos_session.Session.{standing_of}
-use Rattle.clos_system.specs.Transcript.{Stands}
+use Rattle.clos_ending.specs.clos_system.clos_session.Session.{standing_of}
+use Rattle.clos_ending.specs.clos_system.Transcript.{Stands}
 use Rattle.clos_commentary.proofs.forms.perform_forms.Given as goal
 
 abbrev pub invariant-loop-found : goal.invariant-loop-found

@@ -1,5 +1,5 @@
 use Rattle.std.proofs.Common.{ap, refl, ◌∙◌}
-use Rattle.clos_machine.specs.clos_world.World.{seen}
+use Rattle.clos_eval.specs.clos_machine.clos_world.World.{seen}
 use Rattle.clos_definition_forms.proofs.Defining.{class_evaluated, class_refused}
 use Rattle.clos_definition_forms.proofs.Hearing.{heard_at}
 use Rattle.clos_effects.proofs.Hearing.{unheard}

@@ -1,6 +1,6 @@
 use Rattle.std.proofs.Common.{refl, ◌∙◌}
-use Rattle.clos_machine.specs.clos_world.World.{seen}
-use Rattle.clos_definition.specs.Class.{class_concerned, initforms}
+use Rattle.clos_eval.specs.clos_machine.clos_world.World.{seen}
+use Rattle.clos_effects.specs.clos_definition.Class.{class_concerned, initforms}
 use Rattle.clos_definition_forms.specs.Definition.{class_made}
 use Rattle.clos_definition_forms.proofs.Evaluated.{forms_go_on, forms_not_begun, forms_stop, performs_noting}
 use Rattle.clos_definition_forms.proofs.Hearing.{heard_with_values, unheard_before}

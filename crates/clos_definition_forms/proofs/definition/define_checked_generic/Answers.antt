@@ -1,8 +1,8 @@
 use Rattle.std.proofs.Common.{List, Option, refl, ◌∙◌, subst}
 use Rattle.lisp_data.specs.Value.{Val}
 use Rattle.clos_eval.specs.Evaluation.{Performs}
-use Rattle.clos_machine.specs.clos_world.World.{seen}
-use Rattle.clos_definition.specs.Generic.{eql_forms, generic_concerned}
+use Rattle.clos_eval.specs.clos_machine.clos_world.World.{seen}
+use Rattle.clos_effects.specs.clos_definition.Generic.{eql_forms, generic_concerned}
 use Rattle.clos_definition_forms.specs.Definition.{generic_made}
 use Rattle.clos_definition_forms.proofs.Evaluated.{forms_go_on, forms_not_begun, forms_stop, performs_noting}
 use Rattle.clos_definition_forms.proofs.Quiet.{generic_made_quiet}

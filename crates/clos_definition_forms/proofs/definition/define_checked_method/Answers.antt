@@ -1,8 +1,8 @@
 use Rattle.std.proofs.Common.{List, Option, map, refl, ◌∙◌, subst}
 use Rattle.lisp_data.specs.Value.{Val}
 use Rattle.clos_eval.specs.Evaluation.{Performs}
-use Rattle.clos_machine.specs.clos_world.World.{seen}
-use Rattle.clos_definition.specs.Method.{eql_form, method_concerned}
+use Rattle.clos_eval.specs.clos_machine.clos_world.World.{seen}
+use Rattle.clos_effects.specs.clos_definition.Method.{eql_form, method_concerned}
 use Rattle.clos_definition_forms.specs.Definition.{method_made}
 use Rattle.clos_definition_forms.proofs.Evaluated.{forms_go_on, forms_not_begun, forms_stop, performs_noting}
 use Rattle.clos_definition_forms.proofs.Quiet.{method_made_quiet}

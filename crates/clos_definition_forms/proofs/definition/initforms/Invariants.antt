@@ -1,5 +1,5 @@
 use Rattle.std.proofs.Common.{◌≡◌, ◌++◌, length}
-use Rattle.clos_definition.specs.Class.{initforms}
+use Rattle.clos_effects.specs.clos_definition.Class.{initforms}
 use Rattle.clos_definition_forms.proofs.definition.initforms.Given as goal
 
 abbrev pub invariant-loop-cell : goal.invariant-loop-cell

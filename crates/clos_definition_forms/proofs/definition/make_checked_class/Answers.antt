@@ -1,7 +1,7 @@
 use Rattle.std.proofs.Common.{◌≡◌, ◌∷◌, ◌∙◌, None, ap, arith, length, refl, subst, sym}
-use Rattle.clos_machine.specs.clos_world.Uses.{uses_of}
-use Rattle.clos_machine.specs.clos_world.World.{seen}
-use Rattle.clos_definition.specs.Class.{class_concerned, class_concerned_by, class_refusal, lists_concerned}
+use Rattle.clos_eval.specs.clos_machine.clos_world.Uses.{uses_of}
+use Rattle.clos_eval.specs.clos_machine.clos_world.World.{seen}
+use Rattle.clos_effects.specs.clos_definition.Class.{class_concerned, class_concerned_by, class_refusal, lists_concerned}
 use Rattle.clos_definition_forms.proofs.Concerned.{uses_as}
 use Rattle.clos_definition_forms.proofs.Defining.{class_is_made}
 use Rattle.clos_definition_forms.proofs.Hearing.{heard_at}

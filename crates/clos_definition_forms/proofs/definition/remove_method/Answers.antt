@@ -1,7 +1,7 @@
 use Rattle.std.proofs.Common.{List, [], ◌∷◌, Option, Some, refl, ◌∙◌, subst}
 use Rattle.lisp_data.specs.Value.{Val}
 use Rattle.clos_eval.specs.Evaluation.{Performs}
-use Rattle.clos_machine.specs.clos_world.World.{seen}
+use Rattle.clos_eval.specs.clos_machine.clos_world.World.{seen}
 use Rattle.clos_definition_forms.specs.Definition.{values_concerned, values_removed}
 use Rattle.clos_definition_forms.proofs.Evaluated.{forms_go_on, forms_not_begun, forms_stop, performs_noting}
 use Rattle.clos_definition_forms.proofs.Hearing.{heard_with_values, unheard_before}

@@ -1,4 +1,4 @@
-use Rattle.clos_machine.specs.clos_world.World.{seen}
+use Rattle.clos_eval.specs.clos_machine.clos_world.World.{seen}
 use Rattle.clos_definition_forms.specs.Dependents.{with_change}
 use Rattle.clos_definition_forms.proofs.Watched.{change_not_made}
 use Rattle.clos_definition_forms.proofs.dependents.change_at.Goals as goal

@@ -1,8 +1,8 @@
 use Rattle.std.proofs.Common.{◌≡◌, None, Some, Err, rules, subst, sym}
 use Rattle.lisp_data.specs.ValueView.{value_of}
 use Rattle.clos_eval.specs.Evaluation.{GoesOn, Performs, followed}
-use Rattle.clos_machine.specs.clos_meaning.Meaning.{evaluation}
-use Rattle.clos_machine.specs.clos_world.World.{seen}
+use Rattle.clos_eval.specs.clos_machine.clos_meaning.Meaning.{evaluation}
+use Rattle.clos_eval.specs.clos_machine.clos_world.World.{seen}
 use Rattle.clos_definition_forms.specs.Forms.{EndsBefore, form_evaluated}
 use Rattle.clos_definition_forms.specs.Variable.{room_below}
 use Rattle.clos_definition_forms.proofs.Evaluated.{form_gives, form_stops, no_form}

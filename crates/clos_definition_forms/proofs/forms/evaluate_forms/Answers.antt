@@ -2,7 +2,7 @@ use Rattle.std.proofs.Common.{◌≡◌, List, [], ◌∷◌, ◌++◌, Option, 
 use Rattle.std.proofs.lemmas.Result.{err_from_is_err_and}
 use Rattle.lisp_data.specs.Value.{Val}
 use Rattle.clos_forms.specs.Form.{Form}
-use Rattle.clos_machine.specs.clos_world.declared.condition.Stop.TheVariants.{Storage}
+use Rattle.clos_eval.specs.clos_machine.clos_world.declared.condition.Stop.TheVariants.{Storage}
 use Rattle.clos_eval.specs.Evaluation.{Comes}
 use Rattle.clos_definition_forms.specs.Forms.{EndsBefore, forms_evaluated}
 use Rattle.clos_definition_forms.proofs.Evaluated.{all_evaluated, begins, between, one_more, one_stops}

@@ -1,8 +1,8 @@
 use Rattle.std.proofs.Common.{◌≡◌, ◌-◌, Err, ap, refl, ◌∙◌}
 use Rattle.lisp_data.specs.Value.{Val}
 use Rattle.lisp_data.specs.ValueView.{value_of}
-use Rattle.clos_machine.specs.clos_meaning.Outcome.{Run, step_then}
-use Rattle.clos_machine.specs.clos_world.World.{seen}
+use Rattle.clos_eval.specs.clos_machine.clos_meaning.Outcome.{Run, step_then}
+use Rattle.clos_eval.specs.clos_machine.clos_world.World.{seen}
 use Rattle.clos_definition_forms.specs.Forms.{evaluated}
 use Rattle.clos_definition_forms.specs.Variable.{given_value, room_below, value_given}
 use Rattle.clos_definition_forms.proofs.Evaluated.{gives, performs_after, performs_alone, performs_as, stops}

@@ -1,5 +1,5 @@
 use Rattle.std.proofs.Common.{◌≡◌, ◌≤◌, ◌∙◌, ◌-◌, ℕ, suc, None, arith, List, [], ◌∷◌, ◌++◌, append_assoc, ap, length, refl, sym, subst}
-use Rattle.clos_watch.specs.Watching.{times_told}
+use Rattle.clos_definition.specs.clos_watch.Watching.{times_told}
 use Rattle.clos_meaning.specs.clos_world.clos_hierarchy.Table.{changed}
 use Rattle.clos_meaning.specs.clos_world.World.{State, seen}
 use Rattle.clos_meaning.specs.clos_world.clos_cache.Cache.{DropsAll, of_classes}

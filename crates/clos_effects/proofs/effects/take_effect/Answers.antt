@@ -1,5 +1,5 @@
 use Rattle.std.proofs.Common.{◌≡◌, ◌≤◌, ◌∙◌, ℕ, [], ap, length, refl, sym, subst}
-use Rattle.clos_watch.specs.Watching.{times_told}
+use Rattle.clos_definition.specs.clos_watch.Watching.{times_told}
 use Rattle.clos_meaning.specs.clos_world.World.{State, seen}
 use Rattle.clos_definition.specs.Effect.{concerned_by, of_changes, possible_notices}
 use Rattle.clos_definition.proofs.Notices.{changes_fit}

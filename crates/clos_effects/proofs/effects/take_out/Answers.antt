@@ -1,7 +1,7 @@
 use Rattle.std.proofs.Common.{◌≡◌, ◌≤◌, ◌∙◌, ℕ, [], ◌∷◌, ap, length, refl, sym}
-use Rattle.clos_watch.specs.Watching.{times_told}
+use Rattle.clos_definition.specs.clos_watch.Watching.{times_told}
 use Rattle.clos_meaning.specs.clos_world.World.{seen}
-use Rattle.clos_watch.specs.declared.notice.Notice.TheVariants.{MethodRemoved}
+use Rattle.clos_definition.specs.clos_watch.declared.notice.Notice.TheVariants.{MethodRemoved}
 use Rattle.clos_definition.specs.Removal.{concerned_by_removal, removal_notices}
 use Rattle.clos_definition.proofs.Notices.{removal_fits}
 use Rattle.clos_definition.proofs.clos_world.Heard.{notices_kept}

@@ -1,5 +1,5 @@
 use Rattle.std.proofs.Common.{ℕ, ◌<◌, ◌≤◌, OnOk, length, ap, sym, subst}
-use Rattle.clos_watch.specs.Watching.{times_told}
+use Rattle.clos_definition.specs.clos_watch.Watching.{times_told}
 use Rattle.clos_meaning.specs.clos_world.World.{seen}
 use Rattle.clos_definition.proofs.clos_world.Heard.{room_made, watching_kept}
 use Rattle.clos_effects.proofs.telling.prepare_to_tell.Goals as goal

@@ -1,5 +1,5 @@
 use Rattle.std.proofs.Common.{◌≤◌, arith, drop, length, ap, sym, subst, ◌∙◌}
-use Rattle.clos_watch.specs.Watching.{heard_after, times_told}
+use Rattle.clos_definition.specs.clos_watch.Watching.{heard_after, times_told}
 use Rattle.clos_meaning.specs.clos_world.Hearing.{hearing_of}
 use Rattle.clos_definition.proofs.clos_world.Heard.{notices_kept, watching_kept}
 use Rattle.clos_effects.proofs.telling.tell.Goals as goal

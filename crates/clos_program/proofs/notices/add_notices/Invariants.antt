@@ -1,6 +1,6 @@
 use Rattle.std.proofs.Common.{◌≡◌, ◌++◌, take}
 use Rattle.std.specs.List.{flat_map}
-use Rattle.clos_system.specs.clos_session.Session.{state_of}
+use Rattle.clos_ending.specs.clos_system.clos_session.Session.{state_of}
 use Rattle.clos_program.specs.Notices.{notice_line}
 use Rattle.clos_program.proofs.notices.add_notices.Given as goal
 

@@ -1,5 +1,5 @@
 use Rattle.std.proofs.Common.{map}
-use Rattle.clos_system.specs.clos_session.Session.{standing_of}
+use Rattle.clos_ending.specs.clos_system.clos_session.Session.{standing_of}
 use Rattle.clos_program.specs.Files.{known_texts}
 use Rattle.clos_program.proofs.Followed as Followed
 use Rattle.clos_program.proofs.Following.{comes}

@@ -1,5 +1,5 @@
 use Rattle.std.proofs.Common.{map, ap, arith}
-use Rattle.clos_system.specs.clos_session.Session.{standing_of}
+use Rattle.clos_ending.specs.clos_system.clos_session.Session.{standing_of}
 use Rattle.clos_program.proofs.Files.{at_name, begins, goes_on, stops, unflushed}
 use Rattle.clos_program.proofs.running.run_files.Goals as goal
 

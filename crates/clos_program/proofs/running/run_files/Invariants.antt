@@ -1,5 +1,5 @@
 use Rattle.std.proofs.Common.{drop, map}
-use Rattle.clos_system.specs.clos_session.Session.{standing_of}
+use Rattle.clos_ending.specs.clos_system.clos_session.Session.{standing_of}
 use Rattle.clos_program.specs.inner.Files.{SoFar}
 use Rattle.clos_program.proofs.running.run_files.Given as goal
 

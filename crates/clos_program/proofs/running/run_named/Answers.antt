@@ -1,5 +1,5 @@
 use Rattle.std.proofs.Common.{◌≡◌, rules, true}
-use Rattle.clos_system.specs.clos_session.Session.{standing_of}
+use Rattle.clos_ending.specs.clos_system.clos_session.Session.{standing_of}
 use Rattle.clos_program.specs.Program.{is_input}
 use Rattle.clos_program.proofs.Files.{input_failed}
 use Rattle.clos_program.proofs.running.run_named.Goals as goal

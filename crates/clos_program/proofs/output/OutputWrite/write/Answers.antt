@@ -1,7 +1,7 @@
 use Rattle.std.proofs.Common.{◌≡◌, ◌∙◌, ◌≤◌, ◌<◌, ◌+◌, ◌-◌, ap, sym, subst, length, nat_eq, get_or, take, arith}
 use Rattle.std.specs.Io.KnownBytes.{Appends}
 use Rattle.std.proofs.lemmas.List.{get_or-take, length-take, length-take-le, take-take}
-use Rattle.clos_system.proofs.clos_transcript.Lines.{last_byte}
+use Rattle.clos_ending.proofs.clos_system.clos_transcript.Lines.{last_byte}
 use Rattle.clos_program.specs.Lines.{lined}
 use Rattle.clos_program.proofs.Lines.{goes_on}
 use Rattle.clos_program.proofs.output.OutputWrite.write.Goals as goal

@@ -1,0 +1,1 @@
+pub use Rattle.clos_system.proofs as clos_system
