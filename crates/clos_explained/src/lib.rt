@@ -4,5 +4,6 @@
 mod explained;
 mod paged;
 
+pub use clos_program::{Limits, Output, Session, limits, program, settings};
 pub use explained::run_explained;
 pub use paged::run_paged;

@@ -9,7 +9,7 @@ mod running;
 mod sources;
 mod way;
 
-pub use clos_command_line::Settings;
+pub use clos_command_line::{Settings, settings};
 pub use clos_ending::{
     Callback, Dependent, Dependents, Fault, FileName, Handed, Limits, Native, Natives, Notice,
     Performed, Recorder, Relation, RunFault, STATUS_CONDITION, STATUS_DONE, STATUS_FAULT,

@@ -1,6 +1,6 @@
 //! What a session at a prompt writes, and its status.
+use clos_explained::{Limits, Session};
 use clos_prompt::run_prompt;
-use clos_system::{Limits, Session};
 use faulty_io::{Broken, Forgetful, Tiring};
 use std::io::{BufRead, BufReader, Write};
 use std::process::Abort;

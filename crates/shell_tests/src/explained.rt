@@ -1,7 +1,5 @@
 //! Runs whose conditions and faults of reading are explained.
-use clos_command_line::settings;
-use clos_explained::run_explained;
-use clos_program::{Output, Session, limits, program};
+use clos_explained::{Output, Session, limits, program, run_explained, settings};
 use std::fs::Files;
 use std::process::Abort;
 use std::test::Fail;

@@ -1,8 +1,6 @@
 //! The page of what files defined.
-use clos_command_line::settings;
-use clos_explained::run_paged;
+use clos_explained::{Output, Session, limits, run_paged, settings};
 use clos_page::{Columns, Edge, Graph, crossings, put_in_order, settle_heights};
-use clos_program::{Output, Session, limits};
 use lisp_data::ClassId;
 use std::fs::{self, Files};
 use std::process::Abort;

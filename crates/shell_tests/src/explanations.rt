@@ -1,7 +1,7 @@
 //! How conditions are explained: the mistakes that newcomers make.
 use crate::prompt::{status, status_within};
+use clos_explained::Limits;
 use clos_names::function_names;
-use clos_system::Limits;
 use std::process::Abort;
 use std::test::Fail;
 
