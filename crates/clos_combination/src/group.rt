@@ -12,9 +12,9 @@ ghost use Rattle.clos_combination.specs.Pattern.{pattern_in};
 
 use crate::keyword::{Flags, from_keyword, is_keyword, or_false};
 use crate::pattern::{Pattern, parse_pattern};
-use clos_forms::{SyntaxFault, are_distinct, variable_name};
+use clos_forms::{Sequence, SyntaxFault, are_distinct, variable_name};
 use clos_lambda::{
-    Documentation, Kind, Sequence, are_properties, is_key, parse_each, parse_list, parse_value,
+    Documentation, Kind, are_properties, is_key, parse_each, parse_list, parse_value,
 };
 use lisp_data::{Data, Datum, Name};
 use std::alloc::{AllocError, Global};

@@ -4,10 +4,10 @@ ghost use Rattle.lisp_data.specs.DatumView.{datum_of};
 ghost use Rattle.clos_forms.specs.Fault.{Gives};
 ghost use Rattle.clos_combination.specs.Parameter.{bare, if_distinct, init_in, listed_parameter, optional_names, optional_parameter_in, optional_parameters_in, parameter_names, parameter_with, parameters_in, variables_in};
 
-use clos_forms::{SyntaxFault, are_distinct, at_most_one, names_constant};
+use clos_forms::{Sequence, SyntaxFault, are_distinct, at_most_one, names_constant};
 use clos_lambda::{
-    Kind, Sequence, Variables, back, is_symbol_called, parse_each, parse_front, parse_given,
-    parse_list, parse_parameter, push_name, push_names,
+    Kind, Variables, back, is_symbol_called, parse_each, parse_front, parse_given, parse_list,
+    parse_parameter, push_name, push_names,
 };
 use lisp_data::{Data, Datum, Name};
 use std::alloc::{AllocError, Global};
