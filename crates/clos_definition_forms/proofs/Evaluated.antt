@@ -22,7 +22,7 @@ use Rattle.clos_eval.specs.clos_machine.clos_meaning.Uses.{after_notes, most, no
 use Rattle.clos_eval.proofs.clos_machine.Answering.{answers_as, answers_with, leaves_then, stopped_then}
 use Rattle.clos_eval.proofs.clos_machine.Uses.{after_more, keeps_as, made_of_more, none_made, notes_longer, notes_stopped, nothing_more, same_answers}
 use Rattle.clos_eval.proofs.clos_machine.clos_meaning.Quiet.{evaluation_quiet}
-use Rattle.clos_effects.specs.Effects.{AnswersNoting, UsesAfter}
+use Rattle.clos_making.specs.clos_effects.Effects.{AnswersNoting, UsesAfter}
 use Rattle.clos_definition_forms.specs.Forms.{EndsBefore, evaluated, form_evaluated, forms_evaluated}
 use Rattle.clos_definition_forms.specs.Variable.{room_below}
 

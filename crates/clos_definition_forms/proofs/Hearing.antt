@@ -1,5 +1,5 @@
 -- What is heard of a form, from what is heard of its parts.
-use Rattle.std.proofs.Common.{◌≡◌, ℕ, List, [], drop, length, ap, ◌∙◌, subst}
+use Rattle.std.proofs.Common.{◌≡◌, ℕ, List, [], drop, length, ap, ◌∙◌}
 use Rattle.std.specs.Prelude.{ℤ, Option}
 use Rattle.lisp_data.specs.Value.{Val}
 use Rattle.clos_forms.specs.Form.{Form}
@@ -8,10 +8,10 @@ use Rattle.clos_eval.specs.clos_machine.clos_world.World.{State, seen}
 use Rattle.clos_eval.specs.clos_machine.clos_world.declared.condition.Stop.{Stop}
 use Rattle.clos_eval.specs.clos_machine.clos_world.declared.tables.World.{World}
 use Rattle.clos_eval.specs.clos_machine.clos_meaning.Host.{Host}
-use Rattle.clos_effects.specs.clos_watch.Watching.{heard_after}
-use Rattle.clos_effects.specs.clos_watch.declared.notice.Notice.{Notice}
-use Rattle.clos_effects.specs.Hearing.{Heard}
-use Rattle.clos_effects.proofs.Hearing.{unheard}
+use Rattle.clos_making.specs.clos_effects.clos_watch.Watching.{heard_after}
+use Rattle.clos_making.specs.clos_effects.clos_watch.declared.notice.Notice.{Notice}
+use Rattle.clos_making.specs.clos_effects.Hearing.{Heard}
+use Rattle.clos_making.proofs.clos_effects.Hearing.{unheard}
 use Rattle.clos_eval.specs.Evaluation.{GoesOn}
 use Rattle.clos_definition_forms.specs.Forms.{EndsBefore, forms_evaluated}
 use Rattle.clos_definition_forms.proofs.Kept.{evaluated_same, stopped_same}
@@ -22,10 +22,6 @@ module _ (told told' : List (List Notice)) where
   heard_later w v u s h =
       h ∙ ap (λ x. heard_after x (drop (length v.hearing.notices) u.hearing.notices) told) (ap (λ x. x.watching) s.5)
       ∙ ap (λ xs. heard_after w.hearing.watching (drop (length xs) u.hearing.notices) told) (ap (λ x. x.notices) s.5)
-
-  -- .. since the state is the same
-  pub heard_at : (w v u : State) → v ≡ w → Heard told v told' u → Heard told w told' u
-  heard_at w v u e h = subst (λ x. Heard told x told' u) e h
 
   -- forms that were evaluated before it
   pub heard_with_values : (host : Host) (fs : List (Option Form)) (w v u : World) (s k : ℕ) (past past' : List ℤ) (vs : List (Option Val))

@@ -1,5 +1,4 @@
 pub mod Evaluated
-pub mod Concerned
 pub mod Quiet
 pub mod Variables
 pub mod Defining
@@ -7,5 +6,6 @@ pub mod Kept
 pub mod Hearing
 pub mod Watched
 pub use Rattle.clos_eval.proofs.clos_machine as clos_machine
-pub use Rattle.clos_effects.proofs.clos_definition as clos_definition
-pub use Rattle.clos_effects.proofs as clos_effects
+pub use Rattle.clos_making.proofs.clos_effects.clos_definition as clos_definition
+pub use Rattle.clos_making.proofs.clos_effects as clos_effects
+pub use Rattle.clos_making.proofs as clos_making

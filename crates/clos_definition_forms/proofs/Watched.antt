@@ -3,21 +3,21 @@ use Rattle.std.proofs.Common.{◌≡◌, ℕ, List, Option, Result, Ok, Err, ref
 use Rattle.std.specs.Prelude.{OnErr, OnOk}
 use Rattle.lisp_data.specs.Value.{Val}
 use Rattle.lisp_data.specs.declared.value.Value.{Value}
-use Rattle.clos_effects.specs.clos_watch.Watching.{Watched, watching}
-use Rattle.clos_effects.specs.clos_watch.declared.notice.Metaobject.{Metaobject}
+use Rattle.clos_making.specs.clos_effects.clos_watch.Watching.{Watched, watching}
+use Rattle.clos_making.specs.clos_effects.clos_watch.declared.notice.Metaobject.{Metaobject}
 use Rattle.clos_eval.specs.clos_machine.clos_world.Hearing.{Hearing, hearing_of}
 use Rattle.clos_eval.specs.clos_machine.clos_world.declared.hearing.Hearing as code
-use Rattle.clos_effects.proofs.clos_definition.clos_world.Heard.{watching_changed, watching_kept}
+use Rattle.clos_making.proofs.clos_effects.clos_definition.clos_world.Heard.{watching_changed, watching_kept}
 use Rattle.clos_eval.specs.clos_machine.Machine.{Answers}
 use Rattle.clos_eval.specs.clos_machine.clos_meaning.Outcome.{leaves}
 use Rattle.clos_eval.specs.clos_machine.clos_world.World.{State}
 use Rattle.clos_eval.specs.clos_machine.clos_world.declared.condition.Condition.{Condition}
 use Rattle.clos_eval.specs.clos_machine.clos_world.declared.condition.Stop.{Stop}
 use Rattle.clos_eval.specs.clos_machine.clos_world.declared.condition.Stop.TheVariants.{Refused, Storage}
-use Rattle.clos_definition_forms.specs.Definition.{value_at}
+use Rattle.clos_making.specs.Made.{value_at}
 use Rattle.clos_definition_forms.specs.Dependents.{FindsWatched, change_of, changed_if, takes_step, values_watched, watched, with_change}
 use Rattle.clos_definition_forms.specs.declared.dependents.Change.{Change}
-use Rattle.clos_definition_forms.proofs.Defining.{answers_same, storage_at}
+use Rattle.clos_making.proofs.Making.{answers_same, storage_at}
 
 changed_quiet : (c : Change) (r : Result (Metaobject × ℕ) Condition) (w : State) → leaves (changed_if c r w 0) w 0
 changed_quiet c (Ok p) w = (refl, refl)

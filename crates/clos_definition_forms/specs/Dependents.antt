@@ -12,11 +12,11 @@ use Rattle.clos_eval.specs.clos_machine.clos_world.declared.condition.Condition.
 use Rattle.clos_eval.specs.clos_machine.clos_world.declared.condition.ConditionKind.TheVariants.{UnknownDependent}
 use Rattle.clos_eval.specs.clos_machine.clos_world.declared.condition.Stop.{Stop}
 use Rattle.clos_eval.specs.clos_machine.clos_world.declared.condition.Stop.TheVariants.{Refused, Storage}
-use Rattle.clos_effects.specs.clos_watch.Handed.{place_of}
-use Rattle.clos_effects.specs.clos_watch.Watching.{Watching, with_dependent, without_dependent}
-use Rattle.clos_effects.specs.clos_watch.declared.notice.Metaobject.{Metaobject}
-use Rattle.clos_effects.specs.clos_watch.declared.notice.Metaobject.TheVariants.{Class, Generic}
-use Rattle.clos_definition_forms.specs.Definition.{value_at}
+use Rattle.clos_making.specs.clos_effects.clos_watch.Handed.{place_of}
+use Rattle.clos_making.specs.clos_effects.clos_watch.Watching.{Watching, with_dependent, without_dependent}
+use Rattle.clos_making.specs.clos_effects.clos_watch.declared.notice.Metaobject.{Metaobject}
+use Rattle.clos_making.specs.clos_effects.clos_watch.declared.notice.Metaobject.TheVariants.{Class, Generic}
+use Rattle.clos_making.specs.Made.{value_at}
 use Rattle.clos_definition_forms.specs.Forms.{forms_evaluated}
 use Rattle.clos_definition_forms.specs.declared.dependents.Change.{Change}
 use Rattle.clos_definition_forms.specs.declared.dependents.Change.TheVariants.{Add, Remove}

@@ -9,11 +9,10 @@ ghost use Rattle.clos_eval.specs.clos_machine.clos_world.World.{seen};
 ghost use Rattle.clos_eval.specs.Evaluation.{Performs};
 ghost use Rattle.clos_definition_forms.specs.Dependents.{FindsNamed, FindsWatched, change_dependents, dependent_named, metaobject_in, takes_step, values_watched, watched, with_change};
 
-use crate::definition::{both, value_or_nil};
 use crate::forms::evaluate_forms;
-use clos_effects::{Metaobject, Slot, place_of};
 use clos_eval::{ConditionKind, Natives, Stop, World, about_name, plain, symbol_in, t, wrong_type};
 use clos_forms::Form;
+use clos_making::{Metaobject, Slot, both, place_of, value_or_nil};
 use lisp_data::Value;
 use std::alloc::{AllocError, Global};
 

@@ -4,9 +4,9 @@ ghost use Rattle.std.specs.Prelude.{◌≡◌, [], IfOk, IfErr};
 ghost use Rattle.clos_eval.specs.Evaluation.{GoesOn};
 ghost use Rattle.clos_definition_forms.specs.Forms.{EndsBefore, form_evaluated, forms_evaluated};
 
-use clos_effects::Slot;
 use clos_eval::{Natives, Stop, World, evaluate};
 use clos_forms::Form;
+use clos_making::Slot;
 use std::alloc::Global;
 
 /// Evaluates these forms, one after another. Where there is none, there is no value.

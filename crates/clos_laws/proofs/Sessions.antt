@@ -32,12 +32,13 @@ use Rattle.clos_session.specs.clos_definition_forms.clos_definition.Class.{cells
 use Rattle.clos_session.specs.clos_definition_forms.clos_definition.Generic.{eql_forms, generic_concerned, generic_refusal, with_defined_generic}
 use Rattle.clos_session.specs.clos_definition_forms.clos_definition.Method.{eql_form, method_concerned, method_refusal, with_defined_method}
 use Rattle.clos_session.specs.clos_definition_forms.clos_definition.Removal.{concerned_by_removal, removable, with_removed}
-use Rattle.clos_session.specs.clos_definition_forms.Combination.{combination_defined, define_combination}
-use Rattle.clos_session.specs.clos_definition_forms.Definition.{class_made, define_class, define_generic, define_method, generic_made, method_made, remove_method, removed_if, unless, value_at, values_removed}
+use Rattle.clos_session.specs.clos_definition_forms.clos_making.Combination.{combination_defined, define_combination}
+use Rattle.clos_session.specs.clos_definition_forms.Definition.{define_class, define_generic, define_method, remove_method}
+use Rattle.clos_session.specs.clos_definition_forms.clos_making.Made.{class_made, generic_made, method_made, removed_if, unless, value_at, values_removed}
 use Rattle.clos_session.specs.clos_definition_forms.clos_effects.Effects.{takes_effect}
 use Rattle.clos_session.specs.clos_definition_forms.Dependents.{change_dependents, changed_if, values_watched, watched, with_change}
 use Rattle.clos_session.specs.clos_definition_forms.Forms.{form_evaluated, forms_evaluated}
-use Rattle.clos_session.specs.clos_definition_forms.Function.{has_room, function_defined, setter_defined, define_function}
+use Rattle.clos_session.specs.clos_definition_forms.clos_making.Function.{has_room, function_defined, setter_defined, define_function}
 use Rattle.clos_session.specs.clos_definition_forms.Variable.{admits, room_below, keeps_value, named as defined_name, declared, value_given, new_value, variable_defined}
 use Rattle.clos_session.specs.clos_definition_forms.clos_watch.declared.notice.Metaobject.{Metaobject}
 use Rattle.clos_session.specs.clos_definition_forms.declared.dependents.Change.{Change}

@@ -31,7 +31,8 @@ use Rattle.clos_definition_forms.specs.clos_machine.clos_meaning.Meaning.{evalua
 use Rattle.clos_definition_forms.specs.clos_machine.clos_meaning.Outcome.{Asked, End, Given, Looked, Noted, Out, Gave, Signalled, Stopped, Run, then_do, step_then, stopped, took_effect}
 use Rattle.clos_definition_forms.specs.clos_world.clos_cache.Cache as of_calls
 use Rattle.clos_definition_forms.proofs.clos_machine.clos_meaning.Kept.{Follows, SameAfter, evaluation_kept, follows_then, nothing_written, stays, writes_then}
-use Rattle.clos_definition_forms.specs.Definition.{class_made, define_class, define_generic, define_method, generic_made, method_made, remove_method, removed_if, unless, value_at, values_removed}
+use Rattle.clos_definition_forms.specs.Definition.{define_class, define_generic, define_method, remove_method}
+use Rattle.clos_definition_forms.specs.clos_making.Made.{class_made, generic_made, method_made, removed_if, unless, value_at, values_removed}
 use Rattle.clos_definition_forms.specs.clos_effects.Effects.{takes_effect}
 use Rattle.clos_definition_forms.specs.lisp_prims.Primitive.{truth}
 use Rattle.clos_definition_forms.specs.Dependents.{change_dependents, changed_if, values_watched, watched, with_change}
@@ -39,11 +40,11 @@ use Rattle.clos_definition_forms.specs.declared.dependents.Change.{Change}
 use Rattle.clos_definition_forms.specs.declared.dependents.Change.TheVariants.{Add, Remove}
 use Rattle.clos_definition_forms.specs.clos_watch.declared.notice.Metaobject.{Metaobject}
 use Rattle.clos_definition_forms.specs.Forms.{form_evaluated, forms_evaluated}
-use Rattle.clos_definition_forms.specs.Combination.{combination_defined, define_combination}
+use Rattle.clos_definition_forms.specs.clos_making.Combination.{combination_defined, define_combination}
 use Rattle.clos_definition_forms.specs.clos_world.clos_comb.Table as combinations
 use Rattle.clos_definition_forms.specs.clos_world.clos_comb.Table.{is_predefined, name_of}
 use Rattle.clos_definition_forms.specs.clos_world.clos_comb.clos_combination.declared.combination.CombinationDefinition.{CombinationDefinition}
-use Rattle.clos_definition_forms.specs.Function.{has_room, function_defined, setter_defined, define_function}
+use Rattle.clos_definition_forms.specs.clos_making.Function.{has_room, function_defined, setter_defined, define_function}
 use Rattle.clos_perform.specs.Step.{checked, performed, room_of, step}
 use Rattle.clos_definition_forms.specs.Variable.{admits, room_below, keeps_value, named as defined_name, declared, value_given, new_value, variable_defined}
 

@@ -25,11 +25,11 @@ use Rattle.clos_definition_forms.specs.clos_machine.Machine.{AnswersWith}
 use Rattle.clos_definition_forms.specs.clos_machine.clos_meaning.Host.{Host, answered_by, may_answer}
 use Rattle.clos_definition_forms.specs.clos_machine.clos_meaning.Meaning.{evaluation}
 use Rattle.clos_definition_forms.specs.clos_machine.clos_meaning.Outcome.{Asked, End, Given, Looked, Noted, Out, Gave, Signalled, Stopped, Run, ends_in, then_do, step_then}
-use Rattle.clos_definition_forms.specs.Combination.{combination_defined, define_combination}
-use Rattle.clos_definition_forms.specs.Definition.{value_at}
+use Rattle.clos_definition_forms.specs.clos_making.Combination.{combination_defined, define_combination}
+use Rattle.clos_definition_forms.specs.clos_making.Made.{value_at}
 use Rattle.clos_definition_forms.specs.Dependents.{change_dependents, changed_if, values_watched, watched, with_change}
 use Rattle.clos_definition_forms.specs.Forms.{form_evaluated, forms_evaluated}
-use Rattle.clos_definition_forms.specs.Function.{has_room, function_defined, setter_defined, define_function}
+use Rattle.clos_definition_forms.specs.clos_making.Function.{has_room, function_defined, setter_defined, define_function}
 use Rattle.clos_definition_forms.specs.Variable.{admits, declared, keeps_value, named as defined_name, new_value, room_below, value_given, variable_defined}
 use Rattle.clos_definition_forms.specs.declared.dependents.Change.{Change}
 use Rattle.clos_definition_forms.proofs.clos_machine.clos_meaning.Kept.{SameAfter, evaluation_kept}

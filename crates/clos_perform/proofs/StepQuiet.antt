@@ -23,12 +23,13 @@ use Rattle.clos_definition_forms.proofs.clos_machine.clos_meaning.Quiet.{evaluat
 use Rattle.clos_definition_forms.specs.Dependents.{change_dependents, values_watched}
 use Rattle.clos_definition_forms.specs.declared.dependents.Change.{Change}
 use Rattle.clos_definition_forms.specs.declared.dependents.Change.TheVariants.{Add, Remove}
-use Rattle.clos_definition_forms.specs.Function.{has_room, define_function}
+use Rattle.clos_definition_forms.specs.clos_making.Function.{has_room, define_function}
 use Rattle.clos_perform.specs.Step.{checked, performed, room_of, step}
 use Rattle.clos_definition_forms.specs.Variable.{admits, room_below, keeps_value, value_given, new_value, variable_defined}
 use Rattle.clos_definition_forms.proofs.Evaluated.{forms_quiet}
 use Rattle.clos_definition_forms.proofs.Watched.{values_watched_quiet}
-use Rattle.clos_definition_forms.proofs.Quiet.{define_class_quiet, define_combination_quiet, define_generic_quiet, define_method_quiet, remove_method_quiet}
+use Rattle.clos_definition_forms.proofs.Quiet.{define_class_quiet, define_generic_quiet, define_method_quiet, remove_method_quiet}
+use Rattle.clos_definition_forms.proofs.clos_making.Quiet.{define_combination_quiet}
 
 either : (b : Bool) (x y : Out) (w : State) → leaves x w 0 → leaves y w 0 → leaves (if b then x else y) w 0
 either true x y w p q = p

@@ -9,11 +9,11 @@ use Rattle.clos_definition_forms.specs.clos_world.World.{State}
 use Rattle.clos_definition_forms.specs.clos_world.declared.condition.ConditionKind.TheVariants.{ProgramError}
 use Rattle.clos_definition_forms.specs.clos_machine.clos_meaning.Meaning.{evaluation}
 use Rattle.clos_definition_forms.specs.clos_machine.clos_meaning.Outcome.{Gave, Run, stopped}
-use Rattle.clos_definition_forms.specs.Combination.{define_combination}
+use Rattle.clos_definition_forms.specs.clos_making.Combination.{define_combination}
 use Rattle.clos_definition_forms.specs.Dependents.{change_dependents}
 use Rattle.clos_definition_forms.specs.declared.dependents.Change.TheVariants.{Add, Remove}
 use Rattle.clos_definition_forms.specs.Definition.{define_class, define_generic, define_method, remove_method}
-use Rattle.clos_definition_forms.specs.Function.{define_function}
+use Rattle.clos_definition_forms.specs.clos_making.Function.{define_function}
 use Rattle.clos_definition_forms.specs.Variable.{variable_defined}
 
 -- how deep its forms may nest

@@ -1,8 +1,8 @@
 use Rattle.std.proofs.Common.{ap, refl, ◌∙◌}
 use Rattle.clos_eval.specs.clos_machine.clos_world.World.{seen}
 use Rattle.clos_definition_forms.proofs.Defining.{class_evaluated, class_refused}
-use Rattle.clos_definition_forms.proofs.Hearing.{heard_at}
-use Rattle.clos_effects.proofs.Hearing.{unheard}
+use Rattle.clos_making.proofs.Hearing.{heard_at}
+use Rattle.clos_making.proofs.clos_effects.Hearing.{unheard}
 use Rattle.clos_definition_forms.proofs.definition.defclass.Goals as goal
 
 pub returns-in-Err-clause-performs : goal.returns-in-Err-clause-performs

@@ -1,11 +1,11 @@
 use Rattle.std.proofs.Common.{refl, ◌∙◌}
 use Rattle.clos_eval.specs.clos_machine.clos_world.World.{seen}
-use Rattle.clos_effects.specs.clos_definition.Class.{class_concerned, initforms}
-use Rattle.clos_definition_forms.specs.Definition.{class_made}
+use Rattle.clos_making.specs.clos_effects.clos_definition.Class.{class_concerned, initforms}
+use Rattle.clos_making.specs.Made.{class_made}
 use Rattle.clos_definition_forms.proofs.Evaluated.{forms_go_on, forms_not_begun, forms_stop, performs_noting}
 use Rattle.clos_definition_forms.proofs.Hearing.{heard_with_values, unheard_before}
-use Rattle.clos_effects.proofs.Hearing.{unheard}
-use Rattle.clos_definition_forms.proofs.Quiet.{class_made_quiet}
+use Rattle.clos_making.proofs.clos_effects.Hearing.{unheard}
+use Rattle.clos_making.proofs.Quiet.{class_made_quiet}
 use Rattle.clos_definition_forms.proofs.definition.define_checked_class.Goals as goal
 
 pub returns-in_default-clause-performs : goal.returns-in_default-clause-performs

@@ -2,12 +2,12 @@ use Rattle.std.proofs.Common.{List, Option, refl, ◌∙◌, subst}
 use Rattle.lisp_data.specs.Value.{Val}
 use Rattle.clos_eval.specs.Evaluation.{Performs}
 use Rattle.clos_eval.specs.clos_machine.clos_world.World.{seen}
-use Rattle.clos_effects.specs.clos_definition.Generic.{eql_forms, generic_concerned}
-use Rattle.clos_definition_forms.specs.Definition.{generic_made}
+use Rattle.clos_making.specs.clos_effects.clos_definition.Generic.{eql_forms, generic_concerned}
+use Rattle.clos_making.specs.Made.{generic_made}
 use Rattle.clos_definition_forms.proofs.Evaluated.{forms_go_on, forms_not_begun, forms_stop, performs_noting}
-use Rattle.clos_definition_forms.proofs.Quiet.{generic_made_quiet}
+use Rattle.clos_making.proofs.Quiet.{generic_made_quiet}
 use Rattle.clos_definition_forms.proofs.Hearing.{heard_with_values, unheard_before}
-use Rattle.clos_effects.proofs.Hearing.{unheard}
+use Rattle.clos_making.proofs.clos_effects.Hearing.{unheard}
 use Rattle.clos_definition_forms.proofs.definition.define_checked_generic.Goals as goal
 
 pub returns-in_default-clause-performs : goal.returns-in_default-clause-performs

@@ -2,12 +2,12 @@ use Rattle.std.proofs.Common.{List, Option, map, refl, ◌∙◌, subst}
 use Rattle.lisp_data.specs.Value.{Val}
 use Rattle.clos_eval.specs.Evaluation.{Performs}
 use Rattle.clos_eval.specs.clos_machine.clos_world.World.{seen}
-use Rattle.clos_effects.specs.clos_definition.Method.{eql_form, method_concerned}
-use Rattle.clos_definition_forms.specs.Definition.{method_made}
+use Rattle.clos_making.specs.clos_effects.clos_definition.Method.{eql_form, method_concerned}
+use Rattle.clos_making.specs.Made.{method_made}
 use Rattle.clos_definition_forms.proofs.Evaluated.{forms_go_on, forms_not_begun, forms_stop, performs_noting}
-use Rattle.clos_definition_forms.proofs.Quiet.{method_made_quiet}
+use Rattle.clos_making.proofs.Quiet.{method_made_quiet}
 use Rattle.clos_definition_forms.proofs.Hearing.{heard_with_values, unheard_before}
-use Rattle.clos_effects.proofs.Hearing.{unheard}
+use Rattle.clos_making.proofs.clos_effects.Hearing.{unheard}
 use Rattle.clos_definition_forms.proofs.definition.define_checked_method.Goals as goal
 
 pub returns-in_default-clause-performs : goal.returns-in_default-clause-performs

@@ -1,7 +1,7 @@
 use Rattle.std.proofs.Common.{refl}
 use Rattle.clos_eval.specs.clos_machine.clos_world.World.{seen}
 use Rattle.clos_definition_forms.proofs.Defining.{method_evaluated, method_refused}
-use Rattle.clos_effects.proofs.Hearing.{unheard}
+use Rattle.clos_making.proofs.clos_effects.Hearing.{unheard}
 use Rattle.clos_definition_forms.proofs.definition.defmethod.Goals as goal
 
 pub returns-in-Err-clause-performs : goal.returns-in-Err-clause-performs

@@ -1,9 +1,9 @@
 use Rattle.std.proofs.Common.{◌≡◌, Some, None, Err, ap, sym, ◌∙◌}
 use Rattle.lisp_data.specs.ValueView.{value_of}
-use Rattle.clos_effects.specs.clos_watch.Handed.{place_of}
+use Rattle.clos_making.specs.clos_effects.clos_watch.Handed.{place_of}
 use Rattle.clos_eval.specs.clos_machine.clos_meaning.ClassFunctions.{symbol_in}
 use Rattle.clos_eval.specs.clos_machine.clos_world.Hearing.{hearing_of}
-use Rattle.clos_effects.proofs.clos_definition.clos_world.Heard.{names_kept}
+use Rattle.clos_making.proofs.clos_effects.clos_definition.clos_world.Heard.{names_kept}
 use Rattle.clos_definition_forms.specs.Dependents.{dependent_named, known}
 use Rattle.clos_definition_forms.proofs.dependents.dependent_named.Goals as goal
 

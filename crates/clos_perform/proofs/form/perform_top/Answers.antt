@@ -1,9 +1,9 @@
 use Rattle.std.proofs.Common.{◌≡◌, [], ◌∷◌, ap, arith, refl}
 use Rattle.clos_top.specs.declared.top.Top.TheVariants as top
-use Rattle.clos_definition_forms.specs.Combination.{define_combination}
+use Rattle.clos_definition_forms.specs.clos_making.Combination.{define_combination}
 use Rattle.clos_definition_forms.specs.Definition.{define_class, define_generic, define_method, remove_method}
 use Rattle.clos_definition_forms.specs.Dependents.{change_dependents}
-use Rattle.clos_definition_forms.specs.Function.{define_function}
+use Rattle.clos_definition_forms.specs.clos_making.Function.{define_function}
 use Rattle.clos_definition_forms.specs.Variable.{variable_defined}
 use Rattle.clos_definition_forms.specs.clos_machine.clos_meaning.Meaning.{evaluation}
 use Rattle.clos_definition_forms.specs.clos_machine.clos_meaning.Outcome.{Run}

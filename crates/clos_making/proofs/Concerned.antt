@@ -2,17 +2,17 @@
 use Rattle.std.proofs.Common.{◌≡◌, ℕ, List, Option, Result, Ok, ap, sym, subst, ◌∙◌}
 use Rattle.lisp_data.specs.Value.{Val}
 use Rattle.lisp_data.specs.declared.value.Value.{Value}
-use Rattle.clos_eval.specs.clos_machine.clos_world.Uses.{uses_of}
-use Rattle.clos_eval.specs.clos_machine.clos_world.World.{State, seen}
-use Rattle.clos_eval.specs.clos_machine.clos_world.clos_cache.Cache.{Change}
-use Rattle.clos_eval.specs.clos_machine.clos_world.clos_cache.Uses.{Uses}
-use Rattle.clos_eval.specs.clos_machine.clos_world.declared.condition.Stop.{Stop}
-use Rattle.clos_eval.specs.clos_machine.clos_world.declared.tables.World.{World}
+use Rattle.clos_machine.specs.clos_world.Uses.{uses_of}
+use Rattle.clos_machine.specs.clos_world.World.{State, seen}
+use Rattle.clos_machine.specs.clos_world.clos_cache.Cache.{Change}
+use Rattle.clos_machine.specs.clos_world.clos_cache.Uses.{Uses}
+use Rattle.clos_machine.specs.clos_world.declared.condition.Stop.{Stop}
+use Rattle.clos_machine.specs.clos_world.declared.tables.World.{World}
 use Rattle.clos_effects.specs.clos_definition.Effect.{concerned_by}
 use Rattle.clos_effects.specs.clos_definition.Removal.{concerned_by_removal, removable}
 use Rattle.clos_effects.specs.clos_definition.declared.effect.Effect.{Effect}
 use Rattle.clos_effects.specs.Effects.{UsesAfter}
-use Rattle.clos_definition_forms.specs.Definition.{concerned_if, value_at, values_concerned}
+use Rattle.clos_making.specs.Made.{concerned_if, value_at, values_concerned}
 
 -- the same is concerned, in a state that is the same
 pub uses_as : (cs cs' : List Change) (w v : World) (r : Result Value Stop) (x : Uses) → seen v ≡ seen w → uses_of v ≡ uses_of w → cs ≡ cs'

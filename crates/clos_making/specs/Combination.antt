@@ -1,11 +1,11 @@
 -- What a define-method-combination does (HyperSpec 7.7).
 use Rattle.std.specs.Prelude.{[], ◌∷◌, if◌then◌else◌}
 use Rattle.clos_forms.specs.Quotation.{name_value}
-use Rattle.clos_eval.specs.clos_machine.clos_world.clos_cache.Cache.{of_combination}
-use Rattle.clos_eval.specs.clos_machine.clos_world.clos_comb.Table.{has_room, is_predefined, name_of, with_combination}
-use Rattle.clos_eval.specs.clos_machine.clos_world.clos_comb.clos_combination.declared.combination.CombinationDefinition.{CombinationDefinition}
-use Rattle.clos_eval.specs.clos_machine.clos_world.declared.condition.ConditionKind.TheVariants.{ProgramError, TableLimit}
-use Rattle.clos_eval.specs.clos_machine.clos_meaning.Outcome.{Gave, Noted, Run, stopped, step_then, took_effect}
+use Rattle.clos_machine.specs.clos_world.clos_cache.Cache.{of_combination}
+use Rattle.clos_machine.specs.clos_world.clos_comb.Table.{has_room, is_predefined, name_of, with_combination}
+use Rattle.clos_machine.specs.clos_world.clos_comb.clos_combination.declared.combination.CombinationDefinition.{CombinationDefinition}
+use Rattle.clos_machine.specs.clos_world.declared.condition.ConditionKind.TheVariants.{ProgramError, TableLimit}
+use Rattle.clos_machine.specs.clos_meaning.Outcome.{Gave, Noted, Run, stopped, step_then, took_effect}
 
 -- the symbol names this combination from now on, and is given; the calls of functions that use it are concerned
 abbrev pub combination_defined : CombinationDefinition → Run

@@ -2,13 +2,13 @@
 ghost use Rattle.std.specs.Prelude.{◌≡◌, ◌+◌, IfOk, length, is_some};
 ghost use Rattle.lisp_data.specs.ValueView.{value_of};
 ghost use Rattle.clos_forms.specs.Quotation.{name_value};
-ghost use Rattle.clos_eval.specs.clos_machine.clos_world.Uses.{uses_of};
-ghost use Rattle.clos_eval.specs.clos_machine.clos_world.World.{seen};
-ghost use Rattle.clos_eval.specs.clos_machine.Machine.{Answers};
-ghost use Rattle.clos_definition_forms.specs.Function.{define_function, new_function_defined, new_setter_defined, has_room};
+ghost use Rattle.clos_machine.specs.clos_world.Uses.{uses_of};
+ghost use Rattle.clos_machine.specs.clos_world.World.{seen};
+ghost use Rattle.clos_machine.specs.Machine.{Answers};
+ghost use Rattle.clos_making.specs.Function.{define_function, new_function_defined, new_setter_defined, has_room};
 
-use clos_eval::{ConditionKind, Function, Stop, World, plain, setter_value};
 use clos_forms::{FunctionName, value_named};
+use clos_machine::{ConditionKind, Function, Stop, World, plain, setter_value};
 use clos_syntax::FunctionDefinition;
 use lisp_data::{Name, Value};
 use std::alloc::Global;

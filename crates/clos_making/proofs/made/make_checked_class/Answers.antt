@@ -1,12 +1,12 @@
 use Rattle.std.proofs.Common.{◌≡◌, ◌∷◌, ◌∙◌, None, ap, arith, length, refl, subst, sym}
-use Rattle.clos_eval.specs.clos_machine.clos_world.Uses.{uses_of}
-use Rattle.clos_eval.specs.clos_machine.clos_world.World.{seen}
+use Rattle.clos_machine.specs.clos_world.Uses.{uses_of}
+use Rattle.clos_machine.specs.clos_world.World.{seen}
 use Rattle.clos_effects.specs.clos_definition.Class.{class_concerned, class_concerned_by, class_refusal, lists_concerned}
-use Rattle.clos_definition_forms.proofs.Concerned.{uses_as}
-use Rattle.clos_definition_forms.proofs.Defining.{class_is_made}
-use Rattle.clos_definition_forms.proofs.Hearing.{heard_at}
+use Rattle.clos_making.proofs.Concerned.{uses_as}
+use Rattle.clos_making.proofs.Making.{class_is_made}
+use Rattle.clos_making.proofs.Hearing.{heard_at}
 use Rattle.clos_effects.proofs.Hearing.{unheard}
-use Rattle.clos_definition_forms.proofs.definition.make_checked_class.Goals as goal
+use Rattle.clos_making.proofs.made.make_checked_class.Goals as goal
 
 pub make_prepared_class-requires-clause-allowed : goal.make_prepared_class-requires-clause-allowed
 make_prepared_class-requires-clause-allowed g c =

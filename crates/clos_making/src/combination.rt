@@ -1,14 +1,14 @@
 //! What a `define-method-combination` does (HyperSpec 7.7). It takes one step for the whole of its effect.
 ghost use Rattle.std.specs.Prelude.{◌≡◌, ◌∷◌, [], OnErr, OnOk};
-ghost use Rattle.clos_eval.specs.clos_machine.clos_world.clos_cache.Cache.{Drops, of_combination};
-ghost use Rattle.clos_eval.specs.clos_machine.clos_world.clos_comb.Table.{name_of};
-ghost use Rattle.clos_eval.specs.clos_machine.clos_world.Uses.{uses_of};
-ghost use Rattle.clos_eval.specs.clos_machine.clos_world.World.{seen};
-ghost use Rattle.clos_definition_forms.specs.Combination.{define_combination};
+ghost use Rattle.clos_machine.specs.clos_world.clos_cache.Cache.{Drops, of_combination};
+ghost use Rattle.clos_machine.specs.clos_world.clos_comb.Table.{name_of};
+ghost use Rattle.clos_machine.specs.clos_world.Uses.{uses_of};
+ghost use Rattle.clos_machine.specs.clos_world.World.{seen};
+ghost use Rattle.clos_making.specs.Combination.{define_combination};
 ghost use Rattle.clos_effects.specs.Effects.{AnswersNoting, UsesAfter};
 
-use clos_eval::{CombinationDefinition, ConditionKind, Stop, World, name_of, plain};
 use clos_forms::value_named;
+use clos_machine::{CombinationDefinition, ConditionKind, Stop, World, name_of, plain};
 use lisp_data::Value;
 use std::alloc::Global;
 

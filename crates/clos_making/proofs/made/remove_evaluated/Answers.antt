@@ -1,7 +1,7 @@
 use Rattle.std.proofs.Common.{refl}
-use Rattle.clos_eval.specs.clos_machine.clos_world.World.{seen}
+use Rattle.clos_machine.specs.clos_world.World.{seen}
 use Rattle.clos_effects.proofs.Hearing.{unheard}
-use Rattle.clos_definition_forms.proofs.definition.remove_evaluated.Goals as goal
+use Rattle.clos_making.proofs.made.remove_evaluated.Goals as goal
 
 pub returns-in_default-clause-heard : goal.returns-in_default-clause-heard
 returns-in_default-clause-heard g c =

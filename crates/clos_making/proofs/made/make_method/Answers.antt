@@ -1,8 +1,8 @@
 use Rattle.std.proofs.Common.{ap, refl}
-use Rattle.clos_eval.specs.clos_machine.clos_world.World.{seen}
-use Rattle.clos_definition_forms.proofs.Hearing.{heard_at}
+use Rattle.clos_machine.specs.clos_world.World.{seen}
+use Rattle.clos_making.proofs.Hearing.{heard_at}
 use Rattle.clos_effects.proofs.Hearing.{unheard}
-use Rattle.clos_definition_forms.proofs.definition.make_method.Goals as goal
+use Rattle.clos_making.proofs.made.make_method.Goals as goal
 
 pub returns-clause-heard : goal.returns-clause-heard
 returns-clause-heard g c =

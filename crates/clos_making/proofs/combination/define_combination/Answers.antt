@@ -1,13 +1,13 @@
 use Rattle.std.proofs.Common.{[], ◌∷◌, arith, subst, sym, ◌∙◌}
 use Rattle.std.proofs.Math.Logic.{∥∥₁_map}
-use Rattle.clos_eval.specs.clos_machine.clos_world.Kept.{AreNow}
-use Rattle.clos_eval.specs.clos_machine.clos_world.clos_cache.Cache.{Drops, of_combination}
-use Rattle.clos_eval.specs.clos_machine.clos_world.World.{seen}
-use Rattle.clos_eval.specs.clos_machine.clos_world.clos_comb.Table.{name_of}
-use Rattle.clos_eval.proofs.clos_machine.clos_meaning.clos_world.Drops.{combination_stays}
+use Rattle.clos_machine.specs.clos_world.Kept.{AreNow}
+use Rattle.clos_machine.specs.clos_world.clos_cache.Cache.{Drops, of_combination}
+use Rattle.clos_machine.specs.clos_world.World.{seen}
+use Rattle.clos_machine.specs.clos_world.clos_comb.Table.{name_of}
+use Rattle.clos_machine.proofs.clos_meaning.clos_world.Drops.{combination_stays}
 use Rattle.clos_effects.proofs.Concerned.{left_in}
-use Rattle.clos_definition_forms.proofs.Quiet.{define_combination_quiet}
-use Rattle.clos_definition_forms.proofs.combination.define_combination.Goals as goal
+use Rattle.clos_making.proofs.Quiet.{define_combination_quiet}
+use Rattle.clos_making.proofs.combination.define_combination.Goals as goal
 
 pub returns-in_default-clause-answers : goal.returns-in_default-clause-answers
 returns-in_default-clause-answers c = (0, omega arith, define_combination_quiet c.args.definition (seen c.args.world.now))

@@ -4,13 +4,13 @@ use Rattle.lisp_data.specs.Name.{Name}
 use Rattle.clos_forms.specs.Quotation.{name_value}
 use Rattle.clos_forms.specs.declared.operator.FunctionName.{FunctionName}
 use Rattle.clos_forms.specs.declared.operator.FunctionName.TheVariants.{Symbol, Setf}
-use Rattle.clos_eval.specs.clos_machine.clos_world.clos_generic.Table.{named}
-use Rattle.clos_eval.specs.clos_machine.clos_world.FunctionName.{setter_value}
-use Rattle.clos_eval.specs.clos_machine.clos_world.Functions.{function_in, with_function}
-use Rattle.clos_eval.specs.clos_machine.clos_world.World.{State}
-use Rattle.clos_eval.specs.clos_machine.clos_world.declared.condition.ConditionKind.TheVariants.{ProgramError, TableLimit}
-use Rattle.clos_eval.specs.clos_machine.clos_world.declared.functions.Function.{Function}
-use Rattle.clos_eval.specs.clos_machine.clos_meaning.Outcome.{Gave, Run, stopped, step_then}
+use Rattle.clos_machine.specs.clos_world.clos_generic.Table.{named}
+use Rattle.clos_machine.specs.clos_world.FunctionName.{setter_value}
+use Rattle.clos_machine.specs.clos_world.Functions.{function_in, with_function}
+use Rattle.clos_machine.specs.clos_world.World.{State}
+use Rattle.clos_machine.specs.clos_world.declared.condition.ConditionKind.TheVariants.{ProgramError, TableLimit}
+use Rattle.clos_machine.specs.clos_world.declared.functions.Function.{Function}
+use Rattle.clos_machine.specs.clos_meaning.Outcome.{Gave, Run, stopped, step_then}
 
 -- one more function may be defined
 abbrev pub has_room : State → Bool

@@ -1,8 +1,8 @@
 use Rattle.std.proofs.Common.{ap, refl}
-use Rattle.clos_eval.specs.clos_machine.clos_world.World.{seen}
-use Rattle.clos_definition_forms.proofs.Hearing.{heard_at}
+use Rattle.clos_machine.specs.clos_world.World.{seen}
+use Rattle.clos_making.proofs.Hearing.{heard_at}
 use Rattle.clos_effects.proofs.Hearing.{unheard}
-use Rattle.clos_definition_forms.proofs.definition.make_generic.Goals as goal
+use Rattle.clos_making.proofs.made.make_generic.Goals as goal
 
 pub returns-in-Ok-clause-heard : goal.returns-in-Ok-clause-heard
 returns-in-Ok-clause-heard g c =
