@@ -1,4 +1,8 @@
 //! The session of a process.
+ghost use Rattle.std.specs.Prelude.{◌≡◌};
+ghost use Rattle.clos_program.specs.clos_system.clos_session.Session.{state_of};
+ghost use Rattle.clos_program.specs.clos_system.clos_world.Limits.{standard};
+
 use clos_program::{
     Callback, Dependent, KindNumber, Native, Recorder, Relation, Session, Settings, affine, limits,
     low,
@@ -12,14 +16,15 @@ pub type ProcessSession = Session<Vec<Native>, Vec<(Name, Box<dyn Dependent>)>>;
 
 /// What a program does with its session.
 pub trait Program {
-    /// Does what the settings ask for, writes to this output, and gives the exit status.
+    /// Does what the settings ask for in a session with their limits, writes to this output, and gives the exit status.
     fn run<O: Write>(
         &self,
         rt: &HostRuntime,
         settings: &Settings<'_>,
         session: &mut ProcessSession,
         output: &mut O,
-    ) -> u8;
+    ) -> u8
+        requires { (state_of session.old).limits ≡ record standard { steps = settings.now.steps; depth = settings.now.depth } };
 }
 
 /// Runs a program in a session that begins, with the limits that the settings ask for, for which the functions `affine` and `low`

@@ -7,7 +7,7 @@ use Rattle.clos_session.specs.Session.{Replies, answers_of, state_of}
 use Rattle.clos_session.specs.Uses.{MakesUses, session_uses}
 use Rattle.clos_perform.specs.Step.{step}
 use Rattle.clos_session.specs.declared.session.Reply.TheVariants.{Value, Condition, Storage}
-use Rattle.clos_session.proofs.Replies.{defines_nothing, kept_stored, stored}
+use Rattle.clos_session.proofs.Replies.{defines_nothing, defines_whole, kept_stored, stored}
 use Rattle.clos_session.proofs.session.Session.submit_within.Goals as goal
 
 pub returns-in-Ok-clause-reply : goal.returns-in-Ok-clause-reply
@@ -85,3 +85,13 @@ returns-in-Err-Storage-clause-uses g c =
     (kept_stored (g.N.Natives.host old.natives) (step (datum_of c.args.datum.now)) (state_of old) c.min-budget.result c.perform.new.steps
     (answers_of old) (answers_of new) (session_uses old) (session_uses new) c.in-Err-Storage.field-0 c.in-Err-Storage.field-0-is
     c.in-Err-Storage.ensures.uses)
+
+pub returns-in-Err-Storage-clause-whole : goal.returns-in-Err-Storage-clause-whole
+returns-in-Err-Storage-clause-whole g c =
+    let old = c.args.self.now in
+    let new = c.perform.new.self in
+    defines_whole (g.N.Natives.host old.natives) (datum_of c.args.datum.now) c.min-budget.result (state_of old) (state_of new)
+    (answers_of old) (answers_of new) (Storage (c.min-budget.result - c.perform.new.steps))
+    (stored (g.N.Natives.host old.natives) (step (datum_of c.args.datum.now)) (state_of old) (state_of new) c.min-budget.result
+    c.perform.new.steps
+    (answers_of old) (answers_of new) c.in-Err-Storage.field-0 c.in-Err-Storage.field-0-is c.in-Err-Storage.ensures.answers)
