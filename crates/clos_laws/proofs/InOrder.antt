@@ -27,7 +27,7 @@ same_sound : (w u : State) → Same w u → HasSound w → HasSound u
 same_sound w u h s = subst IsSound (sym h.1) s
 
 sound_stays : Stays HasSound
-sound_stays = record { same = same_sound; combination = λ d u h. h; change = λ c m n u h. h; removal = removal_sound }
+sound_stays = record { same = same_sound; combination = λ d u h. h; change = λ c m n u h. h; removal = λ g m u own h. removal_sound g m u h }
 
 stays_with : (top : Top) → IsWellRead top → StaysWith HasSound top
 stays_with = by_kind HasSound IsWellRead

@@ -1,4 +1,7 @@
 pub mod Sessions
 pub mod InOrder
+pub mod Classes
+pub mod Combinations
+pub mod System
 pub mod Names
 pub mod WellFormed

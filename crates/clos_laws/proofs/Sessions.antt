@@ -7,6 +7,7 @@ use Rattle.lisp_data.specs.Value.{Val, class, generic, method}
 use Rattle.clos_forms.specs.Form.{Form}
 use Rattle.clos_forms.specs.declared.operator.FunctionName.{FunctionName}
 use Rattle.clos_forms.specs.declared.operator.FunctionName.TheVariants.{Symbol, Setf}
+use Rattle.clos_session.specs.clos_world.clos_generic.Fault.{is_system}
 use Rattle.clos_session.specs.clos_world.clos_generic.Table.{named as generic_named, number}
 use Rattle.clos_syntax.specs.clos_defclass.declared.class.ClassDefinition.{ClassDefinition}
 use Rattle.clos_syntax.specs.declared.function.FunctionDefinition.{FunctionDefinition}
@@ -31,7 +32,7 @@ use Rattle.clos_session.specs.clos_world.declared.limits.Limits.{Limits}
 use Rattle.clos_session.specs.clos_definition_forms.clos_definition.Class.{cells_needed, class_concerned, class_number, class_refusal, initforms, with_defined_class}
 use Rattle.clos_session.specs.clos_definition_forms.clos_definition.Generic.{eql_forms, generic_concerned, generic_refusal, with_defined_generic}
 use Rattle.clos_session.specs.clos_definition_forms.clos_definition.Method.{eql_form, method_concerned, method_refusal, with_defined_method}
-use Rattle.clos_session.specs.clos_definition_forms.clos_definition.Removal.{concerned_by_removal, removable, with_removed}
+use Rattle.clos_session.specs.clos_definition_forms.clos_definition.Removal.{concerned_by_removal, generic_in, method_in, removable, removable_in, unless_system, with_removed}
 use Rattle.clos_session.specs.clos_definition_forms.clos_making.Combination.{combination_defined, define_combination}
 use Rattle.clos_session.specs.clos_definition_forms.Definition.{define_class, define_generic, define_method, remove_method}
 use Rattle.clos_session.specs.clos_definition_forms.clos_making.Made.{class_made, generic_made, method_made, removed_if, unless, value_at, values_removed}
@@ -59,7 +60,7 @@ pub record Stays (P : State → Type 0) : Type 0 where
   pub same : (w u : State) → Same w u → P w → P u
   pub combination : (d : CombinationDefinition) (u : State) → P u → P (record u { combinations = with_combination d u.combinations })
   pub change : (c : Change) (m : Metaobject) (n : ℕ) (u : State) → P u → P (with_change c m n u)
-  pub removal : (g m : ℕ) (u : State) → P u → P (with_removed g m u)
+  pub removal : (g m : ℕ) (u : State) → is_system (Some m) ≡ false → P u → P (with_removed g m u)
 
 -- the function that a defun defines
 abbrev pub defined : FunctionDefinition → Function
@@ -127,6 +128,20 @@ unless_after P (Some c) go w k s h = s
 effect_after : (P : State → Type 0) (cs : List of_calls.Change) (v : Val) (u w : State) (k : ℕ) → P w → P u → After P (takes_effect cs v u w k)
 effect_after P cs v u w k s h = step_after P (λ x j. Noted (took_effect x cs) (Gave v u j)) (λ x j i. h) w k s
 
+-- ---- the methods of the system stay
+
+unless_own : (b : Bool) (g m : ℕ) (p : ℕ × ℕ) → is_system (Some m) ≡ b → unless_system b g m ≡ Ok p → is_system (Some p.1) ≡ false
+unless_own true g m p e h = cc
+unless_own false g m p e h = let q : m ≡ p.1 = cc in subst (λ n. is_system (Some n) ≡ false) q e
+
+removed_in : (g m : Option ℕ) (function v : Val) (p : ℕ × ℕ) → removable_in g m function v ≡ Ok p → is_system (Some p.1) ≡ false
+removed_in None m function v p h = cc
+removed_in (Some g) None function v p h = cc
+removed_in (Some g) (Some m) function v p h = unless_own (is_system (Some m)) g m p refl h
+
+removed_of_program : (function v : Val) (p : ℕ × ℕ) → removable function v ≡ Ok p → is_system (Some p.1) ≡ false
+removed_of_program function v p h = removed_in (generic_in function) (method_in v) function v p h
+
 module _ (P : State → Type 0) (stays : Stays P) where
   kept_after : (w : State) (o : Out) → SameAfter w o → P w → After P o
   kept_after w (Gave v u k) h s = stays.same w u h.0 s
@@ -183,15 +198,15 @@ module _ (P : State → Type 0) (stays : Stays P) where
       (λ none. effect_after P (class_concerned d vs u) (class (class_number d u)) (with_defined_class d vs u) u j i
       (h vs u none i))) w k s)
 
-  removed_keeps : (v : Val) (r : Result (ℕ × ℕ) Condition) → Keeps P (removed_if v r)
-  removed_keeps v (Err c) w k s = s
-  removed_keeps v (Ok p) w k s =
-      effect_after P (concerned_by_removal p.0 p.1 w.generics) v (with_removed p.0 p.1 w) w k s (stays.removal p.0 p.1 w s)
+  removed_keeps : (v : Val) (r : Result (ℕ × ℕ) Condition) → ((p : ℕ × ℕ) → r ≡ Ok p → is_system (Some p.1) ≡ false) → Keeps P (removed_if v r)
+  removed_keeps v (Err c) own w k s = s
+  removed_keeps v (Ok p) own w k s =
+      effect_after P (concerned_by_removal p.0 p.1 w.generics) v (with_removed p.0 p.1 w) w k s (stays.removal p.0 p.1 w (own p refl) s)
 
   removal_keeps : (f m : Form) → Keeps P (remove_method f m)
   removal_keeps f m w k s =
       forms_after (Some f ∷ Some m ∷ []) [] values_removed
-      (λ vs u j i. removed_keeps (value_at vs 0) (removable (value_at vs 0) (value_at vs 1)) u j i) w k s
+      (λ vs u j i. removed_keeps (value_at vs 0) (removable (value_at vs 0) (value_at vs 1)) (removed_of_program (value_at vs 0) (value_at vs 1)) u j i) w k s
 
   changed_keeps : (c : Change) (r : Result (Metaobject × ℕ) Condition) → Keeps P (changed_if c r)
   changed_keeps c (Err e) w k s = s

@@ -123,7 +123,7 @@ class_well d vs w h g s =
 -- ---- sessions
 
 well_stays : Stays AreWellFormed
-well_stays = record { same = same_well; combination = λ d u h. h; change = λ c m n u h. h; removal = λ g m u h. h }
+well_stays = record { same = same_well; combination = λ d u h. h; change = λ c m n u h. h; removal = λ g m u own h. h }
 
 stays_with : (top : Top) → top_forms.AreWellFormed top → StaysWith AreWellFormed top
 stays_with = by_kind AreWellFormed top_forms.AreWellFormed
