@@ -4,5 +4,6 @@ pub mod Laws
 pub mod Classes
 pub mod Combinations
 pub mod System
+pub mod Agreement
 pub mod Names
 pub mod WellFormed

@@ -1,4 +1,5 @@
 //! The laws, each as what a function without a body ensures.
+ghost use Rattle.clos_laws.specs.Agreement.{RepliesAgree};
 ghost use Rattle.clos_laws.specs.Classes.{ClassesAreListed};
 ghost use Rattle.clos_laws.specs.Combinations.{CombinationsAreDefined};
 ghost use Rattle.clos_laws.specs.Laws.{CallsAreInOrder, RepliesReach};
@@ -31,6 +32,12 @@ pub fn system_functions_stand()
 /// A session that replies to a form comes from such a state to such a state.
 pub fn replies_reach()
     ensures { RepliesReach }
+{}
+
+/// Two sessions in one state reply the same to a form, whatever they keep of calls: a call whose effective method was kept does not
+/// differ from one for which it is worked out (HyperSpec 7.6.6).
+pub fn replies_agree()
+    ensures { RepliesAgree }
 {}
 
 /// A name is among those of the functions of the language exactly where a call of it calls one.
