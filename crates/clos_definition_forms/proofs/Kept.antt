@@ -1,8 +1,10 @@
 -- The forms that a definition evaluates define nothing.
-use Rattle.std.proofs.Common.{ℕ, ◌+◌, ◌++◌, List, [], ◌∷◌, Option, Some, None, Bool, true, false, refl, subst}
+use Rattle.std.proofs.Common.{ℕ, ◌+◌, ◌++◌, List, [], ◌∷◌, Option, Some, None, Result, Ok, Err, Bool, true, false, refl, subst, ◌∙◌}
 use Rattle.std.specs.Prelude.{⊤, ℤ, option_map, if◌then◌else◌}
 use Rattle.lisp_data.specs.Value.{Val, list, nil}
+use Rattle.lisp_data.specs.declared.value.Value.{Value}
 use Rattle.clos_forms.specs.Form.{Form}
+use Rattle.clos_eval.specs.clos_machine.clos_world.Definitions.{Same}
 use Rattle.clos_eval.specs.clos_machine.clos_world.World.{State, seen}
 use Rattle.clos_eval.specs.clos_machine.clos_world.declared.condition.Stop.{Stop}
 use Rattle.clos_eval.specs.clos_machine.clos_world.declared.condition.Stop.TheVariants.{Refused, Storage}
@@ -12,12 +14,15 @@ use Rattle.clos_eval.specs.clos_machine.clos_meaning.Meaning.{evaluation}
 use Rattle.clos_eval.specs.clos_machine.clos_meaning.Outcome.{Asked, End, Given, Looked, Noted, Out, Gave, Signalled, Stopped, Run, ends_in, then_do}
 use Rattle.clos_eval.proofs.clos_machine.clos_meaning.Kept.{Follows, SameAfter, evaluation_kept, shifted, stays}
 use Rattle.clos_eval.specs.Evaluation.{GoesOn}
+use Rattle.clos_eval.specs.clos_machine.Machine.{AnswersWith}
+use Rattle.clos_making.specs.clos_effects.Effects.{SameAtStorage}
+use Rattle.clos_making.proofs.clos_effects.Noting.{same_stopped}
 use Rattle.clos_definition_forms.specs.Forms.{EndsBefore, form_evaluated, forms_evaluated}
 use Rattle.clos_definition_forms.specs.Variable.{room_below}
 
 -- ---- forms, and then what defines nothing
 
-then_same : (w : State) (o : Out) (go : Val → Run) → SameAfter w o → ((v : Val) (u : State) (j : ℕ) → SameAfter u (go v u j)) → SameAfter w (then_do o go)
+pub then_same : (w : State) (o : Out) (go : Val → Run) → SameAfter w o → ((v : Val) (u : State) (j : ℕ) → SameAfter u (go v u j)) → SameAfter w (then_do o go)
 then_same w (Gave v u j) go h g = shifted w u (go v u j) h (g v u j)
 then_same w (Stopped c u j) go h g = h
 then_same w (Noted n o) go h g = then_same w o go h g
@@ -84,3 +89,31 @@ module _ (host : Host) (fs : List (Option Form)) (w u : World) (s k : ℕ) (past
   stopped_same Storage h =
       let y = (h.ends nothing_more (λ vs. (refl, refl))).answer in
       left_same (seen w) (seen u) y.4.0 (subst (ends_same (seen w)) y.4.1 (by_themselves y.2 y.0)) y.4.2
+
+-- ---- where memory was refused after them
+
+same_then : (w v u : State) → Same w v → Same v u → Same w u
+same_then w v u h g = (g.0 ∙ h.0, g.1 ∙ h.1, g.2 ∙ h.2, g.3 ∙ h.3, g.4 ∙ h.4, g.5 ∙ h.5)
+
+same_past : (w v u : State) (r : Result Value Stop) → Same w v → SameAtStorage r v u → SameAtStorage r w u
+same_past w v u (Ok x) h g = tt
+same_past w v u (Err (Refused c)) h g = tt
+same_past w v u (Err Storage) h g = same_then w v u h g
+
+module _ (host : Host) (fs : List (Option Form)) (w v : World) (s k : ℕ) (past past' : List ℤ) where
+  -- in what came of their values
+  pub same_with_values : (u : World) (vs : List (Option Val)) (r : Result Value Stop) → GoesOn host (forms_evaluated fs []) w s past vs v k past'
+      → SameAtStorage r (seen v) (seen u) → SameAtStorage r (seen w) (seen u)
+  same_with_values u vs r g h = same_past (seen w) (seen v) (seen u) r (evaluated_same host fs w v s k past past' vs g).0 h
+
+  -- in one of them
+  pub same_before : (stop : Stop) → EndsBefore host (forms_evaluated fs []) w s past stop v k past' → SameAtStorage (Err stop) (seen w) (seen v)
+  same_before stop g = same_stopped (seen w) (seen v) stop (stopped_same host fs w v s k past past' stop g).0
+
+-- in a run that defines nothing, whatever it comes to
+pub same_by : (host : Host) (run : Run) (w u : State) (s k : ℕ) (past past' : List ℤ) → ((j : ℕ) → SameAfter w (run w j)) → (r : Result Value Stop)
+    → AnswersWith host run w s past r u k past' → SameAtStorage r w u
+same_by host run w u s k past past' q (Ok v) h = tt
+same_by host run w u s k past past' q (Err (Refused c)) h = tt
+same_by host run w u s k past past' q (Err Storage) h =
+    (left_same w u h.4.0 (subst (ends_same w) h.4.1 (answered_same host w (run w h.2) h.0 (q h.2))) h.4.2).0

@@ -10,6 +10,7 @@ ghost use Rattle.clos_eval.specs.Evaluation.{Performs};
 ghost use Rattle.clos_definition_forms.specs.Definition.{define_class, define_generic, define_method, remove_method};
 ghost use Rattle.clos_making.specs.Made.{class_made, generic_made, method_made};
 ghost use Rattle.clos_definition_forms.specs.Forms.{forms_evaluated};
+ghost use Rattle.clos_making.specs.clos_effects.Effects.{SameAtStorage};
 ghost use Rattle.clos_making.specs.clos_effects.Hearing.{Heard};
 
 use crate::forms::evaluate_forms;
@@ -39,6 +40,7 @@ pub fn defmethod<N: Natives, D: Dependents>(
         answers.old.items result world.new steps.new answers.new.items }
     ensures heard { Heard (D.told dependents.old) (seen world.old) (D.told dependents.new) (seen world.new) }
     ensures names { D.names dependents.new ≡ D.names dependents.old }
+    ensures undone { SameAtStorage result (seen world.old) (seen world.new) }
 {
     match check_method(alloc, world, &name, &definition) {
         Err(stop) => Err(stop),
@@ -67,6 +69,7 @@ fn define_checked_method<N: Natives, D: Dependents>(
         answers.new.items }
     ensures heard { Heard (D.told dependents.old) (seen world.old) (D.told dependents.new) (seen world.new) }
     ensures names { D.names dependents.new ≡ D.names dependents.old }
+    ensures undone { SameAtStorage result (seen world.old) (seen world.new) }
 {
     let Ok(forms) = method_forms(alloc, &definition) else {
         return Err(Stop::Storage);
@@ -92,6 +95,7 @@ pub fn defgeneric<N: Natives, D: Dependents>(
         result world.new steps.new answers.new.items }
     ensures heard { Heard (D.told dependents.old) (seen world.old) (D.told dependents.new) (seen world.new) }
     ensures names { D.names dependents.new ≡ D.names dependents.old }
+    ensures undone { SameAtStorage result (seen world.old) (seen world.new) }
 {
     match check_generic(alloc, world, &definition) {
         Err(stop) => Err(stop),
@@ -116,6 +120,7 @@ fn define_checked_generic<N: Natives, D: Dependents>(
         (generic_made definition)) world.old steps.old answers.old.items result world.new steps.new answers.new.items }
     ensures heard { Heard (D.told dependents.old) (seen world.old) (D.told dependents.new) (seen world.new) }
     ensures names { D.names dependents.new ≡ D.names dependents.old }
+    ensures undone { SameAtStorage result (seen world.old) (seen world.new) }
 {
     let Ok(forms) = generic_forms(alloc, &definition) else {
         return Err(Stop::Storage);
@@ -141,6 +146,7 @@ pub fn defclass<N: Natives, D: Dependents>(
         result world.new steps.new answers.new.items }
     ensures heard { Heard (D.told dependents.old) (seen world.old) (D.told dependents.new) (seen world.new) }
     ensures names { D.names dependents.new ≡ D.names dependents.old }
+    ensures undone { SameAtStorage result (seen world.old) (seen world.new) }
 {
     match check_class(alloc, world, definition) {
         Err(stop) => Err(stop),
@@ -174,6 +180,7 @@ fn define_checked_class<N: Natives, D: Dependents>(
         (class_made definition.now)) world.old steps.old answers.old.items result world.new steps.new answers.new.items }
     ensures heard { Heard (D.told dependents.old) (seen world.old) (D.told dependents.new) (seen world.new) }
     ensures names { D.names dependents.new ≡ D.names dependents.old }
+    ensures undone { SameAtStorage result (seen world.old) (seen world.new) }
 {
     let Ok(forms) = initforms(alloc, cells) else {
         return Err(Stop::Storage);
@@ -199,6 +206,7 @@ pub fn remove_method<N: Natives, D: Dependents>(
         answers.old.items result world.new steps.new answers.new.items }
     ensures heard { Heard (D.told dependents.old) (seen world.old) (D.told dependents.new) (seen world.new) }
     ensures names { D.names dependents.new ≡ D.names dependents.old }
+    ensures undone { SameAtStorage result (seen world.old) (seen world.new) }
 {
     let Ok(forms) = both(alloc, function, method) else {
         return Err(Stop::Storage);

@@ -7,6 +7,7 @@ ghost use Rattle.clos_eval.specs.clos_machine.clos_meaning.ClassFunctions.{symbo
 ghost use Rattle.clos_eval.specs.clos_machine.clos_world.Uses.{uses_of};
 ghost use Rattle.clos_eval.specs.clos_machine.clos_world.World.{seen};
 ghost use Rattle.clos_eval.specs.Evaluation.{Performs};
+ghost use Rattle.clos_making.specs.clos_effects.Effects.{SameAtStorage};
 ghost use Rattle.clos_definition_forms.specs.Dependents.{FindsNamed, FindsWatched, change_dependents, dependent_named, metaobject_in, takes_step, values_watched, watched, with_change};
 
 use crate::forms::evaluate_forms;
@@ -35,8 +36,9 @@ pub fn change_dependents<N: Natives>(
     dependent: Form,
     steps: &mut u64,
 ) -> Result<Value, Stop>
-    ensures { Performs (N.host natives.now) (change_dependents change metaobject dependent) world.old steps.old
+    ensures performs { Performs (N.host natives.now) (change_dependents change metaobject dependent) world.old steps.old
         answers.old.items result world.new steps.new answers.new.items }
+    ensures undone { SameAtStorage result (seen world.old) (seen world.new) }
 {
     let Ok(forms) = both(alloc, metaobject, dependent) else {
         return Err(Stop::Storage);
@@ -59,6 +61,7 @@ fn change_evaluated(
     ensures answers { Answers (values_watched change values.now) (seen world.old) steps.old result (seen world.new)
         steps.new }
     ensures kept { uses_of world.new ≡ uses_of world.old }
+    ensures undone { SameAtStorage result (seen world.old) (seen world.new) }
 {
     let Ok(metaobject) = value_or_nil(values, 0) else {
         return Err(Stop::Storage);
@@ -129,6 +132,7 @@ fn change_at(
     ensures answers { Answers (takes_step (with_change change metaobject place (seen world.old))) (seen world.old)
         steps.old result (seen world.new) steps.new }
     ensures kept { uses_of world.new ≡ uses_of world.old }
+    ensures undone { SameAtStorage result (seen world.old) (seen world.new) }
 {
     if *steps == 0 {
         return Err(Stop::Refused(plain(alloc, ConditionKind::StepLimit)));

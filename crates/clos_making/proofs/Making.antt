@@ -1,5 +1,5 @@
 -- Definition forms whose forms are evaluated: those that are refused, and those that go on.
-use Rattle.std.proofs.Common.{◌≡◌, ℕ, List, ◌∷◌, Option, Some, None, Result, Ok, Err, length, ap, sym, ◌∙◌, subst, arith}
+use Rattle.std.proofs.Common.{◌≡◌, ℕ, List, ◌∷◌, Option, Some, None, Result, Ok, Err, length, refl, ap, sym, ◌∙◌, subst, arith}
 use Rattle.lisp_data.specs.Value.{Val, class, generic, method}
 use Rattle.lisp_data.specs.declared.value.Value.{Value}
 use Rattle.clos_forms.specs.declared.operator.FunctionName.{FunctionName}
@@ -24,7 +24,6 @@ use Rattle.clos_machine.specs.clos_meaning.Outcome.{Run, Stopped, leaves}
 use Rattle.clos_machine.specs.clos_world.clos_cache.Cache.{Change}
 use Rattle.clos_making.specs.Made.{class_made, concerned_if, generic_made, method_made, removed_if, unless, value_at, values_concerned, values_removed}
 use Rattle.clos_effects.specs.Effects.{AnswersNoting, takes_effect}
-use Rattle.clos_making.proofs.Quiet.{class_made_quiet, generic_made_quiet, method_made_quiet, values_removed_quiet}
 
 -- a run that does the same from there
 pub answers_same : (run run' : Run) (w : State) (s : ℕ) (r : Result Value Stop) (x : State) (j : ℕ) → ((i : ℕ) → run w i ≡ run' w i)
@@ -41,6 +40,11 @@ module _ (o : Option Condition) (go : Run) (w u : State) where
   stops_at s (Refused c) e l h = ap (λ x. unless x go w s) h ∙ ap (λ v. Stopped c v s) (sym e)
   stops_at s Storage e l h = (0, omega arith, subst (λ v. leaves (unless o go w 0) v 0) (sym e) l)
 
+  -- .. and notes nothing
+  stops_noting : (cs : List Change) (s : ℕ) (stop : Stop) → u ≡ w → StopsFor o stop → AnswersNoting cs (unless o go) w s (Err stop) u s
+  stops_noting cs s (Refused c) e h = ap (λ x. unless x go w s) h ∙ ap (λ v. Stopped c v s) (sym e)
+  stops_noting cs s Storage e h = (e, refl)
+
 -- no memory for the first step
 pub storage_at : (run : Run) (w : State) (s : ℕ) → leaves (run w 0) w 0 → Answers run w s (Err Storage) w s
 storage_at run w s l = (0, omega arith, l)
@@ -52,13 +56,7 @@ pub noting_same : (cs : List Change) (run run' : Run) (w : State) (s : ℕ) (r :
     → AnswersNoting cs run w s r x j → AnswersNoting cs run' w s r x j
 noting_same cs run run' w s (Ok v) x j e a = sym (e s) ∙ a
 noting_same cs run run' w s (Err (Refused c)) x j e a = sym (e s) ∙ a
-noting_same cs run run' w s (Err Storage) x j e a = (a.0, a.1, subst (λ o. leaves o x 0) (e a.0) a.2)
-
--- what stops notes nothing
-stops_noting : (cs : List Change) (run : Run) (w : State) (s : ℕ) (stop : Stop) (x : State) (j : ℕ) → Answers run w s (Err stop) x j
-    → AnswersNoting cs run w s (Err stop) x j
-stops_noting cs run w s (Refused c) x j h = h
-stops_noting cs run w s Storage x j h = h
+noting_same cs run run' w s (Err Storage) x j e a = a
 
 -- a check that is passed
 passes_noting : (cs : List Change) (o : Option Condition) (go : Run) (w : State) (s j : ℕ) (x : State) (r : Result Value Stop) → o ≡ None
@@ -81,9 +79,7 @@ module _ (name : FunctionName) (m : MethodDefinition) (w u : State) (s : ℕ) wh
 
   pub method_not_made : (vs : List (Option Val)) (stop : Stop) → u ≡ w → StopsFor (method_refusal name m (Some vs) w) stop
       → AnswersNoting (method_concerned name m vs w) (method_made name m vs) w s (Err stop) u s
-  method_not_made vs stop e h =
-      stops_noting (method_concerned name m vs w) (method_made name m vs) w s stop u s
-      (stops_at (method_refusal name m (Some vs) w) (method_effect vs) w u s stop e (method_made_quiet name m vs w) h)
+  method_not_made vs stop e h = stops_noting (method_refusal name m (Some vs) w) (method_effect vs) w u (method_concerned name m vs w) s stop e h
 
   pub method_is_made : (vs : List (Option Val)) (f : Effect) (n j : ℕ) (x : State) (r : Result Value Stop) → u ≡ w → method_refusal name m (Some vs) w ≡ None
       → with_effect f w ≡ with_defined_method name m vs w → concerned_by f w.generics ≡ method_concerned name m vs w → n ≡ length w.generics.methods
@@ -102,9 +98,7 @@ module _ (d : GenericDefinition) (w u : State) (s : ℕ) where
 
   pub generic_not_made : (vs : List (Option Val)) (stop : Stop) → u ≡ w → StopsFor (generic_refusal d (Some vs) w) stop
       → AnswersNoting (generic_concerned d vs w) (generic_made d vs) w s (Err stop) u s
-  generic_not_made vs stop e h =
-      stops_noting (generic_concerned d vs w) (generic_made d vs) w s stop u s
-      (stops_at (generic_refusal d (Some vs) w) (generic_effect vs) w u s stop e (generic_made_quiet d vs w) h)
+  generic_not_made vs stop e h = stops_noting (generic_refusal d (Some vs) w) (generic_effect vs) w u (generic_concerned d vs w) s stop e h
 
   pub generic_is_made : (vs : List (Option Val)) (f : Effect) (n j : ℕ) (x : State) (r : Result Value Stop) → u ≡ w → generic_refusal d (Some vs) w ≡ None
       → with_effect f w ≡ with_defined_generic d vs w → concerned_by f w.generics ≡ generic_concerned d vs w → n ≡ number w.generics d.name
@@ -124,9 +118,8 @@ module _ (d : ClassDefinition) (w u : State) (s : ℕ) where
   pub class_not_made : (vs : List (Option Val)) (n : ℕ) (stop : Stop) → u ≡ w → n ≡ length vs → StopsFor (class_refusal d n w) stop
       → AnswersNoting (class_concerned d vs w) (class_made d vs) w s (Err stop) u s
   class_not_made vs n stop e q h =
-      stops_noting (class_concerned d vs w) (class_made d vs) w s stop u s
-      (stops_at (class_refusal d (length vs) w) (class_effect vs) w u s stop e (class_made_quiet d vs w)
-      (subst (λ i. StopsFor (class_refusal d i w) stop) q h))
+      stops_noting (class_refusal d (length vs) w) (class_effect vs) w u (class_concerned d vs w) s stop e
+      (subst (λ i. StopsFor (class_refusal d i w) stop) q h)
 
   pub class_is_made : (vs : List (Option Val)) (f : Effect) (n c j : ℕ) (x : State) (r : Result Value Stop) → u ≡ w → n ≡ length vs → class_refusal d n w ≡ None
       → ((told : List Notice) → with_effect f (noting told w) ≡ with_accessors d (noting told w)) → concerned_by f w.generics ≡ accessors_concerned d w
@@ -144,7 +137,7 @@ module _ (d : ClassDefinition) (w u : State) (s : ℕ) where
 
 module _ (vs : List (Option Val)) (w : State) (s : ℕ) where
   pub removal_not_begun_yet : AnswersNoting (values_concerned vs w) (values_removed vs) w s (Err Storage) w s
-  removal_not_begun_yet = storage_at (values_removed vs) w s (values_removed_quiet vs w)
+  removal_not_begun_yet = (refl, refl)
 
   not_found : (stop : Stop) → Finds (removable (value_at vs 0) (value_at vs 1)) (Err stop) → AnswersNoting (values_concerned vs w) (values_removed vs) w s (Err stop) w s
   not_found (Refused c) h = ap (λ p. removed_if (value_at vs 0) p w s) h

@@ -5,6 +5,7 @@ ghost use Rattle.clos_forms.specs.Quotation.{name_value};
 ghost use Rattle.clos_machine.specs.clos_world.Uses.{uses_of};
 ghost use Rattle.clos_machine.specs.clos_world.World.{seen};
 ghost use Rattle.clos_machine.specs.Machine.{Answers};
+ghost use Rattle.clos_effects.specs.Effects.{SameAtStorage};
 ghost use Rattle.clos_making.specs.Function.{define_function, new_function_defined, new_setter_defined, has_room};
 
 use clos_forms::{FunctionName, value_named};
@@ -24,6 +25,7 @@ pub fn defun(
         { lambda_list = definition.lambda_list; body = definition.body })) (seen world.old) steps.old result
         (seen world.new) steps.new }
     ensures kept { uses_of world.new ≡ uses_of world.old }
+    ensures undone { SameAtStorage result (seen world.old) (seen world.new) }
 {
     let FunctionDefinition {
         name,
@@ -57,6 +59,7 @@ fn define_named(
     ensures answers { Answers (new_function_defined name function) (seen world.old) steps.old result (seen world.new)
         steps.new }
     ensures kept { uses_of world.new ≡ uses_of world.old }
+    ensures undone { SameAtStorage result (seen world.old) (seen world.new) }
 {
     if world.generics.named_by_symbol(&name).is_some() {
         return Err(Stop::Refused(plain(alloc, ConditionKind::ProgramError)));
@@ -88,6 +91,7 @@ fn define_setter(
     ensures answers { Answers (new_setter_defined name function) (seen world.old) steps.old result (seen world.new)
         steps.new }
     ensures kept { uses_of world.new ≡ uses_of world.old }
+    ensures undone { SameAtStorage result (seen world.old) (seen world.new) }
 {
     if world.generics.named_by_setf(&name).is_some() {
         return Err(Stop::Refused(plain(alloc, ConditionKind::ProgramError)));

@@ -3,6 +3,7 @@ ghost use Rattle.std.specs.Prelude.{◌≡◌, Some};
 ghost use Rattle.lisp_data.specs.DatumView.{datum_of};
 ghost use Rattle.clos_definition_forms.specs.clos_world.World.{seen};
 ghost use Rattle.clos_definition_forms.specs.clos_eval.Evaluation.{Performs};
+ghost use Rattle.clos_definition_forms.specs.clos_effects.Effects.{SameAtStorage};
 ghost use Rattle.clos_definition_forms.specs.clos_effects.Hearing.{Heard};
 ghost use Rattle.clos_perform.specs.Read.{IsWellRead};
 ghost use Rattle.clos_perform.specs.Step.{checked, step};
@@ -32,6 +33,7 @@ pub fn perform<N: Natives, D: Dependents>(
         result world.new steps.new answers.new.items }
     ensures heard { Heard (D.told dependents.old) (seen world.old) (D.told dependents.new) (seen world.new) }
     ensures names { D.names dependents.new ≡ D.names dependents.old }
+    ensures undone { SameAtStorage result (seen world.old) (seen world.new) }
 {
     match parse_top(alloc, datum) {
         Ok(top) => perform_top(alloc, world, natives, answers, dependents, top, steps),
@@ -56,6 +58,7 @@ fn perform_top<N: Natives, D: Dependents>(
         world.new steps.new answers.new.items }
     ensures heard { Heard (D.told dependents.old) (seen world.old) (D.told dependents.new) (seen world.new) }
     ensures names { D.names dependents.new ≡ D.names dependents.old }
+    ensures undone { SameAtStorage result (seen world.old) (seen world.new) }
 {
     match top {
         Top::DefClass(definition) => {

@@ -6,8 +6,9 @@ ghost use Rattle.clos_perform.specs.clos_machine.Machine.{AnswersWith};
 ghost use Rattle.clos_perform.specs.Step.{step};
 ghost use Rattle.clos_perform.specs.clos_world.Initial.{initial};
 ghost use Rattle.clos_perform.specs.clos_watch.Handed.{place_of};
+ghost use Rattle.clos_perform.specs.clos_definition_forms.clos_effects.Effects.{SameAtStorage};
 ghost use Rattle.clos_perform.specs.clos_definition_forms.clos_effects.Hearing.{Heard};
-ghost use Rattle.clos_session.specs.Definitions.{DefinesNothing, DefinesWhole};
+ghost use Rattle.clos_session.specs.Definitions.{DefinesNothing};
 ghost use Rattle.clos_session.specs.Session.{answers_of, built_of, state_of, Replies};
 ghost use Rattle.clos_session.specs.Uses.{MakesUses, none_kept, session_uses};
 ghost use Rattle.clos_perform.specs.clos_machine.clos_meaning.Output.{WritesMore};
@@ -143,6 +144,7 @@ impl<N: Natives, D: Dependents> Session<N, D> {
             (state_of self.new) }
         ensures kept { (N.host self.new.natives ≡ N.host self.old.natives) ×
             (D.names self.new.dependents ≡ D.names self.old.dependents) }
+        ensures undone { SameAtStorage result (state_of self.old) (state_of self.new) }
     {
         perform(
             self.alloc,
@@ -155,9 +157,9 @@ impl<N: Natives, D: Dependents> Session<N, D> {
         )
     }
 
-    /// Performs a top-level form (HyperSpec 3.1.2.1), and answers as its rules have it. A refused form defines nothing; where memory is
-    /// refused, a form has defined nothing, or all that it defines. Each use of a generic function works its effective method out where
-    /// none is kept, and keeps it; a definition drops those of the calls that it concerns, and no others.
+    /// Performs a top-level form (HyperSpec 3.1.2.1), and answers as its rules have it. A refused form defines nothing, and neither does
+    /// one that memory is refused to. Each use of a generic function works its effective method out where none is kept, and keeps it; a
+    /// definition drops those of the calls that it concerns, and no others.
     pub fn submit(&mut self, datum: &Datum) -> Reply
         ensures reply { Replies (N.host self.old.natives) (step (datum_of datum.now)) (state_of self.old).limits.steps
             (state_of self.old) (answers_of self.old) result (state_of self.new) (answers_of self.new) }
@@ -170,8 +172,6 @@ impl<N: Natives, D: Dependents> Session<N, D> {
         ensures kept { (N.host self.new.natives ≡ N.host self.old.natives) ×
             (D.names self.new.dependents ≡ D.names self.old.dependents) }
         ensures refused { DefinesNothing result (state_of self.old) (state_of self.new) }
-        ensures whole { DefinesWhole (N.host self.old.natives) (step (datum_of datum.now)) (state_of self.old)
-            (answers_of self.old) result (state_of self.new) (answers_of self.new) }
     {
         let limit = self.world.limits.steps;
         self.submit_within(datum, limit)
@@ -193,8 +193,6 @@ impl<N: Natives, D: Dependents> Session<N, D> {
         ensures kept { (N.host self.new.natives ≡ N.host self.old.natives) ×
             (D.names self.new.dependents ≡ D.names self.old.dependents) }
         ensures refused { DefinesNothing result (state_of self.old) (state_of self.new) }
-        ensures whole { DefinesWhole (N.host self.old.natives) (step (datum_of datum.now)) (state_of self.old)
-            (answers_of self.old) result (state_of self.new) (answers_of self.new) }
     {
         let budget = steps.min(self.world.limits.steps);
         let mut left = budget;

@@ -1,5 +1,6 @@
 use Rattle.std.proofs.Common.{ap, refl, ◌∙◌}
 use Rattle.clos_eval.specs.clos_machine.clos_world.World.{seen}
+use Rattle.clos_making.proofs.clos_effects.Noting.{same_as, same_later, same_stopped}
 use Rattle.clos_definition_forms.proofs.Defining.{class_evaluated, class_refused}
 use Rattle.clos_making.proofs.Hearing.{heard_at}
 use Rattle.clos_making.proofs.clos_effects.Hearing.{unheard}
@@ -26,3 +27,13 @@ returns-in-Ok-clause-performs g c =
     class_evaluated (g.N.Natives.host c.args.natives.now) c.args.definition.now c.args.world.now c.check_class.new.world c.args.steps.now
     c.args.answers.now.items c.as_slice.result.now done.answers.items done.world done.steps c.define_checked_class.result c.in-Ok.ensures.same
     c.in-Ok.ensures.kept (c.as_slice.ensures ∙ c.in-Ok.ensures.cells) c.in-Ok.ensures.allows c.define_checked_class.ensures.performs
+
+pub returns-in-Err-clause-undone : goal.returns-in-Err-clause-undone
+returns-in-Err-clause-undone g c =
+    let w = seen c.args.world.now in
+    let u = seen c.check_class.new.world in same_stopped w u c.in-Err.stop (same_as w u c.in-Err.ensures.same)
+
+pub returns-in-Ok-clause-undone : goal.returns-in-Ok-clause-undone
+returns-in-Ok-clause-undone g c =
+    same_later (seen c.args.world.now) (seen c.check_class.new.world) (seen c.define_checked_class.new.world) c.define_checked_class.result
+    c.in-Ok.ensures.same c.define_checked_class.ensures.undone

@@ -4,6 +4,8 @@ use Rattle.clos_eval.specs.Evaluation.{Performs}
 use Rattle.clos_eval.specs.clos_machine.clos_world.World.{seen}
 use Rattle.clos_making.specs.clos_effects.clos_definition.Method.{eql_form, method_concerned}
 use Rattle.clos_making.specs.Made.{method_made}
+use Rattle.clos_making.proofs.clos_effects.Noting.{same_noted, same_still}
+use Rattle.clos_definition_forms.proofs.Kept.{same_before, same_with_values}
 use Rattle.clos_definition_forms.proofs.Evaluated.{forms_go_on, forms_not_begun, forms_stop, performs_noting}
 use Rattle.clos_making.proofs.Quiet.{method_made_quiet}
 use Rattle.clos_definition_forms.proofs.Hearing.{heard_with_values, unheard_before}
@@ -53,3 +55,22 @@ returns-in-Err-clause-heard g c =
 pub returns-in_default-clause-heard : goal.returns-in_default-clause-heard
 returns-in_default-clause-heard g c =
     let told = g.D.Dependents.told c.args.dependents.now in unheard told told (seen c.args.world.now) (seen c.args.world.now) refl refl
+
+pub returns-in-Ok-evaluate_forms-clause-undone : goal.returns-in-Ok-evaluate_forms-clause-undone
+returns-in-Ok-evaluate_forms-clause-undone g c =
+    let evaluated = c.evaluate_forms.new in
+    let made = c.make_method.new in
+    let mid = seen evaluated.world in
+    same_with_values (g.N.Natives.host c.args.natives.now) c.deref.result.now c.args.world.now evaluated.world c.args.steps.now evaluated.steps
+    c.args.answers.now.items evaluated.answers.items made.world c.in-Ok-evaluate_forms.values.items c.make_method.result c.in-Ok-evaluate_forms.ensures.values
+    (same_noted (method_concerned c.args.name c.args.definition c.deref-in-Ok-evaluate_forms.result.now mid) (method_made c.args.name c.args.definition c.deref-in-Ok-evaluate_forms.result.now) mid mid (seen made.world)
+    evaluated.steps made.steps c.make_method.result (same_still mid) c.make_method.ensures.answers)
+
+pub returns-in-Err-clause-undone : goal.returns-in-Err-clause-undone
+returns-in-Err-clause-undone g c =
+    let evaluated = c.evaluate_forms.new in
+    same_before (g.N.Natives.host c.args.natives.now) c.deref.result.now c.args.world.now evaluated.world c.args.steps.now evaluated.steps
+    c.args.answers.now.items evaluated.answers.items c.in-Err.stop c.in-Err.ensures.stop
+
+pub returns-in_default-clause-undone : goal.returns-in_default-clause-undone
+returns-in_default-clause-undone g c = same_still (seen c.args.world.now)

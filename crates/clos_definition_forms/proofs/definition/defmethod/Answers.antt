@@ -1,5 +1,6 @@
 use Rattle.std.proofs.Common.{refl}
 use Rattle.clos_eval.specs.clos_machine.clos_world.World.{seen}
+use Rattle.clos_making.proofs.clos_effects.Noting.{same_still, same_stopped}
 use Rattle.clos_definition_forms.proofs.Defining.{method_evaluated, method_refused}
 use Rattle.clos_making.proofs.clos_effects.Hearing.{unheard}
 use Rattle.clos_definition_forms.proofs.definition.defmethod.Goals as goal
@@ -18,3 +19,6 @@ returns-in-Ok-clause-performs g c =
     let done = c.define_checked_method.new in
     method_evaluated (g.N.Natives.host c.args.natives.now) c.args.name c.args.definition c.args.world.now c.args.steps.now c.args.answers.now.items
     done.answers.items done.world done.steps c.define_checked_method.result c.in-Ok.ensures c.define_checked_method.ensures.performs
+
+pub returns-in-Err-clause-undone : goal.returns-in-Err-clause-undone
+returns-in-Err-clause-undone g c = let w = seen c.args.world.now in same_stopped w w c.in-Err.stop (same_still w)

@@ -3,6 +3,8 @@ use Rattle.lisp_data.specs.Value.{Val}
 use Rattle.clos_eval.specs.Evaluation.{Performs}
 use Rattle.clos_eval.specs.clos_machine.clos_world.World.{seen}
 use Rattle.clos_making.specs.Made.{values_concerned, values_removed}
+use Rattle.clos_making.proofs.clos_effects.Noting.{same_noted, same_still}
+use Rattle.clos_definition_forms.proofs.Kept.{same_before, same_with_values}
 use Rattle.clos_definition_forms.proofs.Evaluated.{forms_go_on, forms_not_begun, forms_stop, performs_noting}
 use Rattle.clos_definition_forms.proofs.Hearing.{heard_with_values, unheard_before}
 use Rattle.clos_making.proofs.clos_effects.Hearing.{unheard}
@@ -54,3 +56,22 @@ returns-clause-heard g c =
     c.remove_evaluated.new.world
     c.args.steps.now evaluated.steps c.args.answers.now.items evaluated.answers.items c.in-Ok-evaluate_forms.values.items
     c.in-Ok-evaluate_forms.ensures.values c.remove_evaluated.ensures.heard
+
+pub returns-clause-undone : goal.returns-clause-undone
+returns-clause-undone g c =
+    let evaluated = c.evaluate_forms.new in
+    let made = c.remove_evaluated.new in
+    let mid = seen evaluated.world in
+    same_with_values (g.N.Natives.host c.args.natives.now) c.deref.result.now c.args.world.now evaluated.world c.args.steps.now evaluated.steps
+    c.args.answers.now.items evaluated.answers.items made.world c.in-Ok-evaluate_forms.values.items c.remove_evaluated.result c.in-Ok-evaluate_forms.ensures.values
+    (same_noted (values_concerned c.deref-in-Ok-evaluate_forms.result.now mid) (values_removed c.deref-in-Ok-evaluate_forms.result.now) mid mid (seen made.world)
+    evaluated.steps made.steps c.remove_evaluated.result (same_still mid) c.remove_evaluated.ensures.answers)
+
+pub returns-in-Err-clause-undone : goal.returns-in-Err-clause-undone
+returns-in-Err-clause-undone g c =
+    let evaluated = c.evaluate_forms.new in
+    same_before (g.N.Natives.host c.args.natives.now) c.deref.result.now c.args.world.now evaluated.world c.args.steps.now evaluated.steps
+    c.args.answers.now.items evaluated.answers.items c.in-Err.stop c.in-Err.ensures.stop
+
+pub returns-in_default-clause-undone : goal.returns-in_default-clause-undone
+returns-in_default-clause-undone g c = same_still (seen c.args.world.now)

@@ -3,6 +3,7 @@ use Rattle.lisp_data.specs.DatumView.{datum_of}
 use Rattle.clos_definition_forms.specs.clos_world.World.{seen}
 use Rattle.clos_definition_forms.proofs.Evaluated.{performs_as, performs_storage}
 use Rattle.clos_definition_forms.proofs.clos_effects.Hearing.{unheard}
+use Rattle.clos_definition_forms.proofs.clos_effects.Noting.{same_still}
 use Rattle.clos_perform.specs.Step.{checked, step}
 use Rattle.clos_perform.proofs.StepQuiet.{step_quiet}
 use Rattle.clos_perform.proofs.WellRead.{well_read}
@@ -29,3 +30,6 @@ returns-in-Err-Program-clause-heard g c =
 
 pub perform_top-requires : goal.perform_top-requires
 perform_top-requires g c = well_read (datum_of c.args.datum.now) c.in-Ok.top c.in-Ok.ensures.form
+
+pub returns-in-Err-Memory-clause-undone : goal.returns-in-Err-Memory-clause-undone
+returns-in-Err-Memory-clause-undone g c = same_still (seen c.args.world.now)

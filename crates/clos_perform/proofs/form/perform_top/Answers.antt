@@ -13,10 +13,12 @@ use Rattle.clos_definition_forms.specs.clos_world.clos_comb.Table.{name_of}
 use Rattle.clos_definition_forms.specs.declared.dependents.Change.TheVariants.{Add, Remove}
 use Rattle.clos_definition_forms.proofs.Evaluated.{performs_alone, performs_noting}
 use Rattle.clos_definition_forms.proofs.clos_effects.Hearing.{unheard}
+use Rattle.clos_definition_forms.proofs.clos_effects.Noting.{same_noted, same_still}
 use Rattle.clos_definition_forms.proofs.clos_machine.Answering.{answers_with}
 use Rattle.clos_perform.specs.Step.{room_of}
 use Rattle.clos_perform.proofs.Hearing.{change_untold, combination_untold, expression_untold, function_untold, variable_untold}
 use Rattle.clos_perform.proofs.ByKind.{kind_performs}
+use Rattle.clos_perform.proofs.Undone.{expression_undone, variable_undone}
 use Rattle.clos_perform.proofs.form.perform_top.Goals as goal
 
 pub returns-in-DefCombination-clause-heard : goal.returns-in-DefCombination-clause-heard
@@ -61,7 +63,7 @@ returns-in-AddDependent-clause-heard g c =
     let s = c.args.steps.now in
     let k = c.change_dependents.new.steps in
     let past = c.args.answers.now.items in
-    unheard told told w u refl (change_untold host w u s k past c.change_dependents.new.answers.items c.change_dependents.result Add c.in-AddDependent.metaobject c.in-AddDependent.name c.change_dependents.ensures.answer)
+    unheard told told w u refl (change_untold host w u s k past c.change_dependents.new.answers.items c.change_dependents.result Add c.in-AddDependent.metaobject c.in-AddDependent.name c.change_dependents.ensures.performs.answer)
 
 pub returns-in-RemoveDependent-clause-heard : goal.returns-in-RemoveDependent-clause-heard
 returns-in-RemoveDependent-clause-heard g c =
@@ -72,7 +74,7 @@ returns-in-RemoveDependent-clause-heard g c =
     let s = c.args.steps.now in
     let k = c.change_dependents-in-RemoveDependent.new.steps in
     let past = c.args.answers.now.items in
-    unheard told told w u refl (change_untold host w u s k past c.change_dependents-in-RemoveDependent.new.answers.items c.change_dependents-in-RemoveDependent.result Remove c.in-RemoveDependent.metaobject c.in-RemoveDependent.name c.change_dependents-in-RemoveDependent.ensures.answer)
+    unheard told told w u refl (change_untold host w u s k past c.change_dependents-in-RemoveDependent.new.answers.items c.change_dependents-in-RemoveDependent.result Remove c.in-RemoveDependent.metaobject c.in-RemoveDependent.name c.change_dependents-in-RemoveDependent.ensures.performs.answer)
 
 pub returns-in-InPackage-clause-heard : goal.returns-in-InPackage-clause-heard
 returns-in-InPackage-clause-heard g c =
@@ -123,13 +125,13 @@ pub returns-in-AddDependent-clause-performs : goal.returns-in-AddDependent-claus
 returns-in-AddDependent-clause-performs g c =
     kind_performs (g.N.Natives.host c.args.natives.now) (change_dependents Add c.in-AddDependent.metaobject c.in-AddDependent.name) c.args.top (top.AddDependent c.in-AddDependent.metaobject c.in-AddDependent.name) c.args.world.now
     c.change_dependents.new.world c.args.steps.now c.change_dependents.new.steps c.args.answers.now.items c.change_dependents.new.answers.items c.change_dependents.result c.in-AddDependent.is (λ i. refl)
-    c.change_dependents.ensures
+    c.change_dependents.ensures.performs
 
 pub returns-in-RemoveDependent-clause-performs : goal.returns-in-RemoveDependent-clause-performs
 returns-in-RemoveDependent-clause-performs g c =
     kind_performs (g.N.Natives.host c.args.natives.now) (change_dependents Remove c.in-RemoveDependent.metaobject c.in-RemoveDependent.name) c.args.top (top.RemoveDependent c.in-RemoveDependent.metaobject c.in-RemoveDependent.name) c.args.world.now
     c.change_dependents-in-RemoveDependent.new.world c.args.steps.now c.change_dependents-in-RemoveDependent.new.steps c.args.answers.now.items c.change_dependents-in-RemoveDependent.new.answers.items c.change_dependents-in-RemoveDependent.result c.in-RemoveDependent.is (λ i. refl)
-    c.change_dependents-in-RemoveDependent.ensures
+    c.change_dependents-in-RemoveDependent.ensures.performs
 
 pub returns-in-Expr-clause-performs : goal.returns-in-Expr-clause-performs
 returns-in-Expr-clause-performs g c =
@@ -160,3 +162,21 @@ returns-in-Defun-clause-performs g c =
     kind_performs host run c.args.top (top.Defun f) c.args.world.now new.world c.args.steps.now new.steps past past c.defun.result c.in-Defun.is
     (λ i. refl) (performs_alone host run c.args.world.now new.world c.args.steps.now new.steps past c.defun.result c.defun.ensures.answers
     c.defun.ensures.kept)
+
+pub returns-in-DefCombination-clause-undone : goal.returns-in-DefCombination-clause-undone
+returns-in-DefCombination-clause-undone g c =
+    let d = c.in-DefCombination.definition in
+    let w = seen c.args.world.now in
+    same_noted (of_combination (name_of d) ∷ []) (define_combination d) w w (seen c.define_combination.new.world) c.args.steps.now
+    c.define_combination.new.steps c.define_combination.result (same_still w) c.define_combination.ensures.answers
+
+pub returns-in-DefVar-clause-undone : goal.returns-in-DefVar-clause-undone
+returns-in-DefVar-clause-undone g c =
+    variable_undone (g.N.Natives.host c.args.natives.now) (seen c.args.world.now) (seen c.define_variable.new.world) c.args.steps.now
+    c.define_variable.new.steps c.args.answers.now.items c.define_variable.new.answers.items c.define_variable.result c.in-DefVar.variable
+    c.define_variable.ensures.answer
+
+pub returns-in-Expr-clause-undone : goal.returns-in-Expr-clause-undone
+returns-in-Expr-clause-undone g c =
+    expression_undone (g.N.Natives.host c.args.natives.now) (seen c.args.world.now) (seen c.evaluate.new.world) c.args.steps.now c.evaluate.new.steps
+    c.args.answers.now.items c.evaluate.new.answers.items c.evaluate.result c.min-room.result c.in-Expr.form c.evaluate.ensures.performs.answer

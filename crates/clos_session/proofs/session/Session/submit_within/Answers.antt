@@ -1,5 +1,6 @@
 use Rattle.std.proofs.Common.{◌≡◌, ◌-◌, Err, min, arith, subst}
 use Rattle.lisp_data.specs.DatumView.{datum_of}
+use Rattle.clos_perform.specs.clos_definition_forms.clos_effects.Effects.{SameAtStorage}
 use Rattle.clos_perform.specs.clos_machine.Machine.{AnswersWith}
 use Rattle.clos_perform.specs.clos_world.declared.condition.Stop.TheVariants.{Refused}
 use Rattle.clos_perform.specs.clos_machine.Uses.{KeepsBy}
@@ -7,7 +8,7 @@ use Rattle.clos_session.specs.Session.{Replies, answers_of, state_of}
 use Rattle.clos_session.specs.Uses.{MakesUses, session_uses}
 use Rattle.clos_perform.specs.Step.{step}
 use Rattle.clos_session.specs.declared.session.Reply.TheVariants.{Value, Condition, Storage}
-use Rattle.clos_session.proofs.Replies.{defines_nothing, defines_whole, kept_stored, stored}
+use Rattle.clos_session.proofs.Replies.{defines_nothing, kept_stored, stored}
 use Rattle.clos_session.proofs.session.Session.submit_within.Goals as goal
 
 pub returns-in-Ok-clause-reply : goal.returns-in-Ok-clause-reply
@@ -40,8 +41,7 @@ returns-in-Err-Refused-clause-refused g c =
     (answers_of old) (Err (Refused c.in-Err-Refused.condition)) (state_of new) c.perform.new.steps (answers_of new) =
     rw c.in-Err-Refused.field-0-is at c.in-Err-Refused.ensures.answers in
     defines_nothing (g.N.Natives.host old.natives) (datum_of c.args.datum.now) c.min-budget.result (state_of old) (state_of new)
-    (answers_of old) (answers_of new)
-    (Condition c.number.result c.in-Err-Refused.condition.items)
+    (answers_of old) (answers_of new) c.number.result c.in-Err-Refused.condition.items
     (c.in-Err-Refused.condition.kind, c.perform.new.steps, h.0, c.number.ensures, h.1, h.2)
 
 pub returns-in-Err-Storage-clause-reply : goal.returns-in-Err-Storage-clause-reply
@@ -86,12 +86,7 @@ returns-in-Err-Storage-clause-uses g c =
     (answers_of old) (answers_of new) (session_uses old) (session_uses new) c.in-Err-Storage.field-0 c.in-Err-Storage.field-0-is
     c.in-Err-Storage.ensures.uses)
 
-pub returns-in-Err-Storage-clause-whole : goal.returns-in-Err-Storage-clause-whole
-returns-in-Err-Storage-clause-whole g c =
-    let old = c.args.self.now in
-    let new = c.perform.new.self in
-    defines_whole (g.N.Natives.host old.natives) (datum_of c.args.datum.now) c.min-budget.result (state_of old) (state_of new)
-    (answers_of old) (answers_of new) (Storage (c.min-budget.result - c.perform.new.steps))
-    (stored (g.N.Natives.host old.natives) (step (datum_of c.args.datum.now)) (state_of old) (state_of new) c.min-budget.result
-    c.perform.new.steps
-    (answers_of old) (answers_of new) c.in-Err-Storage.field-0 c.in-Err-Storage.field-0-is c.in-Err-Storage.ensures.answers)
+pub returns-in-Err-Storage-clause-refused : goal.returns-in-Err-Storage-clause-refused
+returns-in-Err-Storage-clause-refused g c =
+    subst (λ x. SameAtStorage (Err x) (state_of c.args.self.now) (state_of c.perform.new.self)) c.in-Err-Storage.field-0-is
+    c.in-Err-Storage.ensures.undone
