@@ -67,15 +67,16 @@ module _ (host : Host) (run : Run) (w u : World) (s k : ℕ) (past : List ℤ) w
     uses = ([], sym (append-nil past), h.0, h.1, none_made (notes_by host (run (seen w) h.0) []) (uses_of w) (uses_of u) (nothing_more (uses_of w) (uses_of u) e));
   }
 
-  -- one that notes what its effect concerns
-  pub performs_noting : (cs : List Change) (r : Result Value Stop) → AnswersNoting cs run (seen w) s r (seen u) k → UsesAfter cs (seen w) (uses_of w) r (uses_of u)
-      → Performs host run w s past r u k past
-  performs_noting cs (Ok v) h e = record {
+  -- one that notes what its effect concerns, and with no step left changes nothing
+  pub performs_noting : (cs : List Change) → leaves (run (seen w) 0) (seen w) 0 → (r : Result Value Stop) → AnswersNoting cs run (seen w) s r (seen u) k
+      → UsesAfter cs (seen w) (uses_of w) r (uses_of u) → Performs host run w s past r u k past
+  performs_noting cs q (Ok v) h e = record {
     answer = ([], sym (append-nil past), ap (λ o. answered_by host o []) h);
     uses = ([], sym (append-nil past), e ∙ ap (λ o. after_notes (notes_by host o []) (uses_of w)) (sym h));
   }
-  performs_noting cs (Err (Refused c)) h e = performs_alone (Err (Refused c)) h e
-  performs_noting cs (Err Storage) h e = performs_alone (Err Storage) h e
+  performs_noting cs q (Err (Refused c)) h e = performs_alone (Err (Refused c)) h e
+  performs_noting cs q (Err Storage) h e =
+      performs_alone (Err Storage) (0, omega (arith, h.1), subst (λ x. leaves (run (seen w) 0) x 0) (sym h.0) q) e
 
 -- memory is refused at once
 pub performs_storage : (host : Host) (run : Run) (w : World) (s : ℕ) (past : List ℤ) → leaves (run (seen w) 0) (seen w) 0

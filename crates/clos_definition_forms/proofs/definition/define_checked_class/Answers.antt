@@ -34,7 +34,7 @@ returns-clause-performs g c =
     c.deref.result.now (c.deref.ensures.value ∙ c.in-Ok.ensures) evaluated.world evaluated.steps evaluated.answers.items values c.make_checked_class.result
     made.world made.steps c.in-Ok-evaluate_forms.ensures.values
     (performs_noting host (class_made d values) evaluated.world made.world evaluated.steps made.steps evaluated.answers.items
-    (class_concerned d values (seen evaluated.world)) c.make_checked_class.result c.make_checked_class.ensures.answers c.make_checked_class.ensures.uses)
+    (class_concerned d values (seen evaluated.world)) (class_made_quiet d values (seen evaluated.world)) c.make_checked_class.result c.make_checked_class.ensures.answers c.make_checked_class.ensures.uses)
 
 pub returns-clause-heard : goal.returns-clause-heard
 returns-clause-heard g c =

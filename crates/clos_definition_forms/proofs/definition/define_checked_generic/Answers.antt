@@ -35,7 +35,7 @@ returns-in-Ok-evaluate_forms-clause-performs g c =
     (subst (λ (l : List (Option Val)). Performs host (generic_made c.args.definition l) evaluated.world evaluated.steps evaluated.answers.items c.make_generic.result
     made.world made.steps evaluated.answers.items) c.deref-in-Ok-evaluate_forms.ensures.value
     (performs_noting host (generic_made c.args.definition values) evaluated.world made.world evaluated.steps made.steps evaluated.answers.items
-    (generic_concerned c.args.definition values (seen evaluated.world)) c.make_generic.result c.make_generic.ensures.answers c.make_generic.ensures.uses))
+    (generic_concerned c.args.definition values (seen evaluated.world)) (generic_made_quiet c.args.definition values (seen evaluated.world)) c.make_generic.result c.make_generic.ensures.answers c.make_generic.ensures.uses))
 
 pub returns-in-Ok-evaluate_forms-clause-heard : goal.returns-in-Ok-evaluate_forms-clause-heard
 returns-in-Ok-evaluate_forms-clause-heard g c =

@@ -35,7 +35,7 @@ returns-in-Ok-evaluate_forms-clause-performs g c =
     (subst (λ (l : List (Option Val)). Performs host (method_made c.args.name c.args.definition l) evaluated.world evaluated.steps evaluated.answers.items c.make_method.result
     made.world made.steps evaluated.answers.items) c.deref-in-Ok-evaluate_forms.ensures.value
     (performs_noting host (method_made c.args.name c.args.definition values) evaluated.world made.world evaluated.steps made.steps evaluated.answers.items
-    (method_concerned c.args.name c.args.definition values (seen evaluated.world)) c.make_method.result c.make_method.ensures.answers c.make_method.ensures.uses))
+    (method_concerned c.args.name c.args.definition values (seen evaluated.world)) (method_made_quiet c.args.name c.args.definition values (seen evaluated.world)) c.make_method.result c.make_method.ensures.answers c.make_method.ensures.uses))
 
 pub returns-in-Ok-evaluate_forms-clause-heard : goal.returns-in-Ok-evaluate_forms-clause-heard
 returns-in-Ok-evaluate_forms-clause-heard g c =

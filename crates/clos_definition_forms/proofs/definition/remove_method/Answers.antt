@@ -46,7 +46,7 @@ returns-clause-performs g c =
     (subst (λ (l : List (Option Val)). Performs host (values_removed l) evaluated.world evaluated.steps evaluated.answers.items c.remove_evaluated.result
     removed.world removed.steps evaluated.answers.items) c.deref-in-Ok-evaluate_forms.ensures.value
     (performs_noting host (values_removed values) evaluated.world removed.world evaluated.steps removed.steps evaluated.answers.items
-    (values_concerned values (seen evaluated.world)) c.remove_evaluated.result c.remove_evaluated.ensures.answers c.remove_evaluated.ensures.uses))
+    (values_concerned values (seen evaluated.world)) (values_removed_quiet values (seen evaluated.world)) c.remove_evaluated.result c.remove_evaluated.ensures.answers c.remove_evaluated.ensures.uses))
 
 pub returns-clause-heard : goal.returns-clause-heard
 returns-clause-heard g c =

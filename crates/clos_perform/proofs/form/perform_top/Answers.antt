@@ -15,6 +15,7 @@ use Rattle.clos_definition_forms.proofs.Evaluated.{performs_alone, performs_noti
 use Rattle.clos_definition_forms.proofs.clos_effects.Hearing.{unheard}
 use Rattle.clos_definition_forms.proofs.clos_effects.Noting.{same_noted, same_still}
 use Rattle.clos_definition_forms.proofs.clos_machine.Answering.{answers_with}
+use Rattle.clos_definition_forms.proofs.clos_making.Quiet.{define_combination_quiet}
 use Rattle.clos_perform.specs.Step.{room_of}
 use Rattle.clos_perform.proofs.Hearing.{change_untold, combination_untold, expression_untold, function_untold, variable_untold}
 use Rattle.clos_perform.proofs.ByKind.{kind_performs}
@@ -30,7 +31,7 @@ returns-in-DefCombination-clause-heard g c =
     let s = c.args.steps.now in
     let k = c.define_combination.new.steps in
     let past = c.args.answers.now.items in
-    unheard told told w u refl (combination_untold host w u s k past past c.define_combination.result c.in-DefCombination.definition (performs_noting host (define_combination c.in-DefCombination.definition) c.args.world.now c.define_combination.new.world s k past (of_combination (name_of c.in-DefCombination.definition) ∷ []) c.define_combination.result c.define_combination.ensures.answers c.define_combination.ensures.uses).answer)
+    unheard told told w u refl (combination_untold host w u s k past past c.define_combination.result c.in-DefCombination.definition (performs_noting host (define_combination c.in-DefCombination.definition) c.args.world.now c.define_combination.new.world s k past (of_combination (name_of c.in-DefCombination.definition) ∷ []) (define_combination_quiet c.in-DefCombination.definition w) c.define_combination.result c.define_combination.ensures.answers c.define_combination.ensures.uses).answer)
 
 pub returns-in-Defun-clause-heard : goal.returns-in-Defun-clause-heard
 returns-in-Defun-clause-heard g c =
@@ -150,7 +151,7 @@ returns-in-DefCombination-clause-performs g c =
     kind_performs host (define_combination d) c.args.top (top.DefCombination d) c.args.world.now new.world c.args.steps.now new.steps past past
     c.define_combination.result c.in-DefCombination.is (λ i. refl)
     (performs_noting host (define_combination d) c.args.world.now new.world c.args.steps.now new.steps past (of_combination (name_of d) ∷ [])
-    c.define_combination.result c.define_combination.ensures.answers c.define_combination.ensures.uses)
+    (define_combination_quiet d (seen c.args.world.now)) c.define_combination.result c.define_combination.ensures.answers c.define_combination.ensures.uses)
 
 pub returns-in-Defun-clause-performs : goal.returns-in-Defun-clause-performs
 returns-in-Defun-clause-performs g c =
