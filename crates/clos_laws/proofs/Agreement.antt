@@ -2,20 +2,16 @@
 use Rattle.std.proofs.Common.{◌≡◌, ℕ, List, ◌++◌, Some, ap, sym, subst, ◌∙◌}
 use Rattle.std.proofs.lemmas.List.{append_cancel_left}
 use Rattle.std.specs.Prelude.{ℤ}
-use Rattle.lisp_data.specs.Datum.{Dat}
 use Rattle.lisp_data.specs.ValueView.{value_of}
 use Rattle.lisp_data.specs.Value.{Val}
-use Rattle.clos_session.specs.Session.{Replies}
 use Rattle.clos_session.specs.clos_perform.Step.{step}
 use Rattle.clos_session.specs.clos_machine.clos_meaning.Host.{Host, answered_by}
 use Rattle.clos_session.specs.clos_machine.clos_meaning.Outcome.{End, Given, Out, Signalled, ends_in}
 use Rattle.clos_session.specs.clos_world.Condition.{number_of}
 use Rattle.clos_session.specs.clos_world.World.{State}
 use Rattle.clos_session.specs.clos_world.declared.condition.Condition.{Condition as Signal}
-use Rattle.clos_session.specs.clos_world.declared.condition.ConditionKind.{ConditionKind}
-use Rattle.clos_session.specs.declared.session.Reply.{Reply}
 use Rattle.clos_session.specs.declared.session.Reply.TheVariants.{Value, Condition, Storage}
-use Rattle.clos_laws.specs.Agreement.{Agree, RepliesAgree}
+use Rattle.clos_laws.specs.Agreement.{RepliesAgree}
 
 -- the answers that came after the same ones are the same
 used_same : (past after xs ys : List ℤ) → after ≡ past ++ xs → after ≡ past ++ ys → xs ≡ ys

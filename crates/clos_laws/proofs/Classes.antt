@@ -1,5 +1,5 @@
 -- In each state that a session comes to, class precedence lists are those that fit.
-use Rattle.std.proofs.Common.{◌≡◌, ◌↔◌, ℕ, ◌+◌, ◌++◌, Bool, true, false, List, [], ◌∷◌, Option, Some, None, inl, inr, length, length-append, refl, ap, sym, subst, ◌∙◌}
+use Rattle.std.proofs.Common.{◌≡◌, ℕ, ◌+◌, ◌++◌, Bool, true, false, List, [], ◌∷◌, Option, Some, None, inl, inr, length, length-append, refl, ap, sym, subst, ◌∙◌}
 use Rattle.std.proofs.lemmas.List.{length-set}
 use Rattle.std.specs.Prelude.{⊤, not, ◌||◌, option_map, slice_set, if◌then◌else◌}
 use Rattle.std.specs.List.{list_any}
@@ -24,11 +24,9 @@ use Rattle.clos_session.specs.clos_world.Definitions.{Same}
 use Rattle.clos_session.specs.clos_world.World.{State}
 use Rattle.clos_session.specs.clos_world.clos_class.Table as classes
 use Rattle.clos_session.specs.clos_world.declared.condition.Condition.{Condition}
-use Rattle.clos_session.specs.clos_world.declared.limits.Limits.{Limits}
-use Rattle.clos_session.specs.clos_definition_forms.clos_definition.Class.{class_refusal, condition_for, others_refusal, with_defined_class}
+use Rattle.clos_session.specs.clos_definition_forms.clos_definition.Class.{class_refusal, condition_for, others_refusal}
 use Rattle.clos_session.specs.clos_definition_forms.clos_definition.Refusal as of_forms
-use Rattle.clos_laws.specs.Classes.{AreListed, ClassesAreListed}
-use Rattle.clos_laws.specs.Reached.{IsReached}
+use Rattle.clos_laws.specs.Classes.{ClassesAreListed}
 use Rattle.clos_laws.proofs.Sessions.{Stays, StaysWith, always, by_kind}
 
 -- ---- the list that is found

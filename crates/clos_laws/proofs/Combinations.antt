@@ -1,5 +1,5 @@
 -- In each state that a session comes to, the method combinations of generic functions are defined.
-use Rattle.std.proofs.Common.{◌≡◌, ℕ, zero, suc, Bool, true, false, List, [], ◌∷◌, ◌++◌, Option, Some, None, map, refl, sym, subst, ◌∙◌}
+use Rattle.std.proofs.Common.{◌≡◌, ℕ, zero, suc, Bool, true, false, List, [], ◌∷◌, ◌++◌, Option, Some, None, map, refl, sym, subst}
 use Rattle.std.specs.Prelude.{⊤, codes, is_some, option_map, unwrap_or, if◌then◌else◌}
 use Rattle.std.specs.Map.{lookup}
 use Rattle.lisp_data.specs.Datum.{Dats}
@@ -11,8 +11,7 @@ use Rattle.clos_combination.specs.declared.combination.CombinationDefinition.{Co
 use Rattle.clos_combination.specs.declared.combination.ShortForm.{ShortForm}
 use Rattle.clos_generic.specs.Initial.{standard, standard_options, system_generic}
 use Rattle.clos_generic.specs.Sound.{Each}
-use Rattle.clos_generic.specs.Table.{Function, Table, added, defined_at, made, named, redefined, with_changed, with_definition, with_method, without, without_method}
-use Rattle.clos_generic.specs.Table as of_functions
+use Rattle.clos_generic.specs.Table.{Function, Table, defined_at, made, named, redefined, with_changed, with_definition, with_method, without_method}
 use Rattle.clos_generic.specs.declared.changes.Definition.{Definition}
 use Rattle.clos_generic.specs.declared.changes.Removal.{Removal}
 use Rattle.clos_generic.specs.declared.options.Options.{Options}
@@ -23,25 +22,23 @@ use Rattle.clos_method.specs.declared.shape.Shape.{Shape}
 use Rattle.clos_syntax.specs.clos_defclass.declared.class.ClassDefinition.{ClassDefinition}
 use Rattle.clos_syntax.specs.declared.generic.CombinationUse.{CombinationUse}
 use Rattle.clos_syntax.specs.declared.generic.GenericDefinition.{GenericDefinition}
-use Rattle.clos_syntax.specs.declared.method.MethodDefinition.{MethodDefinition}
 use Rattle.clos_top.specs.declared.top.Top.{Top}
 use Rattle.clos_session.specs.clos_world.Definitions.{Same}
 use Rattle.clos_session.specs.clos_world.World.{State}
-use Rattle.clos_session.specs.clos_world.clos_comb.Fault.{Misuse, misuse, misuse_with}
+use Rattle.clos_session.specs.clos_world.clos_comb.Fault.{misuse_with}
 use Rattle.clos_session.specs.clos_world.clos_comb.Table as combinations
 use Rattle.clos_session.specs.clos_world.clos_comb.Table.{Combination, built_in_named, combination_named, combination_of, name_of, or_defined, with_combination, with_named}
 use Rattle.clos_session.specs.clos_world.declared.condition.Condition.{Condition}
 use Rattle.clos_session.specs.clos_world.declared.limits.Limits.{Limits}
 use Rattle.clos_session.specs.clos_definition_forms.clos_definition.declared.accessor.SlotAccessor.{SlotAccessor}
 use Rattle.clos_session.specs.clos_definition_forms.clos_definition.Accessor.{accessors_of, function_made, function_of, is_there, with_functions}
-use Rattle.clos_session.specs.clos_definition_forms.clos_definition.Class.{class_functions, class_methods, class_notices, class_removals, noting, with_accessors, with_defined_class}
-use Rattle.clos_session.specs.clos_definition_forms.clos_definition.Effect.{changed, changing, with_definitions, with_methods, without_all}
-use Rattle.clos_session.specs.clos_definition_forms.clos_definition.Generic.{combination_refusal, definition_of, earlier_methods, generic_changes, generic_refusal, initial_methods, methods_refusal, misuse_told, names_refusal, options_of, with_defined_generic}
+use Rattle.clos_session.specs.clos_definition_forms.clos_definition.Class.{class_functions, class_methods, class_notices, class_removals, noting, with_defined_class}
+use Rattle.clos_session.specs.clos_definition_forms.clos_definition.Effect.{changed, with_definitions, with_methods, without_all}
+use Rattle.clos_session.specs.clos_definition_forms.clos_definition.Generic.{combination_refusal, definition_of, earlier_methods, generic_changes, generic_refusal, initial_methods, methods_refusal, misuse_told, names_refusal}
 use Rattle.clos_session.specs.clos_definition_forms.clos_definition.Method.{defined_method, function_for}
 use Rattle.clos_session.specs.clos_definition_forms.clos_definition.Refusal.{or_else, table_refusal, taken_refusal}
 use Rattle.clos_form_laws.proofs.Lists.{each_append, each_map}
 use Rattle.clos_laws.specs.Combinations.{CombinationsAreDefined, HasCombination}
-use Rattle.clos_laws.specs.Reached.{IsReached}
 use Rattle.clos_laws.proofs.Sessions.{Stays, StaysWith, always, by_kind}
 
 -- ---- the table of generic functions

@@ -1,21 +1,19 @@
 -- In each state that a session comes to, the system's generic functions stand with their methods.
 use Rattle.std.proofs.Common.{◌≡◌, ℕ, zero, suc, ◌==◌, Bool, true, false, not, ◌&&◌, List, [], ◌∷◌, ◌++◌, Option, Some, None, map, length, slice_get, eqb-true, refl, ap, sym, subst, ◌∙◌}
 use Rattle.std.proofs.lemmas.Option.{slice_get_within}
-use Rattle.std.specs.List.{find, list_all, list_any}
-use Rattle.std.specs.Prelude.{⊤, is_some, option_map, if◌then◌else◌}
-use Rattle.lisp_data.specs.Name.{Name}
+use Rattle.std.specs.List.{find, list_all}
+use Rattle.std.specs.Prelude.{⊤, option_map, if◌then◌else◌}
 use Rattle.lisp_data.specs.Value.{Val}
 use Rattle.clos_forms.specs.declared.operator.FunctionName.{FunctionName}
 use Rattle.clos_forms.specs.declared.operator.FunctionName.TheVariants.{Symbol}
 use Rattle.clos_generic.proofs.Kept.{got_before}
 use Rattle.clos_generic.specs.Changes.{Changes, all_congruent, all_supported, changes_refusal, closed_refusal, has_open, is_supported, removals_refusal, too_many}
-use Rattle.clos_generic.specs.Fault.{Refusal, incongruent, is_system, or_else, removal_refusal, system_count, table_limit, unsupported, when}
+use Rattle.clos_generic.specs.Fault.{Refusal, incongruent, is_system, or_else, removal_refusal, table_limit, unsupported, when}
 use Rattle.clos_generic.specs.Initial as begun
 use Rattle.clos_generic.specs.Initial.{system_generic}
 use Rattle.clos_generic.specs.Sound.{Each}
 use Rattle.clos_generic.specs.Table.{Function, Table, added, find_method, is_alike_at, is_alike_in, methods_in, methods_of, named, redefined, with_changed, with_definition, with_method, without, without_method}
 use Rattle.clos_generic.specs.Table as of_functions
-use Rattle.clos_generic.specs.declared.changes.Addition.{Addition}
 use Rattle.clos_generic.specs.declared.changes.Definition.{Definition}
 use Rattle.clos_generic.specs.declared.changes.Removal.{Removal}
 use Rattle.clos_generic.specs.declared.options.Options.{Options}
@@ -34,13 +32,12 @@ use Rattle.clos_session.specs.clos_world.World.{State}
 use Rattle.clos_session.specs.clos_world.declared.condition.Condition.{Condition}
 use Rattle.clos_session.specs.clos_world.declared.limits.Limits.{Limits}
 use Rattle.clos_session.specs.clos_definition_forms.clos_definition.Accessor.{accessors_of, accessors_refusal}
-use Rattle.clos_session.specs.clos_definition_forms.clos_definition.Class.{class_changes, class_functions, class_methods, class_number, class_refusal, class_removals, condition_for, others_refusal, with_defined_class}
+use Rattle.clos_session.specs.clos_definition_forms.clos_definition.Class.{class_changes, class_functions, class_methods, class_number, class_refusal, class_removals, others_refusal, with_defined_class}
 use Rattle.clos_session.specs.clos_definition_forms.clos_definition.Effect.{addition_of, changed, changes_of, with_definitions, with_methods, without_all}
 use Rattle.clos_session.specs.clos_definition_forms.clos_definition.Generic.{definition_of, earlier_methods, generic_changes, generic_refusal, initial_methods, names_refusal, with_defined_generic}
 use Rattle.clos_session.specs.clos_definition_forms.clos_definition.Method.{defined_method, function_for, method_changes, method_refusal, specializers_refusal, with_defined_method}
 use Rattle.clos_session.specs.clos_definition_forms.clos_definition.Refusal as of_forms
 use Rattle.clos_session.specs.clos_definition_forms.clos_definition.Refusal.{table_refusal, taken_refusal, told}
-use Rattle.clos_laws.specs.Reached.{IsReached}
 use Rattle.clos_laws.specs.System.{IsOwn, Stands, SystemFunctionsStand}
 use Rattle.clos_laws.proofs.Sessions.{Stays, StaysWith, always, by_kind}
 
