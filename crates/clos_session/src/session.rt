@@ -1,12 +1,12 @@
 //! Sessions: the top-level forms that are submitted one after another, and what they leave.
-ghost use Rattle.std.specs.Prelude.{◌≡◌, [], min, IfOk, option_map, slice_get, unwrap_or};
+ghost use Rattle.std.specs.Prelude.{◌≡◌, [], min, IfErr, IfOk, option_map, slice_get, unwrap_or};
 ghost use Rattle.lisp_data.specs.DatumView.{datum_of};
+ghost use Rattle.clos_perform.specs.clos_world.Definitions.{Same};
 ghost use Rattle.clos_perform.specs.clos_world.World.{seen};
 ghost use Rattle.clos_perform.specs.clos_machine.Machine.{AnswersWith};
 ghost use Rattle.clos_perform.specs.Step.{step};
 ghost use Rattle.clos_perform.specs.clos_world.Initial.{initial};
 ghost use Rattle.clos_perform.specs.clos_watch.Handed.{place_of};
-ghost use Rattle.clos_perform.specs.clos_definition_forms.clos_effects.Effects.{SameAtStorage};
 ghost use Rattle.clos_perform.specs.clos_definition_forms.clos_effects.Hearing.{Heard};
 ghost use Rattle.clos_session.specs.Definitions.{DefinesNothing};
 ghost use Rattle.clos_session.specs.Session.{answers_of, built_of, state_of, Replies};
@@ -133,7 +133,8 @@ impl<N: Natives, D: Dependents> Session<N, D> {
         &self.world
     }
 
-    /// Performs a top-level form with so many steps, which fall by those that it takes. What was written before stays.
+    /// Performs a top-level form with so many steps, which fall by those that it takes. What was written before stays. A form that stops
+    /// defines nothing.
     pub fn perform(&mut self, datum: &Datum, steps: &mut u64) -> Result<Value, Stop>
         ensures answers { AnswersWith (N.host self.old.natives) (step (datum_of datum.now)) (state_of self.old)
             steps.old (answers_of self.old) result (state_of self.new) steps.new (answers_of self.new) }
@@ -144,7 +145,7 @@ impl<N: Natives, D: Dependents> Session<N, D> {
             (state_of self.new) }
         ensures kept { (N.host self.new.natives ≡ N.host self.old.natives) ×
             (D.names self.new.dependents ≡ D.names self.old.dependents) }
-        ensures undone { SameAtStorage result (state_of self.old) (state_of self.new) }
+        ensures refused { IfErr result (λ _. Same (state_of self.old) (state_of self.new)) }
     {
         perform(
             self.alloc,

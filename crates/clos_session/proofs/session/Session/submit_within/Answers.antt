@@ -1,6 +1,5 @@
 use Rattle.std.proofs.Common.{◌≡◌, ◌-◌, Err, min, arith, subst}
 use Rattle.lisp_data.specs.DatumView.{datum_of}
-use Rattle.clos_perform.specs.clos_definition_forms.clos_effects.Effects.{SameAtStorage}
 use Rattle.clos_perform.specs.clos_machine.Machine.{AnswersWith}
 use Rattle.clos_perform.specs.clos_world.declared.condition.Stop.TheVariants.{Refused}
 use Rattle.clos_perform.specs.clos_machine.Uses.{KeepsBy}
@@ -8,7 +7,7 @@ use Rattle.clos_session.specs.Session.{Replies, answers_of, state_of}
 use Rattle.clos_session.specs.Uses.{MakesUses, session_uses}
 use Rattle.clos_perform.specs.Step.{step}
 use Rattle.clos_session.specs.declared.session.Reply.TheVariants.{Value, Condition, Storage}
-use Rattle.clos_session.proofs.Replies.{defines_nothing, kept_stored, stored}
+use Rattle.clos_session.proofs.Replies.{kept_stored, stored}
 use Rattle.clos_session.proofs.session.Session.submit_within.Goals as goal
 
 pub returns-in-Ok-clause-reply : goal.returns-in-Ok-clause-reply
@@ -32,17 +31,6 @@ returns-in-Err-Refused-clause-reply g c =
     (λ s. Replies (g.N.Natives.host old.natives) (step (datum_of c.args.datum.now)) s (state_of old) (answers_of old)
     (Condition c.number.result c.in-Err-Refused.condition.items) (state_of new) (answers_of new))
     e (c.in-Err-Refused.condition.kind, c.perform.new.steps, h.0, c.number.ensures, h.1, h.2)
-
-pub returns-in-Err-Refused-clause-refused : goal.returns-in-Err-Refused-clause-refused
-returns-in-Err-Refused-clause-refused g c =
-    let old = c.args.self.now in
-    let new = c.perform.new.self in
-    let h : AnswersWith (g.N.Natives.host old.natives) (step (datum_of c.args.datum.now)) (state_of old) c.min-budget.result
-    (answers_of old) (Err (Refused c.in-Err-Refused.condition)) (state_of new) c.perform.new.steps (answers_of new) =
-    rw c.in-Err-Refused.field-0-is at c.in-Err-Refused.ensures.answers in
-    defines_nothing (g.N.Natives.host old.natives) (datum_of c.args.datum.now) c.min-budget.result (state_of old) (state_of new)
-    (answers_of old) (answers_of new) c.number.result c.in-Err-Refused.condition.items
-    (c.in-Err-Refused.condition.kind, c.perform.new.steps, h.0, c.number.ensures, h.1, h.2)
 
 pub returns-in-Err-Storage-clause-reply : goal.returns-in-Err-Storage-clause-reply
 returns-in-Err-Storage-clause-reply g c =
@@ -85,8 +73,3 @@ returns-in-Err-Storage-clause-uses g c =
     (kept_stored (g.N.Natives.host old.natives) (step (datum_of c.args.datum.now)) (state_of old) c.min-budget.result c.perform.new.steps
     (answers_of old) (answers_of new) (session_uses old) (session_uses new) c.in-Err-Storage.field-0 c.in-Err-Storage.field-0-is
     c.in-Err-Storage.ensures.uses)
-
-pub returns-in-Err-Storage-clause-refused : goal.returns-in-Err-Storage-clause-refused
-returns-in-Err-Storage-clause-refused g c =
-    subst (λ x. SameAtStorage (Err x) (state_of c.args.self.now) (state_of c.perform.new.self)) c.in-Err-Storage.field-0-is
-    c.in-Err-Storage.ensures.undone
