@@ -111,7 +111,7 @@ module _ (host : Host) (echo : Bool) (known : Option (List ℕ)) (start end : St
       (h.0, h.1, h.2, (l.0, l.1, record { out = l.2.out; ran = l.2.ran; appends = tt }, l.3, l.4))
   fails_unknown a b Write h = h
   fails_unknown a b Memory (inl h) = inl (h.0, refl)
-  fails_unknown a b Memory (inr h) = inr h
+  fails_unknown a b Memory (inr h) = let l = h.3 in inr (h.0, h.1, h.2, (l.0, l.1, l.2, l.3, l.4, tt))
 
   -- .. and as the writer holds what came, once that was flushed
   pub fails_on : (n : ℕ) (had : List ℕ) (a k1 k3 : Option (List ℕ)) (c1 c3 : ℕ) (f1 f3 : Bool) → a ≡ Some (n ∷ had) → (e : RunFault)
@@ -131,7 +131,13 @@ module _ (host : Host) (echo : Bool) (known : Option (List ℕ)) (start end : St
   fails_on n had a k1 k3 c1 c3 f1 f3 is Write h k = (k3, h, stays k3)
   fails_on n had a k1 k3 c1 c3 f1 f3 is Memory (inl h) k =
       (Some had, inl (h.0, refl), nothing n had (lined c1 f1 k1) k3 c3 f3 (h.1 ∙ is) k)
-  fails_on n had a k1 k3 c1 c3 f1 f3 is Memory (inr h) k = (k3, inr h, stays k3)
+  fails_on n had a k1 k3 c1 c3 f1 f3 is Memory (inr h) k =
+      let l = h.3 in
+      let l1 : lined c1 f1 k1 ≡ Some (n ∷ (had ++ l.2)) = passed n had a k1 c1 f1 l.2 is l.5 in (
+        Some (had ++ l.2),
+        inr (h.0, h.1, h.2, (l.0, l.1, l.2, l.3, l.4, refl)),
+        nothing n (had ++ l.2) (lined c1 f1 k1) k3 c3 f3 l1 k,
+      )
 
   pub fails : (notices : Bool) (k0 k1 k3 : Option (List ℕ)) (c1 c3 : ℕ) (f1 f3 : Bool) (status : ℕ)
       → Failed host echo known start end (lined 0 true k0) (lined c1 f1 k1) → Keeps (lined c1 f1 k1) (lined c3 f3 k3)

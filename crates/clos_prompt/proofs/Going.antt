@@ -137,13 +137,14 @@ asked_for host d w w' p line a b n fresh is asks done = of_arguments d w' is ask
 })
 
 -- .. also where it was not told
-pub failed_in : (host : Host) (d : Dat) (w w' : Standing) (p : Waiting) (line : List ℕ) (e : RunFault) → takes_command p line ≡ true
-    → Asks w.state line d → FailsAfter host d w w' e → Begun host w p line w'
-failed_in host d w w' p line Run.Write is asks done = of_arguments d w' is asks done
-failed_in host d w w' p line Run.Memory is asks done = of_arguments d w' is asks done
-failed_in host d w w' p line Run.Read is asks done = absurd done
-failed_in host d w w' p line Run.TooLong is asks done = absurd done
-failed_in host d w w' p line (Run.Reader fault) is asks done = absurd done
+pub failed_in : (host : Host) (d : Dat) (w w' : Standing) (p : Waiting) (line : List ℕ) (a b : Option (List ℕ)) (e : RunFault)
+    → takes_command p line ≡ true
+    → Asks w.state line d → FailsAfter host d w w' a b e → Begun host w p line w'
+failed_in host d w w' p line a b Run.Write is asks done = of_arguments d w' is asks done
+failed_in host d w w' p line a b Run.Memory is asks done = of_arguments d w' is asks done.0
+failed_in host d w w' p line a b Run.Read is asks done = absurd done
+failed_in host d w w' p line a b Run.TooLong is asks done = absurd done
+failed_in host d w w' p line a b (Run.Reader fault) is asks done = absurd done
 
 -- ---- the loop over the lines
 

@@ -1,8 +1,10 @@
 -- How the loop over the forms of a text makes a run, and what is told of a form.
-use Rattle.std.proofs.Common.{◌≡◌, ℕ, ◌+◌, ◌-◌, ◌<◌, ◌≤◌, append-nil, List, [], ◌++◌, Option, Some, None, Result, Ok, Err, Bool, length, drop, refl, ap, sym, subst, ◌∙◌, arith, append_assoc, inl, inr}
-use Rattle.std.specs.Prelude.{ℤ, IfErr, IfSome}
+use Rattle.std.proofs.Common.{◌≡◌, ℕ, ◌+◌, ◌-◌, ◌<◌, ◌≤◌, append-nil, List, [], ◌∷◌, ◌++◌, Option, Some, None, Result, Ok, Err, Bool, true, false, length, drop, refl, ap, sym, subst, ◌∙◌, arith, append_assoc, inl, inr}
+use Rattle.std.specs.Prelude.{ℤ, IfErr, IfSome, if◌then◌else◌}
 use Rattle.std.specs.Io.KnownBytes.{Appends}
 use Rattle.lisp_data.specs.Datum.{Dat}
+use Rattle.lisp_data.specs.Print.{text_of}
+use Rattle.lisp_data.specs.Value.{Val}
 use Rattle.lisp_data.specs.ValueView.{value_of}
 use Rattle.lisp_data.specs.declared.value.Value.{Value}
 use Rattle.lisp_reader.specs.Answers.{Next}
@@ -17,7 +19,8 @@ use Rattle.clos_session.proofs.clos_machine.Uses.{same_answers}
 use Rattle.clos_session.specs.clos_machine.clos_meaning.Host.{Host}
 use Rattle.clos_session.specs.clos_machine.clos_meaning.Outcome.{Given, Signalled}
 use Rattle.clos_session.specs.clos_perform.Step.{step}
-use Rattle.clos_transcript.specs.Told.{told_for}
+use Rattle.clos_session.specs.clos_world.World.{State, names_of}
+use Rattle.clos_transcript.specs.Told.{condition_text, ends_line, fresh_line, storage_text, told, told_for, with_written}
 use Rattle.clos_system.specs.Transcript.{Ran, performs, cuts, counted_for, standing_after, uses_after, Stands, Performed, Performs, FailsAfter, Faults, RunFaults, SourceFails}
 use Rattle.clos_session.specs.clos_world.declared.condition.Stop.{Stop}
 use Rattle.clos_session.specs.clos_world.declared.condition.Stop.TheVariants.{Refused, Storage}
@@ -106,6 +109,34 @@ stands_on host now next_host echo text start w w' a b c at next n n' fresh fresh
       storages = y;
     }
 
+-- what is told of a form comes after what was written before it
+
+abbrev Follows : List ℕ → List ℕ → Type 0
+Follows out x = (rest : List ℕ) × (x ≡ out ++ rest)
+
+longer : (out x ys : List ℕ) → Follows out x → Follows out (x ++ ys)
+longer out x ys f = (f.0 ++ ys, ap (λ l. l ++ ys) f.1 ∙ append_assoc out f.0 ys)
+
+fresh_follows : (b : Bool) (out x : List ℕ) → Follows out x → Follows out (if b then x else x ++ 10 ∷ [])
+fresh_follows true out x f = f
+fresh_follows false out x f = longer out x (10 ∷ []) f
+
+line_follows : (w w' : State) (out : List ℕ) → Follows out (fresh_line (with_written w w' out))
+line_follows w w' out = fresh_follows (ends_line (with_written w w' out)) out (with_written w w' out) (drop (length w.written) w'.written, refl)
+
+value_follows : (echo : Bool) (w w' : State) (v : Val) (s : ℕ) (out : List ℕ) → Follows out (told echo w (Given v w' s) out)
+value_follows true w w' v s out =
+    let line : List ℕ = fresh_line (with_written w w' out) in
+    let value : List ℕ = text_of true (names_of w') v in
+    longer out (line ++ value) (10 ∷ []) (longer out line value (line_follows w w' out))
+value_follows false w w' v s out = (drop (length w.written) w'.written, refl)
+
+told_follows : (echo : Bool) (w w' : State) (r : Result Value Stop) (k : ℕ) (out : List ℕ) → Follows out (told_for echo w w' r k out)
+told_follows echo w w' (Ok v) k out = value_follows echo w w' (value_of v) 0 out
+told_follows echo w w' (Err (Refused c)) k out =
+    longer out (fresh_line (with_written w w' out)) (condition_text (names_of w') c) (line_follows w w' out)
+told_follows echo w w' (Err Storage) k out = longer out (fresh_line (with_written w w' out)) (storage_text k) (line_follows w w' out)
+
 -- a form was performed, and then memory or the writer failed
 module _ (host now : Host) (echo : Bool) (text : List ℕ) (start w w' : Standing) (a b c : Option (List ℕ)) (at next : ℕ) (n : Summary)
     (fresh : Bool) (d : Dat) where
@@ -118,7 +149,7 @@ module _ (host now : Host) (echo : Bool) (text : List ℕ) (start w w' : Standin
       (subst (λ o. KeepsBy o (step d) w.state w.state.limits.steps w.answers w.uses p.answer p.left w'.answers w'.uses) s.stays p.uses) p.heard
 
   pub fails_after : (e : RunFault) → Stands host now echo text start w a b at n fresh → Next (drop at text) d (drop next text)
-      → FailsAfter now d w w' e → Faults host echo text start w' a c e
+      → FailsAfter now d w w' b c e → Faults host echo text start w' a c e
   fails_after Write s h p = (
     next,
     counted_for p.answer n,
@@ -126,16 +157,39 @@ module _ (host now : Host) (echo : Bool) (text : List ℕ) (start w w' : Standin
         s.come.out,
     ran_after s h p,
   )
-  fails_after Memory s h p = (
-    next,
-    counted_for p.answer n,
-    told_for echo w.state w'.state p.answer (w.state.limits.steps - p.left)
+  fails_after Memory s h p =
+      let more = told_follows echo w.state w'.state p.0.answer (w.state.limits.steps - p.0.left) s.come.out in (
+        next,
+        counted_for p.0.answer n,
         s.come.out,
-    ran_after s h p,
-  )
+        more.0,
+        subst (λ out. Ran host echo text start w' next out (counted_for p.0.answer n)) more.1 (ran_after s h p.0),
+        subst (λ x. Appends a x s.come.out) (sym p.1) s.come.appends,
+      )
   fails_after Read s h p = absurd p
   fails_after TooLong s h p = absurd p
   fails_after (Reader f) s h p = absurd p
+
+-- .. and before either failed
+pub performed_before : (host : Host) (d : Dat) (w w' : Standing) (old new : Option (List ℕ)) (e : RunFault) → FailsAfter host d w w' old new e
+    → Performed host d w w'
+performed_before host d w w' old new Write p = p
+performed_before host d w w' old new Memory p = p.0
+performed_before host d w w' old new Read p = absurd p
+performed_before host d w w' old new TooLong p = absurd p
+performed_before host d w w' old new (Reader f) p = absurd p
+
+-- no memory for what comes next
+pub fails_between : (host now : Host) (echo : Bool) (text : List ℕ) (start w : Standing) (a b : Option (List ℕ)) (at : ℕ) (n : Summary)
+    (fresh : Bool) → Stands host now echo text start w a b at n fresh → Faults host echo text start w a b Memory
+fails_between host now echo text start w a b at n fresh s = (
+  at,
+  n,
+  s.come.out,
+  [],
+  subst (λ out. Ran host echo text start w at out n) (sym (append-nil s.come.out)) s.come.ran,
+  s.come.appends,
+)
 
 -- the source could not be had, and no form ran
 pub source_fails : (host : Host) (echo : Bool) (known : Option (List ℕ)) (s : Standing) (new : Option (List ℕ)) (e : RunFault)

@@ -86,13 +86,15 @@ pub record Comes (host : Host) (echo : Bool) (text : List ℕ) (start end : Stan
 abbrev pub Finishes : Host → Bool → List ℕ → Standing → Standing → Option (List ℕ) → Option (List ℕ) → Summary → Type 0
 Finishes host echo text start end old new n = (at : ℕ) × Comes host echo text start end old new at n × Gaps (drop at text) []
 
--- The run came to a place where the text has no next datum, or memory or the writer failed it after a form.
+-- The run came to a place where the text has no next datum, or memory or the writer failed it after a form. Where memory did, what the
+-- writer got is a beginning of what the run wrote.
 abbrev pub Faults : Host → Bool → List ℕ → Standing → Standing → Option (List ℕ) → Option (List ℕ) → RunFault → Type 0
 Faults host echo text start end old new (Reader fault) =
     (at : ℕ) × (n : Summary) × Comes host echo text start end old new at n × IsSome (offset_of fault)
     × OnFault fault (λ kind k. (k ≤ length text) × NextFails (drop at text) kind (drop k text))
 Faults host echo text start end old new Write = (at : ℕ) × (n : Summary) × (out : List ℕ) × Ran host echo text start end at out n
-Faults host echo text start end old new Memory = (at : ℕ) × (n : Summary) × (out : List ℕ) × Ran host echo text start end at out n
+Faults host echo text start end old new Memory =
+    (at : ℕ) × (n : Summary) × (written : List ℕ) × (rest : List ℕ) × Ran host echo text start end at (written ++ rest) n × Appends old new written
 Faults host echo text start end old new Read = ⊥
 Faults host echo text start end old new TooLong = ⊥
 
@@ -135,13 +137,13 @@ pub record Performed (host : Host) (d : Dat) (w w' : Standing) : Type 0 where
   pub uses : KeepsBy host (step d) w.state w.state.limits.steps w.answers w.uses answer left w'.answers w'.uses
   pub heard : Heard w.heard w.state w'.heard w'.state
 
--- .. and then memory or the writer failed.
-abbrev pub FailsAfter : Host → Dat → Standing → Standing → RunFault → Type 0
-FailsAfter host d w w' Read = ⊥
-FailsAfter host d w w' TooLong = ⊥
-FailsAfter host d w w' (Reader fault) = ⊥
-FailsAfter host d w w' Write = Performed host d w w'
-FailsAfter host d w w' Memory = Performed host d w w'
+-- .. and then the writer failed, or memory did, before anything of it was written.
+abbrev pub FailsAfter : Host → Dat → Standing → Standing → Option (List ℕ) → Option (List ℕ) → RunFault → Type 0
+FailsAfter host d w w' old new Read = ⊥
+FailsAfter host d w w' old new TooLong = ⊥
+FailsAfter host d w w' old new (Reader fault) = ⊥
+FailsAfter host d w w' old new Write = Performed host d w w'
+FailsAfter host d w w' old new Memory = Performed host d w w' × (new ≡ old)
 
 -- The source could not be had: it is too long where that is said.
 abbrev pub SourceFails : Option (List ℕ) → RunFault → Type 0

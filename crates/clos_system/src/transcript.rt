@@ -64,7 +64,7 @@ pub enum RunFault {
     /// The transcript could not be written. The session stands after the last form that was performed.
     #[error("the transcript could not be written")]
     Write,
-    /// Memory was refused. The session stands after the last form that was performed.
+    /// Memory was refused. The session stands after the last form that was performed, of which nothing may be written.
     #[error("out of memory")]
     Memory,
 }
@@ -184,7 +184,7 @@ pub fn run_form<N: Natives, D: Dependents, W: Write>(
         × (r.summary ≡ counted_for r.answer summary)) }
     ensures few { IfOk result (λ r. (r.summary.conditions ≤ r.summary.forms) × (r.summary.storages ≤ r.summary.forms) × (r.summary.forms ≡ summary.forms + 1)) }
     ensures fails { IfErr result (FailsAfter (N.host session.old.natives) (datum_of datum) (standing_of (D.told session.old.dependents) session.old)
-        (standing_of (D.told session.new.dependents) session.new)) }
+        (standing_of (D.told session.new.dependents) session.new) (W.contents writer.old) (W.contents writer.new)) }
     ensures host { N.host session.new.natives ≡ N.host session.old.natives }
 {
     let from = session.written().len();

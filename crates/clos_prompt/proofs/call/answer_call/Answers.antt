@@ -9,7 +9,8 @@ returns-in-Err-clause-stops g c =
     failed_in (g.N.Natives.host c.args.session.now.natives) (datum_of c.args.form)
     (standing_of (g.D.Dependents.told c.args.session.now.dependents) c.args.session.now)
     (standing_of (g.D.Dependents.told c.run_form.new.session.dependents) c.run_form.new.session) (waiting_of c.args.prompt.now)
-    c.args.line.now c.in-Err.fault c.requires.command c.requires.asks c.in-Err.ensures.fails
+    c.args.line.now (g.W.Write.contents c.args.output.now) (g.W.Write.contents c.run_form.new.writer) c.in-Err.fault c.requires.command
+    c.requires.asks c.in-Err.ensures.fails
 
 pub returns-in-Ok-show-clause-answers : goal.returns-in-Ok-show-clause-answers
 returns-in-Ok-show-clause-answers g c =

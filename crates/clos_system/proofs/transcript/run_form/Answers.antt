@@ -12,20 +12,22 @@ use Rattle.clos_system.proofs.transcript.run_form.Goals as goal
 pub returns-in_default-clause-fails : goal.returns-in_default-clause-fails
 returns-in_default-clause-fails g c =
     let old = c.args.session.now in
-    let new = c.perform-answer.new in
-    record {
-      answer = c.perform-answer.result;
-      left = new.steps;
-      answers =
-          subst (λ s. AnswersWith (g.N.Natives.host old.natives) (step (datum_of c.args.datum)) (state_of old) s (answers_of old)
-          c.perform-answer.result (state_of new.self) new.steps (answers_of new.self))
-          (ap (λ (w : State). w.limits.steps) c.world.ensures) c.perform-answer.ensures.answers;
-      uses =
-          subst (λ s. KeepsBy (g.N.Natives.host old.natives) (step (datum_of c.args.datum)) (state_of old) s (answers_of old) (session_uses old)
-          c.perform-answer.result new.steps (answers_of new.self) (session_uses new.self))
-          (ap (λ (w : State). w.limits.steps) c.world.ensures) c.perform-answer.ensures.uses;
-      heard = c.perform-answer.ensures.heard;
-    }
+    let new = c.perform-answer.new in (
+      record {
+        answer = c.perform-answer.result;
+        left = new.steps;
+        answers =
+            subst (λ s. AnswersWith (g.N.Natives.host old.natives) (step (datum_of c.args.datum)) (state_of old) s (answers_of old)
+            c.perform-answer.result (state_of new.self) new.steps (answers_of new.self))
+            (ap (λ (w : State). w.limits.steps) c.world.ensures) c.perform-answer.ensures.answers;
+        uses =
+            subst (λ s. KeepsBy (g.N.Natives.host old.natives) (step (datum_of c.args.datum)) (state_of old) s (answers_of old) (session_uses old)
+            c.perform-answer.result new.steps (answers_of new.self) (session_uses new.self))
+            (ap (λ (w : State). w.limits.steps) c.world.ensures) c.perform-answer.ensures.uses;
+        heard = c.perform-answer.ensures.heard;
+      },
+      refl,
+    )
 
 pub returns-then-is_err-clause-fails : goal.returns-then-is_err-clause-fails
 returns-then-is_err-clause-fails g c =

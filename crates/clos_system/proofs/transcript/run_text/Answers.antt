@@ -3,7 +3,7 @@ use Rattle.lisp_data.specs.DatumView.{datum_of}
 use Rattle.lisp_reader.specs.Answers.{Answers}
 use Rattle.clos_session.specs.Session.{standing_of}
 use Rattle.clos_system.specs.Transcript.{begins}
-use Rattle.clos_system.proofs.Runs.{appends_none, stands_on, fails_after}
+use Rattle.clos_system.proofs.Runs.{appends_none, fails_after, fails_between, stands_on}
 use Rattle.clos_system.proofs.transcript.run_text.Goals as goal
 
 pub loop-found-init : goal.loop-found-init
@@ -47,3 +47,10 @@ returns-in-Err g c = record {
   faults = (c.loop-found.at, c.loop-found.summary, c.loop-found.invariant.come, search rules, search rules);
   host = c.loop-found.invariant.stays;
 }
+
+pub returns-in-Err-Memory-clause-faults : goal.returns-in-Err-Memory-clause-faults
+returns-in-Err-Memory-clause-faults g c =
+    fails_between (g.N.Natives.host c.args.session.now.natives) (g.N.Natives.host c.loop-found.session.natives) c.args.echo c.args.text.now
+    (standing_of (g.D.Dependents.told c.args.session.now.dependents) c.args.session.now)
+    (standing_of (g.D.Dependents.told c.loop-found.session.dependents) c.loop-found.session) (g.W.Write.contents c.args.writer.now)
+    (g.W.Write.contents c.loop-found.writer) c.loop-found.at c.loop-found.summary c.loop-found.fresh c.loop-found.invariant
