@@ -25,8 +25,8 @@ use Rattle.clos_session.specs.clos_world.World.{State}
 use Rattle.clos_session.specs.clos_world.clos_class.Table as classes
 use Rattle.clos_session.specs.clos_world.declared.condition.Condition.{Condition}
 use Rattle.clos_session.specs.clos_definition_forms.clos_definition.Class.{class_refusal, condition_for, others_refusal}
-use Rattle.clos_session.specs.clos_definition_forms.clos_definition.Refusal as of_forms
 use Rattle.clos_laws.specs.Classes.{ClassesAreListed}
+use Rattle.clos_laws.proofs.Refusals.{first_none}
 use Rattle.clos_laws.proofs.Sessions.{Stays, StaysWith, always, by_kind}
 
 -- ---- the list that is found
@@ -76,10 +76,6 @@ same_order w u h s = subst (λ t. AreOrdered t.table.classes) (sym h.0) s
 
 order_stays : Stays HasOrder
 order_stays = record { same = same_order; combination = λ d u h. h; change = λ c m n u h. h; removal = λ g m u own h. h }
-
-first_none : (a b : Option Condition) → of_forms.or_else a b ≡ None → a ≡ None
-first_none None b h = refl
-first_none (Some c) b h = cc
 
 mapped_none : (f : Refusal → Condition) (o : Option Refusal) → option_map f o ≡ None → o ≡ None
 mapped_none f None h = refl

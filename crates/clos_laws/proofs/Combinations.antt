@@ -28,7 +28,6 @@ use Rattle.clos_session.specs.clos_world.World.{State}
 use Rattle.clos_session.specs.clos_world.clos_comb.Fault.{misuse_with}
 use Rattle.clos_session.specs.clos_world.clos_comb.Table as combinations
 use Rattle.clos_session.specs.clos_world.clos_comb.Table.{Combination, built_in_named, combination_named, combination_of, name_of, or_defined, with_combination, with_named}
-use Rattle.clos_session.specs.clos_world.declared.condition.Condition.{Condition}
 use Rattle.clos_session.specs.clos_world.declared.limits.Limits.{Limits}
 use Rattle.clos_session.specs.clos_definition_forms.clos_definition.declared.accessor.SlotAccessor.{SlotAccessor}
 use Rattle.clos_session.specs.clos_definition_forms.clos_definition.Accessor.{accessors_of, function_made, function_of, is_there, with_functions}
@@ -39,6 +38,7 @@ use Rattle.clos_session.specs.clos_definition_forms.clos_definition.Method.{defi
 use Rattle.clos_session.specs.clos_definition_forms.clos_definition.Refusal.{or_else, table_refusal, taken_refusal}
 use Rattle.clos_form_laws.proofs.Lists.{each_append, each_map}
 use Rattle.clos_laws.specs.Combinations.{CombinationsAreDefined, HasCombination}
+use Rattle.clos_laws.proofs.Refusals.{first_none, second_none}
 use Rattle.clos_laws.proofs.Sessions.{Stays, StaysWith, always, by_kind}
 
 -- ---- the table of generic functions
@@ -105,14 +105,6 @@ function_named_so t g name shape =
     [ true ↦ tt | false ↦ (standard_named t, tt) ]
 
 -- that of a defgeneric, which is refused where there is none
-first_none : (a b : Option Condition) → or_else a b ≡ None → a ≡ None
-first_none None b h = refl
-first_none (Some c) b h = cc
-
-second_none : (a b : Option Condition) → or_else a b ≡ None → b ≡ None
-second_none None b h = h
-second_none (Some c) b h = cc
-
 well_used : (name : Name) (o : Option Combination) (l : Dats) → option_map (misuse_told name) (misuse_with o l) ≡ None → is_some o ≡ true
 well_used name None l h = cc
 well_used name (Some c) l h = refl

@@ -1,4 +1,5 @@
 pub mod Sessions
+pub mod Refusals
 pub mod InOrder
 pub mod Classes
 pub mod Combinations

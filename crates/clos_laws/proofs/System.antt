@@ -29,16 +29,15 @@ use Rattle.clos_syntax.specs.declared.method.MethodDefinition.{MethodDefinition}
 use Rattle.clos_top.specs.declared.top.Top.{Top}
 use Rattle.clos_session.specs.clos_world.Definitions.{Same}
 use Rattle.clos_session.specs.clos_world.World.{State}
-use Rattle.clos_session.specs.clos_world.declared.condition.Condition.{Condition}
 use Rattle.clos_session.specs.clos_world.declared.limits.Limits.{Limits}
 use Rattle.clos_session.specs.clos_definition_forms.clos_definition.Accessor.{accessors_of, accessors_refusal}
 use Rattle.clos_session.specs.clos_definition_forms.clos_definition.Class.{class_changes, class_functions, class_methods, class_number, class_refusal, class_removals, others_refusal, with_defined_class}
 use Rattle.clos_session.specs.clos_definition_forms.clos_definition.Effect.{addition_of, changed, changes_of, with_definitions, with_methods, without_all}
 use Rattle.clos_session.specs.clos_definition_forms.clos_definition.Generic.{definition_of, earlier_methods, generic_changes, generic_refusal, initial_methods, names_refusal, with_defined_generic}
 use Rattle.clos_session.specs.clos_definition_forms.clos_definition.Method.{defined_method, function_for, method_changes, method_refusal, specializers_refusal, with_defined_method}
-use Rattle.clos_session.specs.clos_definition_forms.clos_definition.Refusal as of_forms
 use Rattle.clos_session.specs.clos_definition_forms.clos_definition.Refusal.{table_refusal, taken_refusal, told}
 use Rattle.clos_laws.specs.System.{IsOwn, Stands, SystemFunctionsStand}
+use Rattle.clos_laws.proofs.Refusals.{first_none as first_none_of, second_none as second_none_of}
 use Rattle.clos_laws.proofs.Sessions.{Stays, StaysWith, always, by_kind}
 
 -- ---- numbers
@@ -218,14 +217,6 @@ stands_after t f rs ds ms none s =
     (both_true (list_all (λ d. not (is_system (named t d.name))) ds) (list_all (λ a. is_supported t a.generic.0 a.likeness) (map addition_of ms)) supported).1) s
 
 -- ---- forms
-
-second_none_of : (a b : Option Condition) → of_forms.or_else a b ≡ None → b ≡ None
-second_none_of None b h = h
-second_none_of (Some c) b h = cc
-
-first_none_of : (a b : Option Condition) → of_forms.or_else a b ≡ None → a ≡ None
-first_none_of None b h = refl
-first_none_of (Some c) b h = cc
 
 none_refused : (name : FunctionName) (o : Option Refusal) → option_map (told name) o ≡ None → o ≡ None
 none_refused name None h = refl
